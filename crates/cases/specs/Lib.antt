@@ -1,0 +1,2 @@
+pub mod SmallTable
+pub mod Starred

@@ -1,0 +1,5 @@
+pub mod Spelling
+pub mod Groups
+pub mod Marks
+pub mod Confusable
+pub mod Judge

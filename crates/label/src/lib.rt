@@ -1,0 +1,1 @@
+// The rules of one label, refusals 8 to 14, and its kind.

@@ -1,0 +1,1 @@
+// The label call and the name call.

@@ -1,0 +1,5 @@
+pub mod Scalars
+pub mod Valid
+pub mod Sequences
+pub mod Pairs
+pub mod Soundness

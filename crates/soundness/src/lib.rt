@@ -1,0 +1,1 @@
+// The soundness check of a name table.

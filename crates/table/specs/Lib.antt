@@ -1,0 +1,4 @@
+pub mod Table
+pub mod Layout
+pub mod Lookup
+pub mod Unpack

@@ -1,0 +1,46 @@
+-- A name table as a record of twelve lists. 01, "The table", second paragraph. Assumes nothing.
+use Prim.Native.Nat.{ℕ}
+use mathlib.Core.Bool.{Bool}
+use mathlib.Core.List.{List}
+
+-- "pairs first, last"
+pub record Range : Type 0 where
+  pub first : ℕ
+  pub last : ℕ
+
+-- "triples first, last, class"
+pub record ClassRange : Type 0 where
+  pub first : ℕ
+  pub last : ℕ
+  pub class : ℕ
+
+-- "records: head, count, items"
+pub record Headed : Type 0 where
+  pub head : ℕ
+  pub items : List ℕ
+
+-- "records: flags, where 1 is restricted and 2 is CM whitelisted, then a word count, then pairs"
+pub record Group : Type 0 where
+  pub restricted : Bool
+  pub whitelisted : Bool
+  pub ranges : List Range
+
+-- "records: valid count, items, confused count, items"
+pub record Whole : Type 0 where
+  pub valid : List ℕ
+  pub confused : List ℕ
+
+-- the twelve sections in the order of the words
+pub record Table : Type 0 where
+  pub valid : List Range
+  pub ignored : List Range
+  pub fenced : List Range
+  pub marks : List Range
+  pub nsm : List Range
+  pub mapped : List Headed
+  pub decompositions : List Headed
+  pub emoji : List (List ℕ)
+  pub exclusions : List ℕ
+  pub classes : List ClassRange
+  pub groups : List Group
+  pub wholes : List Whole

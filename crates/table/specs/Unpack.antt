@@ -1,0 +1,55 @@
+-- Unpacking a table file. 01, "The table", first paragraph. Assumes nothing.
+use Prim.Native.Nat.{ℕ, _+_, _-_, _*_}
+use mathlib.Core.Bool.{Bool, not, cond}
+use mathlib.Core.List.{List, [], _∷_, _++_}
+use lib.ListN.{length, replicate}
+use lib.Dec.{leb, ltb, eqb}
+use Rattle.answers.specs.Verdict.{Verdict, accepted, refused}
+use Rattle.answers.specs.Values.{UnpackValues}
+
+-- four bytes, big-endian
+abbrev pub word : ℕ → ℕ → ℕ → ℕ → ℕ
+word a b c d = ((a * 256 + b) * 256 + c) * 256 + d
+
+-- the words of a run of bytes, four bytes each
+unfoldable pub wordsOf : List ℕ → List ℕ
+wordsOf [] = []
+wordsOf (a ∷ []) = []
+wordsOf (a ∷ b ∷ []) = []
+wordsOf (a ∷ b ∷ c ∷ []) = []
+wordsOf (a ∷ b ∷ c ∷ d ∷ r) = word a b c d ∷ wordsOf r
+
+-- The words behind the version byte: "a count of words, then the words, and nothing after"; a wrong length is 21.
+unfoldable pub counted : List ℕ → Verdict (List ℕ)
+unfolding wordsOf
+counted [] = refused 21 0
+counted (a ∷ []) = refused 21 0
+counted (a ∷ b ∷ []) = refused 21 0
+counted (a ∷ b ∷ c ∷ []) = refused 21 0
+counted (a ∷ b ∷ c ∷ d ∷ r) = cond (eqb (length r) (4 * word a b c d)) (accepted (wordsOf r)) (refused 21 0)
+
+-- "version other than 1 as 20, a wrong length as 21 ..; an empty file is 21"
+unfoldable pub fileWords : List ℕ → Verdict (List ℕ)
+unfolding counted
+fileWords [] = refused 21 0
+fileWords (v ∷ r) = cond (eqb v 1) (counted r) (refused 20 0)
+
+-- "an answer buffer too small as 22, in that order"
+abbrev pub withRoom : ℕ → Verdict (List ℕ) → Verdict (List ℕ)
+withRoom room (accepted ws) = cond (leb (length ws) room) (accepted ws) (refused 22 0)
+withRoom room (refused n p) = refused n p
+
+-- what the call answers, and every word of the answer buffer afterwards
+pub record Unpacking : Type 0 where
+  pub values : UnpackValues
+  pub answer : List ℕ
+
+-- "On success it answers the count, and words past the table are zero"; "refuses (answer buffer zeroed)"
+abbrev pub unpacking : ℕ → Verdict (List ℕ) → Unpacking
+unpacking room (accepted ws) = record { values = record { number = 0; count = length ws }; answer = ws ++ replicate (room - length ws) 0 }
+unpacking room (refused n p) = record { values = record { number = n; count = 0 }; answer = replicate room 0 }
+
+-- the unpack call on a file's bytes, with an answer buffer of `room` words
+unfoldable pub unpack : List ℕ → ℕ → Unpacking
+unfolding fileWords
+unpack file room = unpacking room (withRoom room (fileWords file))

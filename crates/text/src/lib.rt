@@ -1,0 +1,1 @@
+// Unicode text: Hangul, combining classes, decomposition, canonical ordering and composition.

@@ -1,0 +1,3 @@
+pub mod Emoji
+pub mod Scan
+pub mod Tokens

@@ -1,0 +1,1 @@
+// Tokens: the emoji finder, and the scan of a label into text and emoji.
