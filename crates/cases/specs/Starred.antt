@@ -44,15 +44,15 @@ gives name answer kinds =
     record {
       name = name;
       due =
-        record {
-          result =
-            record {
-              values = record { number = 0; place = 0; length = length answer; labels = length kinds };
-              answer = filled room answer;
-              work = replicate work 0
-            };
-          kinds = kinds
-        }
+          record {
+            result =
+                record {
+                  values = record { number = 0; place = 0; length = length answer; labels = length kinds };
+                  answer = filled room answer;
+                  work = replicate work 0;
+                };
+            kinds = kinds;
+          };
     }
 
 -- a name that is refused with a number and a place
@@ -61,15 +61,15 @@ refuses name number place =
     record {
       name = name;
       due =
-        record {
-          result =
-            record {
-              values = record { number = number; place = place; length = 0; labels = 0 };
-              answer = replicate room 0;
-              work = replicate work 0
-            };
-          kinds = []
-        }
+          record {
+            result =
+                record {
+                  values = record { number = number; place = place; length = 0; labels = 0 };
+                  answer = replicate room 0;
+                  work = replicate work 0;
+                };
+            kinds = [];
+          };
     }
 
 abbrev latin : Kind

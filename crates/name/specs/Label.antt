@@ -98,7 +98,7 @@ labelResult room work (accepted l) =
     record {
       values = record { number = 0; place = 0; length = length (answer l); kind = some (l .kind) };
       answer = filled room (answer l);
-      work = replicate work 0
+      work = replicate work 0;
     }
 labelResult room work (refused n p) =
     record { values = record { number = n; place = p; length = 0; kind = none }; answer = replicate room 0; work = replicate work 0 }

@@ -50,7 +50,7 @@ nameResult name room work (accepted ls) =
     record {
       values = record { number = 0; place = 0; length = length (nameAnswer ls); labels = length (labelsOf name) };
       answer = filled room (nameAnswer ls);
-      work = replicate work 0
+      work = replicate work 0;
     }
 nameResult name room work (refused n p) =
     record { values = record { number = n; place = p; length = 0; labels = 0 }; answer = replicate room 0; work = replicate work 0 }
