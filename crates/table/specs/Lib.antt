@@ -1,4 +1,4 @@
 pub mod Table
 pub mod Layout
 pub mod Lookup
-pub mod Unpack
+pub mod Laid

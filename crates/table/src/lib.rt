@@ -1,1 +1,35 @@
-// The name table: its layout, lookups in it, and unpacking one from a file.
+// The name table: its layout, and lookups in it.
+
+// A section or a part of one: the words from `from` up to, not including, `to`.
+pub struct Span {
+    pub from: usize,
+    pub to: usize,
+}
+
+// Where the twelve sections stand among the words of a table, without the counts that lead them.
+pub struct Sections {
+    pub valid: Span,
+    pub ignored: Span,
+    pub fenced: Span,
+    pub marks: Span,
+    pub nsm: Span,
+    pub mapped: Span,
+    pub decompositions: Span,
+    pub emoji: Span,
+    pub exclusions: Span,
+    pub classes: Span,
+    pub groups: Span,
+    pub wholes: Span,
+}
+
+// What the layout pass finds.
+pub enum Layout {
+    Fault,
+    Found(Sections),
+}
+
+// Where the items of a record stand among the words of a table.
+pub enum Items {
+    At(Span),
+    Nothing,
+}

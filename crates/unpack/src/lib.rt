@@ -1,0 +1,1 @@
+// Unpacking a table file to words.
