@@ -25,6 +25,12 @@ labelsVerdict t start done place (l ∷ ls) =
     next (labelVerdict t start done place l)
     (λ a. next (labelsVerdict t (start + length l + 1) (done + a .worked + 1) (suc place) ls) (λ rest. accepted (a ∷ rest)))
 
+-- the worked length up to the last label: "plus one for each stop between them"
+unfoldable pub workedLength : List Label → ℕ
+workedLength [] = 0
+workedLength (l ∷ []) = l .worked
+workedLength (l ∷ m ∷ ms) = l .worked + 1 + workedLength (m ∷ ms)
+
 -- "Its answer is its labels' answers in order, joined by 2E"
 unfoldable pub nameAnswer : List Label → List ℕ
 unfolding spelled joinWith

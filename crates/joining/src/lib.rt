@@ -1,0 +1,1 @@
+// The theorem on joining two names, in specs/. There is no code here.
