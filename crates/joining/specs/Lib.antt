@@ -1,3 +1,4 @@
 pub mod Places
 pub mod Labels
 pub mod Joining
+pub mod Alone

@@ -1,0 +1,90 @@
+-- "A label's kind is the one that the rules of one label give it; the label call, lent that label alone with enough room, answers it": for
+-- every table and accepted name, the label call on each of its labels gives that label's part of the answer and its kind. Assumes nothing.
+use Prim.Native.Nat.{ℕ, zero, suc, _+_, _≤_, _<_}
+use native.Mathlib.Omega.{arith}
+use mathlib.Core.Path.{_≡_, refl, sym, ap, subst, _∙_}
+use mathlib.Core.Bool.{Bool, true, false, not, cond}
+use mathlib.Core.List.{List, [], _∷_, _++_}
+use mathlib.Core.Option.{Option, none, some}
+use lib.ListN.{length}
+use lib.Dec.{eqb, ltb}
+use borrow.Author.Tests.{le-ltb}
+use Rattle.lists.specs.Lists.{ontoFirst, onSome, placeWith, split}
+use Rattle.answers.specs.Verdict.{Verdict, accepted, refused, next}
+use Rattle.table.specs.Table.{Table}
+use Rattle.table.specs.Layout.{parse}
+use Rattle.text.specs.Scalar.{isScalar}
+use Rattle.name.specs.Label.{Label, stop, leastWork, mostInput, mostWorked, answer, admitted, fitting, labelVerdict, labelCallVerdict, labelResult, labelCall}
+use Rattle.name.specs.Name.{EnoughRoom, labelsOf, labelsVerdict, nameVerdict}
+use Rattle.joining.specs.Places.{placeWith-none, label-fits, label-moves}
+use Rattle.joining.specs.Labels.{cons-accepts}
+use Rattle.joining.specs.Joining.{NameAccepts, name-accepts}
+
+abbrev scalarsOnly : List ℕ → Type 0
+scalarsOnly l = placeWith (λ c. not (isScalar c)) 0 l ≡ none
+
+-- a label with nothing that 3 and 4 refuse
+record Admissible (most : ℕ) (l : List ℕ) : Type 0 where
+  short : length l ≤ most
+  scalars : scalarsOnly l
+
+data All (most : ℕ) : List (List ℕ) → Type 0 where
+  nil : All most []
+  cons : {l : List ℕ} {ls : List (List ℕ)} → Admissible most l → All most ls → All most (l ∷ ls)
+
+wider : {m k : ℕ} {ls : List (List ℕ)} → m ≤ k → All m ls → All k ls
+wider h nil = nil
+wider h (cons {l = l} a r) = cons {l = l} (record { short = omega (arith, a .short); scalars = a .scalars }) (wider h r)
+
+-- a scalar in front of the first part
+onto-first : {m : ℕ} {ls : List (List ℕ)} (c : ℕ) → isScalar c ≡ true → All m ls → All (suc m) (ontoFirst c ls)
+onto-first c h nil = cons {l = c ∷ []} (record { short = omega arith; scalars = rw h }) nil
+onto-first c h (cons {l = l} a r) = cons {l = c ∷ l} (record { short = omega (arith, a .short); scalars = rw h (placeWith-none (λ x. not (isScalar x)) 0 1 l (a .scalars)) }) (wider (omega arith) r)
+
+empty-first : {m : ℕ} {ls : List (List ℕ)} → All m ls → All (suc m) ([] ∷ ls)
+empty-first r = cons {l = []} (record { short = omega arith; scalars = refl }) (wider (omega arith) r)
+
+-- the parts of a name are no longer than it, and hold scalars where it does
+parts : (n : List ℕ) → scalarsOnly n → All (length n) (split stop n)
+unfolding split
+parts [] e = cons {l = []} (record { short = omega arith; scalars = refl }) nil
+parts (c ∷ n) e = go (isScalar c) refl (eqb c stop) e (λ f. parts n (placeWith-none (λ x. not (isScalar x)) 1 0 n f))
+  where
+    go : (b : Bool) → isScalar c ≡ b → (d : Bool) → cond (not b) (some 0) (placeWith (λ x. not (isScalar x)) 1 n) ≡ none → (placeWith (λ x. not (isScalar x)) 1 n ≡ none → All (length n) (split stop n)) → All (suc (length n)) (cond d ([] ∷ split stop n) (ontoFirst c (split stop n)))
+    go false h d f r = absurd (let z : _≡_ {A = ℕ} 0 1 = cc in omega arith)
+    go true h true f r = empty-first (r f)
+    go true h false f r = onto-first c h (r f)
+
+-- one label alone: 1 to 4, then the label, then 15
+label-alone : (words : List ℕ) (t : Table) (l : List ℕ) (x : Label) (s d p room work : ℕ) → parse words ≡ some t → Admissible mostInput l → labelVerdict t s d p l ≡ accepted x → EnoughRoom (answer x) room work → labelCallVerdict words l room work ≡ accepted x
+unfolding labelCallVerdict admitted
+label-alone words t l x s d p room work laid a e r =
+    let alone : labelVerdict t 0 0 0 l ≡ accepted x = label-moves t s d p 0 0 0 l x e (omega (arith, label-fits t s d p l x e)) in
+    rw (laid, le-ltb work leastWork (r .forWork), le-ltb mostInput (length l) (a .short), a .scalars, alone, le-ltb room (length (answer x)) (r .forAnswer))
+
+-- each label beside what it is accepted as: the label call on it alone
+pub data EachAlone (words : List ℕ) (room work : ℕ) : List (List ℕ) → List Label → Type 0 where
+  nil : EachAlone words room work [] []
+  cons : {l : List ℕ} {ls : List (List ℕ)} {x : Label} {xs : List Label} → (EnoughRoom (answer x) room work → labelCall words l room work ≡ labelResult room work (accepted x)) → EachAlone words room work ls xs → EachAlone words room work (l ∷ ls) (x ∷ xs)
+
+each-alone : (words : List ℕ) (t : Table) (room work : ℕ) (s d p : ℕ) (ls : List (List ℕ)) (xs : List Label) → parse words ≡ some t → All mostInput ls → labelsVerdict t s d p ls ≡ accepted xs → EachAlone words room work ls xs
+unfolding labelsVerdict labelCall
+each-alone words t room work s d p [] xs laid nil e = let z : [] ≡ xs = cc in subst (EachAlone words room work []) z nil
+each-alone words t room work s d p (l ∷ ls) xs laid (cons a r) e =
+    let c = cons-accepts t s d p l ls xs e in
+    rw (c .both)
+    (cons {l = l} {ls = ls} {x = c .first} {xs = c .rest}
+    (λ enough. ap (labelResult room work) (label-alone words t l (c .first) s d p room work laid a (c .first-accepted) enough))
+    (each-alone words t room work (s + length l + 1) (d + c .first .worked + 1) (suc p) ls (c .rest) laid r (c .rest-accepted)))
+
+labels-admissible : (n : List ℕ) → length n ≤ mostInput → scalarsOnly n → All mostInput (labelsOf n)
+unfolding labelsOf
+labels-admissible [] h e = nil
+labels-admissible (c ∷ n) h e = wider h (parts (c ∷ n) e)
+
+-- Each label of an accepted name, handed to the label call alone with the same table and enough room, is answered with its part of the
+-- answer and its kind.
+pub labels-alone : (words name : List ℕ) (room₁ work₁ : ℕ) (ls : List Label) → nameVerdict words name room₁ work₁ ≡ accepted ls → (room work : ℕ) → EachAlone words room work (labelsOf name) ls
+labels-alone words name room₁ work₁ ls e room work =
+    let a = name-accepts words name room₁ work₁ ls e in
+    each-alone words (a .table) room work 0 0 0 (labelsOf name) ls (a .laid) (labels-admissible name (a .input-fits) (a .scalars)) (a .labels)
