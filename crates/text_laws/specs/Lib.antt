@@ -1,2 +1,5 @@
 pub mod Parsed
 pub mod Rounds
+pub mod Insertion
+pub mod Runs
+pub mod Composing
