@@ -3,3 +3,4 @@ pub mod Rounds
 pub mod Insertion
 pub mod Runs
 pub mod Composing
+pub mod Stable

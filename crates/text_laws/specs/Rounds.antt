@@ -35,6 +35,14 @@ module _ (t : Table) where
   unfolding round
   round-one c = append-nil (single t c)
 
+  pub rounds-are : (s : List ℕ) → fourRounds t s ≡ round t (round t (round t (round t s)))
+  unfolding fourRounds
+  rounds-are s = refl
+
+  -- a round before four is a round after four
+  pub round-shift : (s : List ℕ) → fourRounds t (round t s) ≡ round t (fourRounds t s)
+  round-shift s = rounds-are (round t s) ∙ ap (round t) (sym (rounds-are s))
+
   pub rounds-append : (a b : List ℕ) → fourRounds t (a ++ b) ≡ fourRounds t a ++ fourRounds t b
   unfolding fourRounds
   rounds-append a b =
