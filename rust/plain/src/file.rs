@@ -1,0 +1,57 @@
+//! 01, "The table": a version byte 1, a count of words, the words, all
+//! big-endian, and nothing after.
+
+#[derive(Clone, Copy, Debug, PartialEq, Eq)]
+pub enum Unpacked {
+    Count(usize),
+    /// 20, 21 or 22.
+    Refused(u32),
+}
+
+/// The words of a file, or 20, 21 or 22, asked in that order. 20 is asked of
+/// any file that has a byte.
+fn words_of(file: &[u8], room: usize) -> Result<Vec<u32>, u32> {
+    let word = |bytes: &[u8]| u32::from_be_bytes([bytes[0], bytes[1], bytes[2], bytes[3]]);
+    let Some((&version, rest)) = file.split_first() else {
+        return Err(21);
+    };
+    if version != 1 {
+        return Err(20);
+    }
+    if rest.len() < 4 {
+        return Err(21);
+    }
+    let (count, body) = rest.split_at(4);
+    let count = word(count);
+    if body.len() as u64 != 4 * u64::from(count) {
+        return Err(21);
+    }
+    if count as usize > room {
+        return Err(22);
+    }
+    Ok(body.chunks_exact(4).map(word).collect())
+}
+
+/// Unpacks a table file. Words past the table are zero; after a refusal all
+/// are.
+pub fn unpack(file: &[u8], answer: &mut [u32]) -> Unpacked {
+    let words = words_of(file, answer.len());
+    answer.fill(0);
+    match words {
+        Ok(words) => {
+            answer[..words.len()].copy_from_slice(&words);
+            Unpacked::Count(words.len())
+        }
+        Err(number) => Unpacked::Refused(number),
+    }
+}
+
+/// The file of these words.
+pub fn pack(words: &[u32]) -> Vec<u8> {
+    let mut file = vec![1];
+    file.extend((words.len() as u32).to_be_bytes());
+    for word in words {
+        file.extend(word.to_be_bytes());
+    }
+    file
+}

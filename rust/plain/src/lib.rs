@@ -1,0 +1,61 @@
+//! A plain ENSIP-15 normaliser: the name call, the label call, the soundness
+//! check and unpacking, each written directly from the scope document (called
+//! 01 in the comments). It is the reference that the proved engine is compared
+//! with and the baseline for its speed, so it is clear before it is fast.
+//!
+//! * `table`: words to twelve sections, and back.
+//! * `lookup`: what the rules ask a table. `Table` answers by reading from the
+//!   front; `Index` gives the same answers faster.
+//! * `text`: Hangul, classes, decomposition, ordering, composition.
+//! * `tokens`: emoji matching and the walk over one label.
+//! * `label`: the rules of one label.
+//! * `calls`: the public calls on words and buffers.
+//! * `soundness`: the seven rules of the soundness check.
+//! * `file`: table files.
+
+pub mod calls;
+pub mod file;
+pub mod label;
+pub mod lookup;
+pub mod ranges;
+pub mod soundness;
+pub mod table;
+pub mod text;
+pub mod tokens;
+
+pub use calls::{judge_label, judge_name, label, labels_kinds, name};
+pub use calls::{LabelAnswer, NameAnswer, Refusal};
+pub use file::{pack, unpack, Unpacked};
+pub use label::{Kind, LabelForm};
+pub use lookup::{Index, Lookup};
+pub use ranges::Ranges;
+pub use soundness::{soundness, soundness_report, Soundness};
+pub use table::{layout, parse, Group, LayoutFault, Pairs, Record, Table, TableBuilder, Triples, Whole};
+pub use text::{nfc, nfd};
+pub use tokens::{tokens, Token};
+
+/// The numbers that 01 names.
+pub mod limits {
+    /// Words of a table.
+    pub const TABLE_WORDS: usize = 131_072;
+    /// Groups of a table.
+    pub const GROUPS: usize = 256;
+    /// Words that a work area needs.
+    pub const WORK_WORDS: usize = 2_048;
+    /// Codepoints of an input.
+    pub const INPUT: usize = 4_096;
+    /// Worked length of a name.
+    pub const WORKED: usize = 1_024;
+    /// Non-spacing marks in one run.
+    pub const NSM_RUN: usize = 4;
+}
+
+/// FULL STOP, which parts labels.
+pub const STOP: u32 = 0x2E;
+/// VARIATION SELECTOR-16, optional in emoji.
+pub const FE0F: u32 = 0xFE0F;
+
+/// Is this number a Unicode scalar value?
+pub fn is_scalar(c: u32) -> bool {
+    c <= 0x10FFFF && !(0xD800..=0xDFFF).contains(&c)
+}
