@@ -24,6 +24,11 @@ impl Ranges {
     pub fn pairs(&self) -> &[(u32, u32)] {
         &self.0
     }
+    /// Every number that both `self` and this range hold.
+    pub fn within(&self, low: u32, high: u32) -> impl Iterator<Item = u32> + '_ {
+        let pairs = self.0.iter().filter(move |&&(first, last)| first <= high && low <= last);
+        pairs.flat_map(move |&(first, last)| first.max(low)..=last.min(high))
+    }
     /// The least number that `self` holds and `other` does not.
     pub fn least_outside(&self, other: &Ranges) -> Option<u32> {
         for &(first, last) in &self.0 {

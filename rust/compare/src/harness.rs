@@ -1,0 +1,334 @@
+//! The random comparison. Buffers of many sizes are filled with marks
+//! beforehand; answers and every word of both buffers are compared.
+
+use crate::engine::*;
+use gen::{Rng, Vocabulary};
+use std::fmt;
+
+#[derive(Clone, Copy, Debug)]
+pub struct Settings {
+    /// Table number i is made from the seed `first_seed` + i.
+    pub first_seed: u64,
+    pub tables: u64,
+    pub names_per_table: usize,
+    /// Table files for each table.
+    pub files_per_table: usize,
+    /// Further tables for the soundness check alone, seeded after the others.
+    pub more_soundness: u64,
+    /// Differences kept as text; the others are only counted.
+    pub keep: usize,
+}
+
+impl Default for Settings {
+    fn default() -> Settings {
+        Settings { first_seed: 1, tables: 2_000, names_per_table: 100, files_per_table: 4, more_soundness: 2_500, keep: 20 }
+    }
+}
+
+/// What the first engine answered, and how often.
+#[derive(Clone, Debug, Default, PartialEq, Eq)]
+pub struct Counts {
+    pub tables: u64,
+    pub names: u64,
+    /// All calls of the name call and of the label call.
+    pub name_calls: u64,
+    pub label_calls: u64,
+    /// By refusal; place 0 counts what was accepted.
+    pub name_refusals: [u64; 16],
+    pub label_refusals: [u64; 16],
+    /// Names, each counted once, that were accepted.
+    pub accepted_names: u64,
+    pub names_of_4096: u64,
+    pub accepted_names_of_4096: u64,
+    /// Emoji, ASCII, unrestricted group, restricted group.
+    pub kinds: [u64; 4],
+    /// 0 to 7, and 8 for sound.
+    pub soundness: [u64; 9],
+    /// Unpacked, 20, 21, 22.
+    pub unpacked: [u64; 4],
+    pub differences: u64,
+}
+
+impl Counts {
+    /// What was reached too seldom, as the comparison asks it: every refusal
+    /// and kind 500 times, every soundness answer 200 times, 40,000 accepted
+    /// names and a name of 4,096 codepoints.
+    pub fn missing(&self) -> Vec<String> {
+        let mut missing = Vec::new();
+        let mut ask = |what: String, count: u64, least: u64| {
+            if count < least {
+                missing.push(format!("{what}: {count}, due {least}"));
+            }
+        };
+        for number in 1..16 {
+            ask(format!("name call, refusal {number}"), self.name_refusals[number], 500);
+            ask(format!("label call, refusal {number}"), self.label_refusals[number], 500);
+        }
+        for (kind, count) in ["emoji", "ASCII", "group", "restricted group"].iter().zip(self.kinds) {
+            ask(format!("kind {kind}"), count, 500);
+        }
+        for (answer, &count) in self.soundness.iter().enumerate() {
+            ask(format!("soundness {answer}"), count, 200);
+        }
+        for (i, &count) in self.unpacked.iter().enumerate() {
+            ask(format!("unpack {}", [0, 20, 21, 22][i]), count, 500);
+        }
+        ask("accepted names".into(), self.accepted_names, 40_000);
+        ask("names of 4,096".into(), self.names_of_4096, 1);
+        missing
+    }
+}
+
+impl fmt::Display for Counts {
+    fn fmt(&self, f: &mut fmt::Formatter) -> fmt::Result {
+        writeln!(f, "tables {}, names {}, accepted {}", self.tables, self.names, self.accepted_names)?;
+        writeln!(f, "names of 4,096 codepoints {}, accepted {}", self.names_of_4096, self.accepted_names_of_4096)?;
+        for (what, calls, refusals) in [
+            ("name call", self.name_calls, &self.name_refusals),
+            ("label call", self.label_calls, &self.label_refusals),
+        ] {
+            write!(f, "{what}: {calls} calls, accepted {}; refusals", refusals[0])?;
+            for (number, count) in refusals.iter().enumerate().skip(1) {
+                write!(f, " {number}:{count}")?;
+            }
+            writeln!(f)?;
+        }
+        let [emoji, ascii, group, restricted] = self.kinds;
+        writeln!(f, "kinds: emoji {emoji}, ASCII {ascii}, group {group}, restricted group {restricted}")?;
+        write!(f, "soundness:")?;
+        for (answer, count) in self.soundness.iter().enumerate().take(8) {
+            write!(f, " {answer}:{count}")?;
+        }
+        writeln!(f, " sound:{}", self.soundness[8])?;
+        let [done, a, b, c] = self.unpacked;
+        writeln!(f, "unpacked {done}, refusals 20:{a} 21:{b} 22:{c}")?;
+        write!(f, "differences {}", self.differences)
+    }
+}
+
+#[derive(Clone, Debug, Default)]
+pub struct Report {
+    pub counts: Counts,
+    /// Each with its seed, the table's words and the codepoints.
+    pub differences: Vec<String>,
+}
+
+impl Report {
+    fn differ(&mut self, settings: &Settings, text: impl FnOnce() -> String) {
+        self.counts.differences += 1;
+        if self.differences.len() < settings.keep {
+            self.differences.push(text());
+        }
+    }
+}
+
+pub fn hex(words: &[u32]) -> String {
+    let words: Vec<String> = words.iter().map(|w| format!("{w:X}")).collect();
+    words.join(" ")
+}
+
+/// Fills a buffer with marks, none of them 0.
+fn mark(buffer: &mut Vec<u32>, size: usize, salt: u32) {
+    buffer.clear();
+    buffer.extend((0..size as u32).map(|i| 0xA500_0001 ^ (salt << 12) ^ i.wrapping_mul(0x0101_0101) | 1));
+}
+
+fn work_size(rng: &mut Rng) -> usize {
+    match rng.below(100) {
+        0 => *rng.pick(&[0, 1, 1024, 2047, 2047, 2047]),
+        1..=4 => rng.between(2049, 3000),
+        _ => 2048,
+    }
+}
+
+fn answer_size(rng: &mut Rng, name: &[u32]) -> usize {
+    match rng.below(100) {
+        0..=1 => 0,
+        2..=3 => rng.below(8),
+        4..=6 => name.len(),
+        7..=8 => name.len().saturating_sub(1),
+        9..=12 => 1024,
+        13..=15 => rng.between(1025, 5000),
+        _ => name.len() + rng.between(8, 40),
+    }
+}
+
+/// Where the two differ first, in words.
+fn first_difference(a: &[u32], b: &[u32]) -> String {
+    match a.iter().zip(b).position(|(x, y)| x != y) {
+        Some(i) => format!("word {i}: {:X} and {:X}", a[i], b[i]),
+        None => "none".into(),
+    }
+}
+
+#[derive(Default)]
+struct Buffers {
+    a: [Vec<u32>; 2],
+    b: [Vec<u32>; 2],
+}
+
+/// Runs both engines over the same tables and names.
+pub fn compare(a: &dyn Engine, b: &dyn Engine, settings: &Settings) -> Report {
+    let mut report = Report::default();
+    let mut buffers = Buffers::default();
+    for seed in settings.first_seed..settings.first_seed + settings.tables {
+        let mut rng = Rng::new(seed);
+        let made = gen::table(&mut rng);
+        report.counts.tables += 1;
+        compare_soundness(a, b, settings, seed, &made.words, &mut report);
+        let vocabulary = Vocabulary::new(&mut rng, &made.builder);
+        for _ in 0..settings.names_per_table {
+            let name = vocabulary.name(&mut rng);
+            report.counts.names += 1;
+            let room = answer_size(&mut rng, &name);
+            let work = work_size(&mut rng);
+            let answer = name_call(a, b, settings, seed, &made.words, &name, room, work, &mut buffers, &mut report);
+            report.counts.accepted_names += u64::from(answer.refusal == 0);
+            if name.len() == plain::limits::INPUT {
+                report.counts.names_of_4096 += 1;
+                report.counts.accepted_names_of_4096 += u64::from(answer.refusal == 0);
+            }
+            if answer.refusal == 0 && rng.percent(6) {
+                // Room that just suffices, and one word less.
+                let due = answer.length as usize;
+                for room in [Some(due), due.checked_sub(1)].into_iter().flatten() {
+                    name_call(a, b, settings, seed, &made.words, &name, room, work, &mut buffers, &mut report);
+                }
+            }
+            // The label call on a label of the name, or on the whole name.
+            let label = if rng.percent(20) {
+                &name[..]
+            } else {
+                let labels: Vec<&[u32]> = name.split(|&c| c == plain::STOP).collect();
+                *rng.pick(&labels)
+            };
+            let room = answer_size(&mut rng, label);
+            let work = work_size(&mut rng);
+            label_call(a, b, settings, seed, &made.words, label, room, work, &mut buffers, &mut report);
+        }
+        for _ in 0..settings.files_per_table {
+            let (file, room) = gen::file(&mut rng, &made.words);
+            compare_unpack(a, b, settings, seed, &file, room, &mut buffers, &mut report);
+        }
+    }
+    let first = settings.first_seed + settings.tables;
+    for seed in first..first + settings.more_soundness {
+        let made = gen::table(&mut Rng::new(seed));
+        report.counts.tables += 1;
+        compare_soundness(a, b, settings, seed, &made.words, &mut report);
+    }
+    report
+}
+
+fn compare_soundness(a: &dyn Engine, b: &dyn Engine, settings: &Settings, seed: u64, table: &[u32], report: &mut Report) {
+    let (x, y) = (a.soundness(table), b.soundness(table));
+    report.counts.soundness[x.0 as usize] += 1;
+    if x != y {
+        report.differ(settings, || format!("seed {seed}: soundness {x:?} and {y:?}\n  table {}", hex(table)));
+    }
+}
+
+#[allow(clippy::too_many_arguments)]
+fn name_call(
+    a: &dyn Engine,
+    b: &dyn Engine,
+    settings: &Settings,
+    seed: u64,
+    table: &[u32],
+    name: &[u32],
+    room: usize,
+    work: usize,
+    buffers: &mut Buffers,
+    report: &mut Report,
+) -> NameFlat {
+    for (buffers, salt) in [(&mut buffers.a, 1), (&mut buffers.b, 2)] {
+        mark(&mut buffers[0], room, salt);
+        mark(&mut buffers[1], work, salt + 4);
+    }
+    let [answer_a, work_a] = &mut buffers.a;
+    let [answer_b, work_b] = &mut buffers.b;
+    let x = a.name(name, table, answer_a, work_a);
+    let y = b.name(name, table, answer_b, work_b);
+    report.counts.name_calls += 1;
+    report.counts.name_refusals[x.refusal as usize] += 1;
+    if x != y || answer_a != answer_b || work_a != work_b {
+        report.differ(settings, || {
+            format!(
+                "seed {seed}: name {}\n  answer room {room}, work area {work}\n  {x:?}\n  {y:?}\n  answer: {}\n  work area: {}\n  table {}",
+                hex(name),
+                first_difference(answer_a, answer_b),
+                first_difference(work_a, work_b),
+                hex(table)
+            )
+        });
+    }
+    x
+}
+
+#[allow(clippy::too_many_arguments)]
+fn label_call(
+    a: &dyn Engine,
+    b: &dyn Engine,
+    settings: &Settings,
+    seed: u64,
+    table: &[u32],
+    label: &[u32],
+    room: usize,
+    work: usize,
+    buffers: &mut Buffers,
+    report: &mut Report,
+) {
+    for (buffers, salt) in [(&mut buffers.a, 1), (&mut buffers.b, 2)] {
+        mark(&mut buffers[0], room, salt);
+        mark(&mut buffers[1], work, salt + 4);
+    }
+    let [answer_a, work_a] = &mut buffers.a;
+    let [answer_b, work_b] = &mut buffers.b;
+    let x = a.label(label, table, answer_a, work_a);
+    let y = b.label(label, table, answer_b, work_b);
+    report.counts.label_calls += 1;
+    report.counts.label_refusals[x.refusal as usize] += 1;
+    match (x.kind, x.restricted) {
+        (EMOJI, _) => report.counts.kinds[0] += 1,
+        (ASCII, _) => report.counts.kinds[1] += 1,
+        (GROUP, 0) => report.counts.kinds[2] += 1,
+        (GROUP, _) => report.counts.kinds[3] += 1,
+        _ => {}
+    }
+    if x != y || answer_a != answer_b || work_a != work_b {
+        report.differ(settings, || {
+            format!(
+                "seed {seed}: label {}\n  answer room {room}, work area {work}\n  {x:?}\n  {y:?}\n  answer: {}\n  work area: {}\n  table {}",
+                hex(label),
+                first_difference(answer_a, answer_b),
+                first_difference(work_a, work_b),
+                hex(table)
+            )
+        });
+    }
+}
+
+#[allow(clippy::too_many_arguments)]
+fn compare_unpack(
+    a: &dyn Engine,
+    b: &dyn Engine,
+    settings: &Settings,
+    seed: u64,
+    file: &[u8],
+    room: usize,
+    buffers: &mut Buffers,
+    report: &mut Report,
+) {
+    mark(&mut buffers.a[0], room, 1);
+    mark(&mut buffers.b[0], room, 2);
+    let x = a.unpack(file, &mut buffers.a[0]);
+    let y = b.unpack(file, &mut buffers.b[0]);
+    let place = if x.refusal == 0 { 0 } else { x.refusal as usize - 19 };
+    report.counts.unpacked[place] += 1;
+    if x != y || buffers.a[0] != buffers.b[0] {
+        report.differ(settings, || {
+            let bytes: Vec<String> = file.iter().map(|b| format!("{b:02X}")).collect();
+            format!("seed {seed}: file {}\n  room {room}\n  {x:?}\n  {y:?}", bytes.join(" "))
+        });
+    }
+}

@@ -1,0 +1,12 @@
+//! Seeded generators of tables sound and unsound, of names that use what a
+//! table has, and of table files. The same seed gives the same things.
+
+pub mod files;
+pub mod names;
+pub mod rng;
+pub mod tables;
+
+pub use files::file;
+pub use names::Vocabulary;
+pub use rng::Rng;
+pub use tables::{sound_table, table, Made};
