@@ -1,10 +1,12 @@
 //! Holds two engines against each other on random tables and names: answers
 //! and every word of both buffers.
 
+pub mod again;
 pub mod engine;
 pub mod harness;
 pub mod plain_engine;
 
+pub use again::{again, joining, AgainCounts, JoinCounts};
 pub use engine::{Engine, LabelFlat, NameFlat, SoundnessFlat, UnpackFlat};
 pub use harness::{compare, Counts, Report, Settings};
 pub use plain_engine::{Indexed, Plain};

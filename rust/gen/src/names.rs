@@ -328,6 +328,23 @@ impl Vocabulary {
         name
     }
 
+    /// A name that is long in codepoints or in worked length.
+    pub fn long_name(&self, rng: &mut Rng) -> Vec<u32> {
+        if rng.percent(35) {
+            let length = rng.between(1500, 4096);
+            return self.filled(rng, length);
+        }
+        let mut name = Vec::new();
+        while name.len() < rng.between(200, 1000) {
+            if !name.is_empty() {
+                name.push(STOP);
+            }
+            let length = rng.between(1, 300);
+            name.resize(name.len() + length, Self::one(rng, &self.ascii));
+        }
+        name
+    }
+
     pub fn name(&self, rng: &mut Rng) -> Vec<u32> {
         let mut name = match rng.below(1000) {
             0..=4 => Vec::new(),
