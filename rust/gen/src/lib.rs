@@ -4,9 +4,11 @@
 pub mod files;
 pub mod names;
 pub mod rng;
+pub mod small;
 pub mod tables;
 
 pub use files::file;
 pub use names::Vocabulary;
 pub use rng::Rng;
+pub use small::small_table;
 pub use tables::{sound_table, table, Made};

@@ -57,6 +57,12 @@ impl Vocabulary {
             groups.push(GroupWords { letters, marks: of_marks, heads });
         }
         let valid = sample(rng, &b.valid);
+        // Mappings with odd items are to be used often.
+        let odd = |c: &u32| *c == STOP || *c == FE0F || !plain::is_scalar(*c);
+        let mut mapped = b.mapped.clone();
+        for record in b.mapped.iter().filter(|m| m.1.iter().any(odd)) {
+            mapped.extend(vec![record.clone(); 10]);
+        }
         let mut any: Vec<u32> = b.to_words().into_iter().filter(|&c| c > 0x20 && plain::is_scalar(c)).collect();
         any.truncate(400);
         any.push(FE0F);
@@ -64,7 +70,7 @@ impl Vocabulary {
             groups,
             ascii: valid.iter().copied().filter(|&c| c < 0x80 && c != 0x5F).collect(),
             valid,
-            mapped: b.mapped.clone(),
+            mapped,
             decompositions: b.decompositions.clone(),
             ignored: sample(rng, &b.ignored),
             fenced: sample(rng, &b.fenced),
@@ -127,7 +133,15 @@ impl Vocabulary {
     /// Text of one group.
     fn group_text(&self, rng: &mut Rng, group: &GroupWords, length: usize, out: &mut Vec<u32>) {
         for _ in 0..length {
-            match rng.below(20) {
+            match rng.below(22) {
+                20 if !group.heads.is_empty() && !group.marks.is_empty() => {
+                    // A mark again after another one.
+                    let (_, items) = rng.pick(&group.heads);
+                    out.extend(items);
+                    out.push(*rng.pick(&group.marks));
+                    out.extend(items.last());
+                }
+                21 if !self.mapped.is_empty() => out.push(rng.pick(&self.mapped).0),
                 0..=10 => {
                     let c = Self::one(rng, &group.letters);
                     self.spell(rng, c, 0, out);
@@ -183,6 +197,10 @@ impl Vocabulary {
                 let c = Self::one(rng, &self.ascii);
                 self.spell(rng, c, 0, &mut out);
             }
+            if rng.percent(20) && !self.mapped.is_empty() {
+                let at = rng.below(out.len() + 1);
+                out.insert(at, rng.pick(&self.mapped).0);
+            }
         } else {
             let group = rng.pick(&self.groups);
             let length = rng.between(1, 5);
@@ -201,10 +219,18 @@ impl Vocabulary {
                         self.group_text(rng, group, length, &mut out);
                     }
                 }
-                72..=78 => {
+                72..=76 => {
                     for _ in 0..rng.between(1, 3) {
                         self.an_emoji(rng, &mut out);
                     }
+                }
+                77 | 78 => {
+                    // Marks on both sides of an emoji.
+                    out.push(Self::one(rng, &group.letters));
+                    let marks: Vec<u32> = (0..rng.between(1, 3)).map(|_| Self::one(rng, &group.marks)).collect();
+                    out.extend(&marks);
+                    self.an_emoji(rng, &mut out);
+                    out.extend((0..rng.between(1, 3)).map(|_| *rng.pick(&marks)));
                 }
                 79..=87 => {
                     for _ in 0..rng.between(1, 2) {

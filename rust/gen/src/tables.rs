@@ -310,17 +310,22 @@ fn draft(rng: &mut Rng) -> TableBuilder {
         }
     }
     for _ in 0..rng.between(2, 8) {
-        let head = match rng.below(10) {
-            0 => sample(rng),
-            1 => *rng.pick(&EMOJI),
-            2 => *rng.pick(&MARKS),
-            3 => 0x2122,
+        let head = match rng.below(12) {
+            0..=2 => sample(rng),
+            3 => *rng.pick(&EMOJI),
+            4 => *rng.pick(&MARKS),
+            5 => 0x2122,
             _ => rng.code(0x2150, 0x2188),
         };
         let count = if rng.percent(5) { 32 } else { rng.between(1, 3) };
         let heads: Vec<u32> = depth.keys().copied().filter(|&h| valid.holds(h)).collect();
         let items: Vec<u32> = (0..count)
-            .map(|_| if !heads.is_empty() && rng.percent(30) { *rng.pick(&heads) } else { sample(rng) })
+            .map(|_| match rng.below(10) {
+                0..=2 if !heads.is_empty() => *rng.pick(&heads),
+                // Something valid that has a mapping of its own.
+                3 | 4 => b.mapped.iter().map(|m| m.0).filter(|&c| valid.holds(c)).last().unwrap_or_else(|| sample(rng)),
+                _ => sample(rng),
+            })
             .collect();
         b.mapped.push((head, items));
     }
@@ -365,11 +370,13 @@ fn draft(rng: &mut Rng) -> TableBuilder {
         let c = sample(rng);
         b.fenced.push((c, c));
     }
+    // NSM need not lie within the marks: a text token may start with one.
+    let (of_marks, of_nsm) = *rng.pick(&[(85, 70), (85, 50), (30, 70), (0, 80)]);
     for &m in &marks {
-        if rng.percent(85) {
+        if rng.percent(of_marks) {
             b.marks.push((m, m));
         }
-        if rng.percent(70) {
+        if rng.percent(of_nsm) {
             b.nsm.push((m, m));
         }
     }
@@ -511,6 +518,7 @@ fn break_rule(rng: &mut Rng, b: &mut TableBuilder, rule: u32) -> &'static str {
             }
             3 => {
                 admit(rng, b, STOP);
+                b.mapped.push((0x2F, vec![STOP, v]));
                 "valid: 2E"
             }
             4 => {
@@ -535,8 +543,12 @@ fn break_rule(rng: &mut Rng, b: &mut TableBuilder, rule: u32) -> &'static str {
             }
         },
         3 => {
-            let item = *rng.pick(&[unused, STOP, FE0F, 0x41, 0x1F468]);
-            let items = if rng.percent(50) { vec![item] } else { vec![v, item, v] };
+            let item = *rng.pick(&[unused, STOP, STOP, FE0F, 0x41, 0x1F468]);
+            let items = match rng.below(3) {
+                0 => vec![item],
+                1 => vec![v, item, v],
+                _ => vec![0x61, item, 0x61],
+            };
             let at = rng.below(b.mapped.len() + 1);
             b.mapped.insert(at, (*rng.pick(&[0x2160, 0x2161, 0x42, STOP, FE0F]), items));
             "mapped: item not valid"

@@ -1,0 +1,485 @@
+//! Hand-made cases: the names at the counter, the examples of the source
+//! document, the errors met in the field, layout, unpacking and soundness.
+
+use gen::small::*;
+use plain::*;
+
+const NO_ROOM: u32 = 15;
+
+/// Both calls with marks in the buffers, checked word for word.
+fn run_name(words: &[u32], input: &[u32], room: usize) -> Result<(Vec<u32>, usize), (u32, usize)> {
+    let mut answer = vec![0xFFFF_FFFF; room];
+    let mut work = vec![0xFFFF_FFFF; 2048];
+    let flat = name(input, words, &mut answer, &mut work);
+    assert!(work.iter().all(|&w| w == 0));
+    match flat {
+        NameAnswer::Accepted { length, labels } => {
+            assert!(answer[length..].iter().all(|&w| w == 0));
+            Ok((answer[..length].to_vec(), labels))
+        }
+        NameAnswer::Refused { number, place } => {
+            assert!(answer.iter().all(|&w| w == 0));
+            Err((number, place))
+        }
+    }
+}
+
+fn run_label(words: &[u32], input: &[u32], room: usize) -> Result<(Vec<u32>, Kind), (u32, usize)> {
+    let mut answer = vec![0xFFFF_FFFF; room];
+    let mut work = vec![0xFFFF_FFFF; 2048];
+    let flat = label(input, words, &mut answer, &mut work);
+    assert!(work.iter().all(|&w| w == 0));
+    match flat {
+        LabelAnswer::Accepted { length, kind } => {
+            assert!(answer[length..].iter().all(|&w| w == 0));
+            Ok((answer[..length].to_vec(), kind))
+        }
+        LabelAnswer::Refused { number, place } => {
+            assert!(answer.iter().all(|&w| w == 0));
+            Err((number, place))
+        }
+    }
+}
+
+/// A one-label name: both calls give this answer, and the label this kind.
+fn gives(input: &[u32], answer: &[u32], kind: Kind) {
+    let words = small_table().to_words();
+    assert_eq!(run_name(&words, input, 1024), Ok((answer.to_vec(), 1)), "{input:X?}");
+    assert_eq!(run_label(&words, input, 1024), Ok((answer.to_vec(), kind)), "{input:X?}");
+}
+
+/// A one-label name: both calls refuse it so.
+fn refused(input: &[u32], number: u32, place: usize) {
+    let words = small_table().to_words();
+    assert_eq!(run_name(&words, input, 1024), Err((number, place)), "{input:X?}");
+    assert_eq!(run_label(&words, input, 1024), Err((number, place)), "{input:X?}");
+}
+
+fn group(number: u32) -> Kind {
+    Kind::Group { number, restricted: number == EGYPTIAN }
+}
+
+fn text(s: &str) -> Vec<u32> {
+    s.chars().map(u32::from).collect()
+}
+
+#[test]
+fn the_small_table_is_sound() {
+    assert_eq!(soundness_report(&small_table().to_words()), None);
+}
+
+#[test]
+fn names_at_the_counter() {
+    let words = small_table().to_words();
+    gives(&[0x5F, 0x24, 0x41], &[0x5F, 0x24, 0x61], Kind::Ascii);
+    gives(&[0x45, 0xFE0E, 0x303], &[0x1EBD], group(LATIN));
+    refused(&[0x6E, 0x131, 0x307, 0x63, 0x6B], 5, 1);
+    gives(&[0x61, 0x2122, 0xFE0F], &[0x61, 0x74, 0x6D], Kind::Ascii);
+    gives(&[0x41, 0xFE0E, 0x1F4A9, 0xFE0E, 0xFE0E, 0x62], &[0x61, 0x1F4A9, 0x62], group(LATIN));
+    refused(&[0x1F468, 0xFE0F, 0x200D, 0x2764, 0xFE0F, 0x200D, 0x1F468], 5, 2);
+    refused(&[0x1F4A9, 0x200D, 0x1F4A9], 5, 1);
+    refused(&[0x78, 0x6E, 0x2D, 0x2D], 9, 0);
+    gives(&[0x2D, 0x2D, 0x2D, 0x61], &[0x2D, 0x2D, 0x2D, 0x61], Kind::Ascii);
+    refused(&[0x61, 0x5F, 0x2D, 0x2D], 8, 0);
+    refused(&[0x30, 0x445], 14, 0);
+    gives(&[0x442, 0x4D5], &[0x442, 0x4D5], group(CYRILLIC));
+    gives(&[0x2010, 0x39E, 0x31, 0xFE0F, 0x20E3], &[0x2D, 0x3BE, 0x31, 0x20E3], group(GREEK));
+    assert_eq!(run_name(&words, &[], 5), Ok((vec![], 0)));
+    assert_eq!(run_name(&words, &[], 0), Ok((vec![], 0)));
+    assert_eq!(run_label(&words, &[], 5), Err((6, 0)));
+    assert_eq!(run_name(&words, &[0x2E], 5), Err((6, 0)));
+    assert_eq!(run_name(&words, &[0x61, 0x2E, 0x2E, 0x62], 5), Err((6, 1)));
+    assert_eq!(run_name(&words, &[0x61, 0x2E], 5), Err((6, 1)));
+    assert_eq!(run_name(&words, &[0x61], 0), Err((NO_ROOM, 0)));
+    assert_eq!(run_label(&words, &[0x61], 0), Err((NO_ROOM, 0)));
+    gives(&[0x61; 1024], &[0x61; 1024], Kind::Ascii);
+    refused(&[0x61; 1025], 7, 0);
+    refused(&[0x2E3B; 341], 9, 0);
+    refused(&[0x2E3B; 342], 7, 0);
+    let mut long = vec![0x34F; 4096];
+    long[0] = 0x61;
+    gives(&long, &[0x61], Kind::Ascii);
+    long.push(0x34F);
+    refused(&long, 3, 0);
+    refused(&[0x78, 0x300, 0x300], 13, 0);
+}
+
+#[test]
+fn examples_of_the_source() {
+    gives(&text("---a"), &text("---a"), Kind::Ascii);
+    gives(&text("ab-c"), &text("ab-c"), Kind::Ascii);
+    gives(&text("___"), &text("___"), Kind::Ascii);
+    gives(&text("__abc"), &text("__abc"), Kind::Ascii);
+    gives(&text("abc$123"), &text("abc$123"), Kind::Ascii);
+    refused(&text("xn--"), 9, 0);
+    refused(&text("----"), 9, 0);
+    refused(&text("abc__"), 8, 0);
+    refused(&text("_abc_"), 8, 0);
+    // Fenced.
+    gives(&text("a\u{2019}s"), &text("a\u{2019}s"), group(LATIN));
+    gives(&text("a\u{30FB}a"), &text("a\u{30FB}a"), group(LATIN));
+    gives(&text("a\u{30FB}a\u{2019}s"), &text("a\u{30FB}a\u{2019}s"), group(LATIN));
+    for bad in ["\u{2019}85", "joneses\u{2019}", "\u{30FB}a\u{30FB}", "6\u{2019}0\u{2019}\u{2019}", "a\u{30FB}\u{30FB}a"] {
+        refused(&text(bad), 10, 0);
+    }
+    // Composition, kinds and mixtures.
+    gives(&[0x61, 0x300], &[0xE0], group(LATIN));
+    gives(&[0x1F680, 0x61, 0x300], &[0x1F680, 0xE0], group(LATIN));
+    gives(&[0x1318F, 0x1F438], &[0x1318F, 0x1F438], group(EGYPTIAN));
+    gives(&[0x1F4A9, 0xFE0F, 0x1F4A9], &[0x1F4A9, 0x1F4A9], Kind::Emoji);
+    gives(&[0x2165], &[0x76, 0x69], Kind::Ascii);
+    gives(&[0x78, 0x79, 0x7A, 0x1F468, 0x1F3FB], &[0x78, 0x79, 0x7A, 0x1F468, 0x1F3FB], group(LATIN));
+    let mut mixed = text("bahrain");
+    mixed.extend([0x645, 0x635, 0x631]);
+    refused(&mixed, 12, 0);
+    let words = small_table().to_words();
+    let two = [&text("bahrain")[..], &[0x2E, 0x645, 0x635, 0x631]].concat();
+    assert_eq!(run_name(&words, &two, 1024), Ok((two.clone(), 2)));
+    // Six NSM in one run; four different ones pass.
+    refused(&[0x625, 0x610, 0x611, 0x612, 0x613, 0x614], 13, 0);
+    gives(&[0x627, 0x610, 0x611, 0x612, 0x613], &[0x627, 0x610, 0x611, 0x612, 0x613], group(ARABIC));
+    refused(&[0x627, 0x610, 0x611, 0x612, 0x613, 0x614], 13, 0);
+    // A whitelisted group is not asked for NSM.
+    gives(&[0x561, 0x300, 0x300], &[0x561, 0x300, 0x300], group(WHITELISTED));
+    // Emoji matching.
+    for matches in [
+        &[0x1F468, 0x200D, 0x2764, 0xFE0F, 0x200D, 0x1F468][..],
+        &[0x1F468, 0x200D, 0x2764, 0x200D, 0x1F468],
+    ] {
+        gives(matches, &[0x1F468, 0x200D, 0x2764, 0x200D, 0x1F468], Kind::Emoji);
+    }
+    refused(&[0x1F468, 0x200D, 0x2764, 0xFE0F, 0xFE0F, 0x200D, 0x1F468], 5, 1);
+    gives(&[0x1F468, 0x1F3FB, 0x200D, 0x1F4BB], &[0x1F468, 0x1F3FB, 0x200D, 0x1F4BB], Kind::Emoji);
+    // Hangul.
+    gives(&[0x1112, 0x1161, 0x11AB], &[0xD55C], group(KOREAN));
+    gives(&[0xD558, 0x11AB], &[0xD55C], group(KOREAN));
+    gives(&[0xD55C; 341], &[0xD55C; 341], group(KOREAN));
+    refused(&[0xD55C; 342], 7, 0);
+}
+
+#[test]
+fn errors_met_in_the_field() {
+    // Composing the whole label.
+    refused(&[0x61, 0x1F4A9, 0x300], 11, 0);
+    // Ignoring FE0F first.
+    refused(&[0x1F468, 0xFE0F, 0x200D, 0x2764, 0x200D, 0x1F468], 5, 2);
+    // Mapping an item twice; mapping before valid is asked.
+    gives(&[0x5A], &[0x7A], Kind::Ascii);
+    gives(&[0x7A], &[0x7A], Kind::Ascii);
+    // Stopping the look-alike test at the first confused character: alone,
+    // each of these is confusable.
+    refused(&[0x442], 14, 0);
+    refused(&[0x4D5], 14, 0);
+    gives(&[0x442, 0x4D5], &[0x442, 0x4D5], group(CYRILLIC));
+    gives(&[0x4D5, 0x442], &[0x4D5, 0x442], group(CYRILLIC));
+    // Leaving the old tail: `run_name` fills the buffers with marks, and here
+    // a longer answer stood in them.
+    let words = small_table().to_words();
+    let (mut answer, mut work) = ([0; 9], [0; 2048]);
+    name(&text("abcdefgh"), &words, &mut answer, &mut work);
+    assert_eq!(answer, [0x61, 0x62, 0x63, 0x64, 0x65, 0x66, 0x67, 0x68, 0]);
+    name(&text("ba"), &words, &mut answer, &mut work);
+    assert_eq!(answer, [0x62, 0x61, 0, 0, 0, 0, 0, 0, 0]);
+    name(&text("b a"), &words, &mut answer, &mut work);
+    assert_eq!(answer, [0; 9]);
+}
+
+#[test]
+fn order_of_refusals() {
+    let words = small_table().to_words();
+    let call = |input: &[u32], words: &[u32], room: usize, area: usize| {
+        let (mut answer, mut work) = (vec![9; room], vec![9; area]);
+        let flat = name(input, words, &mut answer, &mut work);
+        if let NameAnswer::Refused { .. } = flat {
+            assert!(answer.iter().chain(&work).all(|&w| w == 0));
+        }
+        flat
+    };
+    let no = |number: u32, place: usize| NameAnswer::Refused { number, place };
+    let bad_long = vec![0xD800; 4097];
+    // 1, 2, 3, 4 in order, over the whole name and the empty one too.
+    assert_eq!(call(&bad_long, &[], 3, 0), no(1, 0));
+    assert_eq!(call(&bad_long, &words, 3, 2047), no(2, 0));
+    assert_eq!(call(&bad_long, &words, 3, 2048), no(3, 0));
+    assert_eq!(call(&[0x21, 0x61, 0xDFFF, 0x110000], &words, 3, 2048), no(4, 2));
+    assert_eq!(call(&[], &[], 3, 2048), no(1, 0));
+    assert_eq!(call(&[], &words, 3, 100), no(2, 0));
+    // Label by label: a 14 in label 0 before a 5 in label 1.
+    assert_eq!(call(&[0x30, 0x445, 0x2E, 0x21], &words, 9, 2048), no(14, 0));
+    assert_eq!(call(&[0x61, 0x2E, 0x62, 0x21], &words, 9, 2048), no(5, 3));
+    assert_eq!(call(&[0x61, 0x2E, 0x30, 0x445], &words, 9, 2048), no(14, 1));
+    // 5 is looked for in the whole label, before 7; an empty label past 1,024
+    // is 6.
+    let mut long = vec![0x61; 2000];
+    long.push(0x21);
+    assert_eq!(call(&long, &words, 9, 2048), no(5, 2000));
+    let mut long = vec![0x61; 1024];
+    long.push(0x2E);
+    assert_eq!(call(&long, &words, 9, 2048), no(6, 1));
+    long.push(0x61);
+    assert_eq!(call(&long, &words, 9, 2048), no(7, 1));
+    // 15 comes after every label.
+    assert_eq!(call(&[0x61, 0x62, 0x2E, 0x21], &words, 1, 2048), no(5, 3));
+    assert_eq!(call(&[0x61, 0x62, 0x2E, 0x63], &words, 3, 2048), no(15, 0));
+    assert_eq!(call(&[0x61, 0x62, 0x2E, 0x63], &words, 4, 2048), NameAnswer::Accepted { length: 4, labels: 2 });
+    // Exactly 1,024 with stops passes.
+    let mut exact = vec![0x61; 1024];
+    exact[500] = 0x2E;
+    assert_eq!(call(&exact, &words, 2000, 5000), NameAnswer::Accepted { length: 1024, labels: 2 });
+}
+
+#[test]
+fn label_call_and_stop() {
+    let words = small_table().to_words();
+    assert_eq!(run_label(&words, &[0x61, 0x2E, 0x62], 9), Err((5, 1)));
+    assert_eq!(run_label(&words, &[0x21, 0x2E], 9), Err((5, 0)));
+    assert_eq!(run_label(&words, &[0x2E], 9), Err((5, 0)));
+    assert_eq!(run_label(&words, &[0x2E, 0x21], 9), Err((5, 0)));
+    // Before 7, and whatever the table says of 2E.
+    let mut long = vec![0x61; 1500];
+    long.push(0x2E);
+    assert_eq!(run_label(&words, &long, 9), Err((5, 1500)));
+    let mut b = small_table();
+    b.valid.push((0x2E, 0x2E));
+    b.ignored.push((0x2E, 0x2E));
+    b.emoji.push(vec![0x1F680, 0x2E]);
+    assert_eq!(run_label(&b.to_words(), &[0x1F680, 0x2E], 9), Err((5, 1)));
+}
+
+#[test]
+fn layout_cases() {
+    let good = small_table();
+    assert!(parse(&good.to_words()).is_some());
+    assert_eq!(parse(&good.to_words()).unwrap().to_words(), good.to_words());
+    assert_eq!(parse(&good.to_words()).unwrap().to_builder(), good);
+    let holds = |change: &dyn Fn(&mut TableBuilder)| {
+        let mut b = good.clone();
+        change(&mut b);
+        parse(&b.to_words()).is_some()
+    };
+    // Items.
+    for (count, passes) in [(0, false), (1, true), (32, true), (33, false)] {
+        assert_eq!(holds(&|b| b.mapped.push((0x2160, vec![0x61; count]))), passes);
+        assert_eq!(holds(&|b| b.emoji.push(vec![0x1F468; count])), passes);
+    }
+    for (count, passes) in [(0, false), (1, true), (4, true), (5, false)] {
+        assert_eq!(holds(&|b| b.decompositions.push((0x2160, vec![0x61; count]))), passes);
+    }
+    // First over last, class, flags, groups.
+    assert!(!holds(&|b| b.valid.push((2, 1))));
+    assert!(!holds(&|b| b.nsm.push((2, 1))));
+    assert!(!holds(&|b| b.groups.push((0, vec![(2, 1)]))));
+    assert!(!holds(&|b| b.classes.push((2, 1, 0))));
+    assert!(holds(&|b| b.classes.push((2, 0xFFFF_FFFF, 255))));
+    assert!(!holds(&|b| b.classes.push((2, 3, 256))));
+    assert!(holds(&|b| b.groups.push((3, vec![]))));
+    assert!(!holds(&|b| b.groups.push((4, vec![]))));
+    assert!(holds(&|b| b.groups.resize(256, (0, vec![]))));
+    assert!(!holds(&|b| b.groups.resize(257, (0, vec![]))));
+    assert!(holds(&|b| b.wholes.push((vec![], vec![]))));
+    // Sections by hand: twelve empty ones, exclusions with their one record.
+    let empty: Vec<Vec<u32>> = (0..12).map(|i| if i == 8 { vec![0] } else { vec![] }).collect();
+    let with = |i: usize, words: &[u32]| {
+        let mut sections = empty.clone();
+        sections[i] = words.to_vec();
+        parse(&plain::table::join_sections(&sections)).is_some()
+    };
+    assert!(with(0, &[]));
+    for section in 0..5 {
+        assert!(with(section, &[5, 5]));
+        assert!(with(section, &[0, 0xFFFF_FFFF]));
+        assert!(!with(section, &[5]));
+        assert!(!with(section, &[5, 6, 7]));
+    }
+    assert!(!with(8, &[]), "an empty exclusions section");
+    assert!(!with(8, &[0, 0]), "two exclusion records");
+    assert!(!with(8, &[1, 0x61, 1, 0x62]));
+    assert!(!with(8, &[2, 0x61]), "a record cut by its section's end");
+    assert!(with(8, &[2, 0x61, 0x62]));
+    assert!(!with(9, &[1, 2]) && !with(9, &[1, 2, 3, 4]) && with(9, &[1, 2, 3]));
+    assert!(!with(5, &[0x41]) && !with(5, &[0x41, 2, 0x61]) && with(5, &[0x41, 1, 0x61]));
+    assert!(!with(6, &[0x41, 1]) && !with(7, &[3, 1, 2]));
+    assert!(!with(10, &[0]) && !with(10, &[0, 1, 5]) && !with(10, &[0, 2, 5]) && with(10, &[0, 2, 5, 5]));
+    assert!(!with(11, &[0]) && !with(11, &[1, 5]) && !with(11, &[0, 2, 5]) && with(11, &[0, 0]));
+    // The end of the words.
+    let words = plain::table::join_sections(&empty);
+    assert!(parse(&words).is_some());
+    assert!(parse(&[]).is_none());
+    for n in 0..words.len() {
+        assert!(parse(&words[..n]).is_none());
+    }
+    let mut over = words.clone();
+    over.push(0);
+    assert!(parse(&over).is_none(), "words left over");
+    let mut past = words.clone();
+    past[0] = 2;
+    *past.last_mut().unwrap() = 0xFFFF_FFFF;
+    assert!(parse(&past).is_none(), "a section that runs past the end");
+    // 131,072 words and two more: 13 words stand beside the pairs or triples.
+    let sized = |total: usize| {
+        let mut sections = empty.clone();
+        let rest = total - words.len();
+        // Pairs make an even number; a triple makes it odd where needed.
+        let triple = rest % 2;
+        sections[0] = vec![7; rest - 3 * triple];
+        sections[9] = vec![7; 3 * triple];
+        let words = plain::table::join_sections(&sections);
+        assert_eq!(words.len(), total);
+        parse(&words).is_some()
+    };
+    assert!(sized(131_071) && sized(131_072));
+    assert!(!sized(131_073) && !sized(131_074));
+}
+
+#[test]
+fn unpack_cases() {
+    let run = |file: &[u8], room: usize| {
+        let mut answer = vec![0xFFFF_FFFF; room];
+        let flat = unpack(file, &mut answer);
+        let due = if let Unpacked::Count(count) = flat { count } else { 0 };
+        assert!(answer[due..].iter().all(|&w| w == 0));
+        answer.truncate(due);
+        (flat, answer)
+    };
+    let no = |number: u32| (Unpacked::Refused(number), vec![]);
+    assert_eq!(run(&[], 3), no(21));
+    assert_eq!(run(&[1], 3), no(21));
+    assert_eq!(run(&[0], 3), no(20));
+    assert_eq!(run(&[2, 9, 9], 3), no(20), "a wrong version with a wrong length");
+    assert_eq!(run(&[1, 0, 0, 0], 3), no(21));
+    assert_eq!(run(&[1, 0, 0, 0, 0], 3), (Unpacked::Count(0), vec![]));
+    assert_eq!(run(&[1, 0, 0, 0, 0, 7], 3), no(21));
+    assert_eq!(run(&[1, 0x40, 0, 0, 0], 3), no(21), "a count whose bytes pass 32 bits");
+    assert_eq!(run(&[1, 0xC0, 0, 0, 1, 1, 2, 3, 4], 3), no(21));
+    let words = [0x01020304, 0xFFFF_FFFF];
+    assert_eq!(run(&pack(&words), 2), (Unpacked::Count(2), words.to_vec()));
+    assert_eq!(run(&pack(&words), 5), (Unpacked::Count(2), words.to_vec()));
+    assert_eq!(run(&pack(&words), 1), no(22), "a buffer too small by one");
+    assert_eq!(pack(&words), [1, 0, 0, 0, 2, 1, 2, 3, 4, 255, 255, 255, 255]);
+    // More words than a table may have: unpacking has no such limit.
+    let many = vec![3; 131_073];
+    assert_eq!(run(&pack(&many), 131_073).0, Unpacked::Count(131_073));
+}
+
+/// For each rule changes that break it and no other rule.
+#[test]
+fn each_soundness_rule_alone() {
+    let alone = |rule: u32, change: &dyn Fn(&mut TableBuilder)| {
+        let mut b = small_table();
+        change(&mut b);
+        let words = b.to_words();
+        let table = parse(&words).unwrap();
+        let index = Index::new(&table);
+        for other in 1..=7 {
+            let broken = plain::soundness::broken(&index, other);
+            assert_eq!(broken.is_some(), other == rule, "rule {other}: {broken:?}");
+        }
+        assert_eq!(soundness(&words), Soundness::Broken(rule));
+        assert_eq!(soundness_report(&words).unwrap().0, rule);
+    };
+    assert_eq!(soundness(&[]), Soundness::Broken(0));
+    // 1
+    alone(1, &|b| b.ignored.push((0xD800, 0xD800)));
+    alone(1, &|b| b.fenced.push((0xD000, 0xE000)));
+    alone(1, &|b| b.marks.push((0x10FFFF, 0x110000)));
+    alone(1, &|b| b.nsm.push((0, 0xFFFF_FFFF)));
+    alone(1, &|b| b.exclusions.push(0x110000));
+    alone(1, &|b| b.wholes.push((vec![], vec![0xDFFF])));
+    alone(1, &|b| b.wholes.push((vec![0xDFFF], vec![])));
+    alone(1, &|b| b.mapped.push((0xD800, vec![0x61])));
+    alone(1, &|b| b.classes.push((0xE000, 0x110000, 0)));
+    alone(1, &|b| b.emoji.push(vec![0xFFFF_FFFF]));
+    alone(1, &|b| b.decompositions.push((0x1234, vec![0xD800])));
+    // 2, in both directions
+    alone(2, &|b| b.valid.push((0x12345, 0x12345)));
+    alone(2, &|b| b.groups[0].1.push((0x12345, 0x12345)));
+    alone(2, &|b| b.valid.retain(|&p| p != (0x655, 0x655)));
+    alone(2, &|b| b.valid.retain(|&p| p != (0x11A8, 0x11C2)));
+    for c in [STOP, FE0F] {
+        alone(2, &|b| {
+            b.valid.push((c, c));
+            b.groups[0].1.push((c, c));
+        });
+    }
+    // 3
+    alone(3, &|b| b.mapped.push((0x2160, vec![0x61, 0x41])));
+    alone(3, &|b| b.mapped.push((0x41, vec![STOP]))); // a shadowed record
+    // 4
+    alone(4, &|b| b.emoji.push(vec![0x1F469, STOP]));
+    alone(4, &|b| b.emoji.push(vec![FE0F, 0x1F469]));
+    alone(4, &|b| b.emoji.push(vec![0x1F469, FE0F, FE0F]));
+    alone(4, &|b| b.emoji.push(vec![0x1F680]));
+    alone(4, &|b| b.emoji.push(vec![FE0F]));
+    // 5
+    alone(5, &|b| b.emoji.push(vec![0x61]));
+    alone(5, &|b| b.emoji.push(vec![0x61, 0x62]));
+    alone(5, &|b| b.emoji.push(vec![0x61, 0x1F680]));
+    alone(5, &|b| b.emoji.push(vec![0x1F680, 0x1F4A9]));
+    alone(5, &|b| b.emoji.push(vec![0x1F680, 0x62]));
+    // 6
+    alone(6, &|b| b.decompositions.push((0xE0, vec![0x300, 0x61])));
+    alone(6, &|b| b.decompositions.push((0x2460, vec![0x2460, 0x300])));
+    alone(6, &|b| b.decompositions.push((0x21, vec![0x2460])));
+    alone(6, &|b| b.decompositions.push((0xD7A3, vec![0x2460])));
+    alone(6, &|b| b.classes.push((0x11C2, 0x11C3, 1)));
+    alone(6, &|b| b.classes.push((0xD7A3, 0xD7FF, 1)));
+    alone(6, &|b| b.decompositions.extend([(0x2460, vec![0x2461]), (0x2461, vec![0x2460])]));
+    alone(6, &|b| b.decompositions.extend((0x2460..0x2465).map(|h| (h, vec![h + 1]))));
+    alone(6, &|b| {
+        b.decompositions.extend((0x2460..0x2463).map(|h| (h, vec![h + 1])));
+        b.decompositions.push((0x2463, vec![0xAC00]));
+    });
+    // 7
+    alone(7, &|b| b.decompositions.push((0x2460, vec![0x61, 0x300])));
+    alone(7, &|b| b.decompositions.push((0x2460, vec![0x1100, 0x1161])));
+    alone(7, &|b| b.decompositions.push((0x2460, vec![0xAC00, 0x11A8])));
+
+    // What breaks none.
+    let fine = |change: &dyn Fn(&mut TableBuilder)| {
+        let mut b = small_table();
+        change(&mut b);
+        assert_eq!(soundness_report(&b.to_words()), None);
+    };
+    fine(&|b| b.decompositions.push((0x2460, vec![0x2460])));
+    fine(&|b| b.decompositions.extend((0x2460..0x2464).map(|h| (h, vec![h + 1]))));
+    fine(&|b| b.decompositions.extend([(0x2460, vec![0x2461]), (0x2461, vec![0xAC01])]));
+    fine(&|b| b.classes.push((0x1100, 0x11C2, 0)));
+    fine(&|b| {
+        b.decompositions.push((0x2460, vec![0x61, 0x300]));
+        b.exclusions.push(0x2460);
+    });
+    fine(&|b| {
+        b.decompositions.push((0x2460, vec![0x61, 0x300]));
+        b.classes.push((0x2460, 0x2460, 9));
+    });
+    fine(&|b| b.decompositions.push((0x2460, vec![0xAC01, 0x11A8])));
+    fine(&|b| b.decompositions.push((0x2460, vec![0xAC00, 0x11A7])));
+    fine(&|b| b.emoji.push(vec![0x61, 0x20E3]));
+    fine(&|b| b.groups[0].1.push((0x61, 0x70)));
+    fine(&|b| b.valid.extend([(0x61, 0x70), (0x61, 0x70)]));
+}
+
+/// Wide ranges, overlapping and repeated, as many as fit.
+#[test]
+fn soundness_ends_soon() {
+    let begin = std::time::Instant::now();
+    let wide: Vec<(u32, u32)> = (0..16_000).map(|i| (i % 3, 0xFFFF_FFFF - i % 5)).collect();
+    let b = TableBuilder { valid: wide.clone(), groups: vec![(0, wide)], ..TableBuilder::default() };
+    assert_eq!(soundness(&b.to_words()), Soundness::Broken(1));
+    let words = b.to_words();
+    let table = parse(&words).unwrap();
+    let index = Index::new(&table);
+    for rule in 1..=7 {
+        let broken = plain::soundness::broken(&index, rule).is_some();
+        assert_eq!(broken, rule <= 2, "rule {rule}"); // 2E and FE0F are valid
+    }
+    let classes: Vec<(u32, u32, u32)> = (0..43_000).map(|i| (i, 0xFFFF_FFFF - i, i % 256)).collect();
+    let b = TableBuilder { classes, ..TableBuilder::default() };
+    assert_eq!(soundness(&b.to_words()), Soundness::Broken(1));
+    // Many heads that all grow.
+    let decompositions: Vec<(u32, Vec<u32>)> = (0x20000..0x25000).map(|h| (h, vec![h + 1; 4])).collect();
+    let groups = vec![(0, vec![(0x20000, 0x25000)])];
+    let b = TableBuilder { decompositions, groups, valid: vec![(0x20000, 0x25000)], ..TableBuilder::default() };
+    assert_eq!(soundness(&b.to_words()), Soundness::Broken(6));
+    assert!(begin.elapsed().as_secs() < 20, "{:?}", begin.elapsed());
+}

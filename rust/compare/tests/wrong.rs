@@ -1,0 +1,406 @@
+//! Wrong engines: the comparison finds each of them different.
+
+use compare::engine::*;
+use compare::plain_engine::{flat_label, flat_name};
+use compare::{compare, Engine, Plain, Settings};
+use plain::label::{self, Finished};
+use plain::text::{compose, four_rounds, order};
+use plain::tokens::strip;
+use plain::*;
+
+#[derive(Clone, Copy, Debug, PartialEq, Eq)]
+enum Wrong {
+    Nothing,
+    // Errors met in the field.
+    ComposesWholeLabel,
+    IgnoresFe0fFirst,
+    MapsTwice,
+    MapsBeforeValid,
+    StopsAtFirstConfused,
+    LeavesOldTail,
+    // Others.
+    FifteenEarly,
+    NsmPerToken,
+    NsmUnordered,
+    LeavesWorkArea,
+    WorkedLengthOffByOne,
+    ForgetsStopsInWorkedLength,
+    LabelNumberOffByOne,
+    PlaceInLabel,
+    SevenBeforeFive,
+    ValidListConfuses,
+    CountsLabelsOfAnswer,
+    LastGroup,
+    FirstMatch,
+    FiveRounds,
+    EightOverText,
+    RefusesEverything,
+    CopiesItsInput,
+    DoesNothing,
+}
+use Wrong::*;
+
+/// The rules of one label put together anew from the parts of the plain
+/// version, with one thing wrong.
+struct Assembled(Wrong);
+
+struct Form {
+    answer: Vec<u32>,
+    kind: Kind,
+    worked: usize,
+}
+
+impl Assembled {
+    fn is(&self, wrong: Wrong) -> bool {
+        self.0 == wrong
+    }
+
+    fn walk(&self, t: &Table, input: &[u32]) -> Result<Vec<Token>, usize> {
+        let mut tokens = Vec::new();
+        let mut text = Vec::new();
+        let mut at = 0;
+        while at < input.len() {
+            let mut found = t.find_emoji(&input[at..]);
+            if self.is(FirstMatch) {
+                let matches = |s: &&[u32]| plain::tokens::match_emoji(s, &input[at..]).filter(|&n| n > 0);
+                found = t.emoji.iter().enumerate().find_map(|(i, s)| matches(s).map(|n| (i, n)));
+            }
+            if let Some((record, taken)) = found {
+                if !text.is_empty() {
+                    tokens.push(Token::Text(std::mem::take(&mut text)));
+                }
+                tokens.push(Token::Emoji { record, taken });
+                at += taken;
+                continue;
+            }
+            let c = input[at];
+            if t.is_valid(c) && !(self.is(MapsBeforeValid) && t.mapping(c).is_some()) {
+                text.push(c);
+            } else if let Some(items) = t.mapping(c) {
+                for &item in items {
+                    match t.mapping(item) {
+                        Some(again) if self.is(MapsTwice) => text.extend(again),
+                        _ => text.push(item),
+                    }
+                }
+            } else if !t.is_ignored(c) {
+                return Err(at);
+            }
+            at += 1;
+        }
+        if !text.is_empty() {
+            tokens.push(Token::Text(text));
+        }
+        Ok(tokens)
+    }
+
+    fn decompose(&self, t: &Table, text: &[u32]) -> Vec<u32> {
+        let four = four_rounds(t, text);
+        if self.is(FiveRounds) {
+            return plain::text::one_round(t, &four);
+        }
+        four
+    }
+
+    /// Number and, for 5, the index in the label.
+    fn judge(&self, t: &Table, input: &[u32], before: usize) -> Result<Form, (u32, usize)> {
+        let limit = if self.is(WorkedLengthOffByOne) { 1025 } else { 1024 };
+        if self.is(SevenBeforeFive) && input.len() > 4 * limit / 2 {
+            return Err((7, 0));
+        }
+        let walked = self.walk(t, input).map_err(|index| (5, index))?;
+        if walked.is_empty() {
+            return Err((6, 0));
+        }
+        let mut worked = 0;
+        let mut tokens = Vec::new();
+        for token in &walked {
+            match token {
+                Token::Emoji { record, .. } => {
+                    let emoji = strip(t.emoji[*record]);
+                    worked += emoji.len();
+                    tokens.push(Finished::Emoji(emoji));
+                }
+                Token::Text(text) => {
+                    let mut decomposed = self.decompose(t, text);
+                    worked += decomposed.len();
+                    order(t, &mut decomposed);
+                    tokens.push(Finished::Text(compose(t, &decomposed)));
+                }
+            }
+            if before + worked > limit {
+                return Err((7, 0));
+            }
+        }
+        if self.is(ComposesWholeLabel) {
+            let all = plain::nfc(t, &label::joined_text(&tokens));
+            if tokens.iter().any(|t| matches!(t, Finished::Emoji(_))) && all != label::joined_text(&tokens) {
+                tokens = vec![Finished::Text(all)];
+            }
+        }
+        let kind = self.kind(t, &tokens).map_err(|number| (number, 0))?;
+        Ok(Form { answer: label::joined(&tokens), kind, worked })
+    }
+
+    fn kind(&self, t: &Table, tokens: &[Finished]) -> Result<Kind, u32> {
+        if tokens.iter().all(|token| matches!(token, Finished::Emoji(_))) {
+            return Ok(Kind::Emoji);
+        }
+        let text = label::joined_text(tokens);
+        let all = label::joined(tokens);
+        if label::low_line_after_other(if self.is(EightOverText) { &text } else { &all }) {
+            return Err(8);
+        }
+        if tokens.len() == 1 && all.iter().all(|&c| c < 0x80) {
+            return if label::hyphens_third_and_fourth(&all) { Err(9) } else { Ok(Kind::Ascii) };
+        }
+        if label::fenced_misplaced(t, &all) {
+            return Err(10);
+        }
+        if tokens.iter().any(|token| label::starts_with_mark(t, token)) {
+            return Err(11);
+        }
+        let holds = |g: &usize| text.iter().all(|&c| t.group_holds(*g, c));
+        let group = match self.0 {
+            LastGroup => (0..t.group_count()).rev().find(holds),
+            _ => (0..t.group_count()).find(holds),
+        };
+        let group = group.ok_or(12u32)?;
+        let flags = t.group_flags(group);
+        if flags & 2 == 0 {
+            let broken = match self.0 {
+                NsmPerToken => tokens.iter().any(|token| match token {
+                    Finished::Text(c) => label::nsm_run_broken(t, &plain::nfd(t, c)),
+                    Finished::Emoji(_) => false,
+                }),
+                NsmUnordered => label::nsm_run_broken(t, &four_rounds(t, &text)),
+                _ => {
+                    let mut decomposed = self.decompose(t, &text);
+                    order(t, &mut decomposed);
+                    label::nsm_run_broken(t, &decomposed)
+                }
+            };
+            if broken {
+                return Err(13);
+            }
+        }
+        if self.confusable(t, &text) {
+            return Err(14);
+        }
+        Ok(Kind::Group { number: group as u32, restricted: flags & 1 != 0 })
+    }
+
+    fn confusable(&self, t: &Table, text: &[u32]) -> bool {
+        let whole_of = |c: u32| {
+            if self.is(ValidListConfuses) {
+                return t.wholes.iter().find(|w| w.members().any(|m| m == c)).copied();
+            }
+            t.whole_of(c)
+        };
+        let Some(first) = text.iter().position(|&c| whole_of(c).is_some()) else {
+            return false;
+        };
+        (0..t.group_count()).any(|g| {
+            text.iter().enumerate().all(|(i, &c)| match whole_of(c) {
+                Some(_) if self.is(StopsAtFirstConfused) && i > first && c != text[first] => true,
+                Some(whole) => whole.members().any(|m| t.group_holds(g, m) && !label::in_extent(t, c, m)),
+                None => t.group_holds(g, c),
+            })
+        })
+    }
+
+    fn input_fault(&self, input: &[u32]) -> Result<(), (u32, usize)> {
+        if input.len() > 4096 {
+            return Err((3, 0));
+        }
+        match input.iter().position(|&c| !is_scalar(c)) {
+            Some(index) => Err((4, index)),
+            None => Ok(()),
+        }
+    }
+
+    fn whole_name(&self, input: &[u32], words: &[u32], room: usize, work: usize) -> Result<(Vec<u32>, usize), (u32, usize)> {
+        let table = parse(words).ok_or((1, 0))?;
+        if work < 2048 {
+            return Err((2, 0));
+        }
+        self.input_fault(input)?;
+        let filtered: Vec<u32>;
+        let input = if self.is(IgnoresFe0fFirst) {
+            filtered = input.iter().copied().filter(|&c| c != FE0F).collect();
+            &filtered[..]
+        } else {
+            input
+        };
+        let mut answer = Vec::new();
+        let mut labels = 0;
+        if input.is_empty() {
+            return Ok((answer, 0));
+        }
+        let mut worked = 0;
+        let mut start = 0;
+        for (i, part) in input.split(|&c| c == STOP).enumerate() {
+            if i > 0 {
+                answer.push(STOP);
+                worked += usize::from(!self.is(ForgetsStopsInWorkedLength));
+            }
+            let form = self.judge(&table, part, worked).map_err(|(number, index)| match number {
+                5 if self.is(PlaceInLabel) => (5, index),
+                5 => (5, start + index),
+                _ if self.is(LabelNumberOffByOne) => (number, i + 1),
+                _ => (number, i),
+            })?;
+            worked += form.worked;
+            start += part.len() + 1;
+            answer.extend(form.answer);
+            labels += 1;
+            if self.is(FifteenEarly) && answer.len() > room {
+                return Err((15, 0));
+            }
+        }
+        if self.is(CountsLabelsOfAnswer) {
+            labels = answer.split(|&c| c == STOP).count();
+        }
+        if answer.len() > room {
+            return Err((15, 0));
+        }
+        Ok((answer, labels))
+    }
+
+    fn one_label(&self, input: &[u32], words: &[u32], room: usize, work: usize) -> Result<(Vec<u32>, Kind), (u32, usize)> {
+        let table = parse(words).ok_or((1, 0))?;
+        if work < 2048 {
+            return Err((2, 0));
+        }
+        self.input_fault(input)?;
+        if let Some(stop) = input.iter().position(|&c| c == STOP) {
+            return Err((5, self.walk(&table, &input[..stop]).err().unwrap_or(stop)));
+        }
+        let form = self.judge(&table, input, 0)?;
+        if form.answer.len() > room {
+            return Err((15, 0));
+        }
+        Ok((form.answer, form.kind))
+    }
+
+    fn settle(&self, due: &[u32], answer: &mut [u32], work: &mut [u32]) {
+        if !self.is(LeavesOldTail) || due.is_empty() {
+            answer.fill(0);
+        }
+        if !self.is(LeavesWorkArea) {
+            work.fill(0);
+        }
+        answer[..due.len()].copy_from_slice(due);
+    }
+}
+
+impl Engine for Assembled {
+    fn name(&self, name: &[u32], table: &[u32], answer: &mut [u32], work: &mut [u32]) -> NameFlat {
+        match self.0 {
+            DoesNothing => return NameFlat::default(),
+            RefusesEverything => {
+                self.settle(&[], answer, work);
+                return NameFlat { refusal: 1, ..NameFlat::default() };
+            }
+            CopiesItsInput if name.len() <= answer.len() => {
+                self.settle(name, answer, work);
+                let labels = name.split(|&c| c == STOP).count() as u32;
+                return NameFlat { length: name.len() as u32, labels, ..NameFlat::default() };
+            }
+            _ => {}
+        }
+        let judged = self.whole_name(name, table, answer.len(), work.len());
+        self.settle(judged.as_ref().map_or(&[], |j| &j.0), answer, work);
+        flat_name(match judged {
+            Ok((due, labels)) => NameAnswer::Accepted { length: due.len(), labels },
+            Err((number, place)) => NameAnswer::Refused { number, place },
+        })
+    }
+    fn label(&self, label: &[u32], table: &[u32], answer: &mut [u32], work: &mut [u32]) -> LabelFlat {
+        let judged = self.one_label(label, table, answer.len(), work.len());
+        self.settle(judged.as_ref().map_or(&[], |j| &j.0), answer, work);
+        flat_label(match judged {
+            Ok((due, kind)) => LabelAnswer::Accepted { length: due.len(), kind },
+            Err((number, place)) => LabelAnswer::Refused { number, place },
+        })
+    }
+    fn soundness(&self, table: &[u32]) -> SoundnessFlat {
+        Plain.soundness(table)
+    }
+    fn unpack(&self, file: &[u8], answer: &mut [u32]) -> UnpackFlat {
+        Plain.unpack(file, answer)
+    }
+}
+
+/// What the tests run over: a tenth of the whole comparison.
+fn settings() -> Settings {
+    Settings { first_seed: 7_000, tables: 200, names_per_table: 100, files_per_table: 1, more_soundness: 0, keep: 3 }
+}
+
+/// With nothing wrong the assembled engine is the plain one.
+#[test]
+fn nothing_wrong_is_found_equal() {
+    let report = compare(&Plain, &Assembled(Nothing), &settings());
+    assert_eq!(report.counts.differences, 0, "{:?}", report.differences);
+}
+
+#[test]
+fn wrong_engines_are_found() {
+    let wrongs = [
+        ComposesWholeLabel,
+        IgnoresFe0fFirst,
+        MapsTwice,
+        MapsBeforeValid,
+        StopsAtFirstConfused,
+        LeavesOldTail,
+        FifteenEarly,
+        NsmPerToken,
+        NsmUnordered,
+        LeavesWorkArea,
+        WorkedLengthOffByOne,
+        ForgetsStopsInWorkedLength,
+        LabelNumberOffByOne,
+        PlaceInLabel,
+        SevenBeforeFive,
+        ValidListConfuses,
+        CountsLabelsOfAnswer,
+        LastGroup,
+        FirstMatch,
+        FiveRounds,
+        EightOverText,
+        RefusesEverything,
+        CopiesItsInput,
+        DoesNothing,
+    ];
+    for wrong in wrongs {
+        let report = compare(&Plain, &Assembled(wrong), &settings());
+        println!("{wrong:?}: {} differences", report.counts.differences);
+        assert!(report.counts.differences >= 3, "{wrong:?} is hardly found");
+        // A difference is printed with its seed, codepoints and words.
+        let text = &report.differences[0];
+        assert!(text.starts_with("seed ") && text.contains("table "), "{text}");
+    }
+}
+
+/// Each error met in the field fails on a named label of the small table.
+#[test]
+fn errors_met_in_the_field_fail() {
+    let words = gen::small_table().to_words();
+    let cases: [(Wrong, &[u32]); 6] = [
+        (ComposesWholeLabel, &[0x61, 0x1F4A9, 0x300]),
+        (IgnoresFe0fFirst, &[0x1F468, 0xFE0F, 0x200D, 0x2764, 0xFE0F, 0x200D, 0x1F468]),
+        (MapsTwice, &[0x5A]),
+        (MapsBeforeValid, &[0x7A]),
+        (StopsAtFirstConfused, &[0x442, 0x4D5]),
+        (LeavesOldTail, &[0x62, 0x61]),
+    ];
+    for (wrong, input) in cases {
+        let run = |engine: &dyn Engine| {
+            let (mut answer, mut work) = ([5; 9], [5; 2048]);
+            let flat = engine.name(input, &words, &mut answer, &mut work);
+            (flat, answer, work)
+        };
+        assert_eq!(run(&Plain), run(&Assembled(Nothing)), "{wrong:?}");
+        assert_ne!(run(&Plain), run(&Assembled(wrong)), "{wrong:?}");
+    }
+}
