@@ -21,7 +21,7 @@ pub struct Settings {
 
 impl Default for Settings {
     fn default() -> Settings {
-        Settings { first_seed: 1, tables: 2_000, names_per_table: 100, files_per_table: 4, more_soundness: 2_500, keep: 20 }
+        Settings { first_seed: 1, tables: 2_000, names_per_table: 100, files_per_table: 4, more_soundness: 3_000, keep: 20 }
     }
 }
 
@@ -120,6 +120,12 @@ impl Report {
             self.differences.push(text());
         }
     }
+}
+
+/// Prints a line that the test runner does not hold back.
+pub fn say(text: impl fmt::Display) {
+    use std::io::Write;
+    writeln!(std::io::stdout().lock(), "{text}").expect("standard output");
 }
 
 pub fn hex(words: &[u32]) -> String {

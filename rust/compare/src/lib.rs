@@ -8,5 +8,5 @@ pub mod plain_engine;
 
 pub use again::{again, joining, AgainCounts, JoinCounts};
 pub use engine::{Engine, LabelFlat, NameFlat, SoundnessFlat, UnpackFlat};
-pub use harness::{compare, Counts, Report, Settings};
+pub use harness::{compare, say, Counts, Report, Settings};
 pub use plain_engine::{Indexed, Plain};

@@ -1,6 +1,6 @@
 //! The random comparison and demand 3, on the plain engine.
 
-use compare::{again, compare, joining, Indexed, Plain, Settings};
+use compare::{again, compare, joining, say, Indexed, Plain, Settings};
 
 /// The generators reach everything that the comparison asks for, and the index
 /// gives what reading from the front gives.
@@ -9,9 +9,9 @@ fn counts_are_reached() {
     let settings = Settings::default();
     assert!(settings.tables >= 2_000 && settings.tables * settings.names_per_table as u64 >= 200_000);
     let report = compare(&Plain, &Indexed, &settings);
-    println!("{}", report.counts);
+    say(&report.counts);
     for difference in &report.differences {
-        println!("{difference}");
+        say(difference);
     }
     assert_eq!(report.counts.differences, 0);
     assert_eq!(report.counts.missing(), Vec::<String>::new());
@@ -29,7 +29,7 @@ fn seeds_repeat() {
 #[test]
 fn doing_it_again_changes_nothing() {
     let counts = again(&Plain, 1_000_000, 100_000, 150);
-    println!("{counts}");
+    say(&counts);
     assert!(counts.accepted >= 100_000);
     assert!(4 * counts.changed >= counts.accepted, "a quarter changes");
     assert!(4 * counts.emoji >= counts.accepted, "a quarter holds emoji");
@@ -40,8 +40,58 @@ fn doing_it_again_changes_nothing() {
 #[test]
 fn joining_joins() {
     let counts = joining(&Plain, 2_000_000, 1_200, 50);
-    println!("{counts}");
+    say(&counts);
     assert!(counts.accepted >= 20_000);
     assert!(counts.refused.iter().all(|&n| n >= 100), "every limit is reached");
     assert!(counts.tables - counts.sound_tables >= 300, "unsound tables too");
+}
+
+/// Every lookup of the index is that of the table.
+#[test]
+fn index_equals_table() {
+    use gen::Rng;
+    use plain::{parse, Index, Lookup};
+    let mut asked = 0u64;
+    for seed in 3_000_000..3_000_400 {
+        let mut rng = Rng::new(seed);
+        let words = gen::table(&mut rng).words;
+        let Some(table) = parse(&words) else { continue };
+        let index = Index::new(&table);
+        // Every word of the table, its neighbours and the edges.
+        let mut codes: Vec<u32> = words.iter().flat_map(|&w| [w.wrapping_sub(1), w, w.wrapping_add(1)]).collect();
+        codes.extend([0, 0x2E, 0xFE0F, 0x10FFFF, 0x110000, u32::MAX]);
+        codes.sort_unstable();
+        codes.dedup();
+        for &c in &codes {
+            assert_eq!(table.is_valid(c), index.is_valid(c), "seed {seed}, {c:X}");
+            assert_eq!(table.is_ignored(c), index.is_ignored(c), "seed {seed}, {c:X}");
+            assert_eq!(table.is_fenced(c), index.is_fenced(c), "seed {seed}, {c:X}");
+            assert_eq!(table.is_mark(c), index.is_mark(c), "seed {seed}, {c:X}");
+            assert_eq!(table.is_nsm(c), index.is_nsm(c), "seed {seed}, {c:X}");
+            assert_eq!(table.mapping(c), index.mapping(c), "seed {seed}, {c:X}");
+            assert_eq!(table.decomposition(c), index.decomposition(c), "seed {seed}, {c:X}");
+            assert_eq!(table.class(c), index.class(c), "seed {seed}, {c:X}");
+            assert_eq!(table.whole_of(c), index.whole_of(c), "seed {seed}, {c:X}");
+            for group in 0..table.group_count().min(20) {
+                assert_eq!(table.group_holds(group, c), index.group_holds(group, c), "seed {seed}, {c:X}");
+            }
+            asked += 1;
+        }
+        for r in &table.decompositions {
+            let (a, b) = (r.items[0], *r.items.last().unwrap());
+            assert_eq!(table.composite(a, b), index.composite(a, b), "seed {seed}, {a:X} {b:X}");
+        }
+        for _ in 0..200 {
+            let mut rest: Vec<u32> = Vec::new();
+            if !table.emoji.is_empty() {
+                rest.extend(*rng.pick(&table.emoji));
+            }
+            rest.push(*rng.pick(&codes));
+            let at = rng.below(rest.len());
+            rest.remove(at);
+            assert_eq!(table.find_emoji(&rest), index.find_emoji(&rest), "seed {seed}, {rest:X?}");
+        }
+    }
+    say(format!("index: {asked} codepoints"));
+    assert!(asked > 50_000);
 }

@@ -2,7 +2,7 @@
 
 use compare::engine::*;
 use compare::plain_engine::{flat_label, flat_name};
-use compare::{compare, Engine, Plain, Settings};
+use compare::{compare, say, Engine, Plain, Settings};
 use plain::label::{self, Finished};
 use plain::text::{compose, four_rounds, order};
 use plain::tokens::strip;
@@ -11,6 +11,8 @@ use plain::*;
 #[derive(Clone, Copy, Debug, PartialEq, Eq)]
 enum Wrong {
     Nothing,
+    /// Not wrong: the look-alike test in the source document's own steps.
+    AsTheSource,
     // Errors met in the field.
     ComposesWholeLabel,
     IgnoresFe0fFirst,
@@ -191,6 +193,9 @@ impl Assembled {
     }
 
     fn confusable(&self, t: &Table, text: &[u32]) -> bool {
+        if self.is(AsTheSource) {
+            return source_confusable(t, text);
+        }
         let whole_of = |c: u32| {
             if self.is(ValidListConfuses) {
                 return t.wholes.iter().find(|w| w.members().any(|m| m == c)).copied();
@@ -294,6 +299,34 @@ impl Assembled {
     }
 }
 
+/// The steps of the source document, with the early exits where no group
+/// remains and at a Unique character.
+fn source_confusable(t: &Table, text: &[u32]) -> bool {
+    let mut groups: Vec<usize> = (0..t.group_count()).collect();
+    let mut buffer = Vec::new();
+    let mut found = false;
+    let mut seen = Vec::new();
+    for &c in text {
+        if seen.contains(&c) {
+            continue;
+        }
+        seen.push(c);
+        if let Some(whole) = t.whole_of(c) {
+            found = true;
+            let others: Vec<u32> = whole.members().filter(|&m| !label::in_extent(t, c, m)).collect();
+            groups.retain(|&g| others.iter().any(|&m| t.group_holds(g, m)));
+            if groups.is_empty() {
+                return false;
+            }
+        } else if (0..t.group_count()).filter(|&g| t.group_holds(g, c)).count() == 1 {
+            return false;
+        } else {
+            buffer.push(c);
+        }
+    }
+    found && groups.iter().any(|&g| buffer.iter().all(|&c| t.group_holds(g, c)))
+}
+
 impl Engine for Assembled {
     fn name(&self, name: &[u32], table: &[u32], answer: &mut [u32], work: &mut [u32]) -> NameFlat {
         match self.0 {
@@ -337,11 +370,109 @@ fn settings() -> Settings {
     Settings { first_seed: 7_000, tables: 200, names_per_table: 100, files_per_table: 1, more_soundness: 0, keep: 3 }
 }
 
-/// With nothing wrong the assembled engine is the plain one.
+/// With nothing wrong the assembled engine is the plain one; and the source's
+/// early exit at a Unique character changes no answer.
 #[test]
 fn nothing_wrong_is_found_equal() {
-    let report = compare(&Plain, &Assembled(Nothing), &settings());
-    assert_eq!(report.counts.differences, 0, "{:?}", report.differences);
+    for engine in [Nothing, AsTheSource] {
+        let settings = Settings { tables: 400, ..settings() };
+        let report = compare(&Plain, &Assembled(engine), &settings);
+        assert_eq!(report.counts.differences, 0, "{:?}", report.differences);
+    }
+}
+
+#[derive(Clone, Copy, Debug)]
+enum WrongCheck {
+    EverySound,
+    HighestRule,
+    ValidOneWay,
+    FiveFirstSentence,
+    SixRoundsOnly,
+    SevenWithoutHangul,
+    LengthBeforeVersion,
+    RoomBeforeLength,
+    LeavesWords,
+}
+
+/// The plain calls with another soundness check or unpacking.
+struct Checks(WrongCheck);
+
+impl Engine for Checks {
+    fn name(&self, name: &[u32], table: &[u32], answer: &mut [u32], work: &mut [u32]) -> NameFlat {
+        Plain.name(name, table, answer, work)
+    }
+    fn label(&self, label: &[u32], table: &[u32], answer: &mut [u32], work: &mut [u32]) -> LabelFlat {
+        Plain.label(label, table, answer, work)
+    }
+    fn soundness(&self, words: &[u32]) -> SoundnessFlat {
+        let Some(table) = parse(words) else {
+            return if let WrongCheck::EverySound = self.0 { SOUND } else { SoundnessFlat(0) };
+        };
+        let index = Index::new(&table);
+        let broken = |rule: u32| plain::soundness::broken(&index, rule).is_some();
+        let hangul_pair = |r: &Record| {
+            matches!(*r.items, [a, b] if plain::text::hangul_composite(a, b).is_some())
+        };
+        let judged = |rule: u32| match (self.0, rule) {
+            (WrongCheck::EverySound, _) => false,
+            (WrongCheck::ValidOneWay, 2) => {
+                let of_groups = Ranges::new(table.groups.iter().flat_map(|g| g.pairs.iter()));
+                of_groups.least_outside(index.valid()).is_some()
+            }
+            (WrongCheck::FiveFirstSentence, 5) => {
+                table.emoji.iter().any(|s| matches!(strip(s)[..], [c] if index.is_valid(c)))
+            }
+            (WrongCheck::SixRoundsOnly, 6) => table.decompositions.iter().any(|r| {
+                let four = four_rounds(&table, &[r.head]);
+                plain::text::one_round(&table, &four) != four
+            }),
+            (WrongCheck::SevenWithoutHangul, 7) => broken(7) && !table.decompositions.iter().any(hangul_pair),
+            _ => broken(rule),
+        };
+        let rule = match self.0 {
+            WrongCheck::HighestRule => (1..=7).rev().find(|&rule| judged(rule)),
+            _ => (1..=7).find(|&rule| judged(rule)),
+        };
+        rule.map_or(SOUND, SoundnessFlat)
+    }
+    fn unpack(&self, file: &[u8], answer: &mut [u32]) -> UnpackFlat {
+        let old = answer.to_vec();
+        let right = Plain.unpack(file, answer);
+        let count = file.get(1..5).map(|b| u32::from_be_bytes([b[0], b[1], b[2], b[3]]));
+        let fits = count.is_some_and(|n| file.len() as u64 == 5 + 4 * u64::from(n));
+        match self.0 {
+            WrongCheck::LengthBeforeVersion if right.refusal == 20 && !fits => UnpackFlat { refusal: 21, count: 0 },
+            WrongCheck::RoomBeforeLength if right.refusal == 21 && count.is_some_and(|n| n as usize > old.len()) => {
+                UnpackFlat { refusal: 22, count: 0 }
+            }
+            WrongCheck::LeavesWords => {
+                answer[right.count as usize..].copy_from_slice(&old[right.count as usize..]);
+                right
+            }
+            _ => right,
+        }
+    }
+}
+
+#[test]
+fn wrong_checks_are_found() {
+    use WrongCheck::*;
+    let settings = Settings { tables: 300, names_per_table: 0, files_per_table: 4, more_soundness: 300, ..settings() };
+    for wrong in [
+        EverySound,
+        HighestRule,
+        ValidOneWay,
+        FiveFirstSentence,
+        SixRoundsOnly,
+        SevenWithoutHangul,
+        LengthBeforeVersion,
+        RoomBeforeLength,
+        LeavesWords,
+    ] {
+        let report = compare(&Plain, &Checks(wrong), &settings);
+        say(format!("{wrong:?}: {} differences", report.counts.differences));
+        assert!(report.counts.differences >= 3, "{wrong:?} is hardly found");
+    }
 }
 
 #[test]
@@ -374,7 +505,7 @@ fn wrong_engines_are_found() {
     ];
     for wrong in wrongs {
         let report = compare(&Plain, &Assembled(wrong), &settings());
-        println!("{wrong:?}: {} differences", report.counts.differences);
+        say(format!("{wrong:?}: {} differences", report.counts.differences));
         assert!(report.counts.differences >= 3, "{wrong:?} is hardly found");
         // A difference is printed with its seed, codepoints and words.
         let text = &report.differences[0];

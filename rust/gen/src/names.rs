@@ -197,6 +197,9 @@ impl Vocabulary {
                 let c = Self::one(rng, &self.ascii);
                 self.spell(rng, c, 0, &mut out);
             }
+            if rng.percent(8) && out.len() > 3 {
+                out[2..4].fill(0x2D);
+            }
             if rng.percent(20) && !self.mapped.is_empty() {
                 let at = rng.below(out.len() + 1);
                 out.insert(at, rng.pick(&self.mapped).0);

@@ -323,7 +323,10 @@ fn draft(rng: &mut Rng) -> TableBuilder {
             .map(|_| match rng.below(10) {
                 0..=2 if !heads.is_empty() => *rng.pick(&heads),
                 // Something valid that has a mapping of its own.
-                3 | 4 => b.mapped.iter().map(|m| m.0).filter(|&c| valid.holds(c)).last().unwrap_or_else(|| sample(rng)),
+                3 | 4 => {
+                    let heads: Vec<u32> = b.mapped.iter().map(|m| m.0).filter(|&c| valid.holds(c)).collect();
+                    heads.last().copied().unwrap_or_else(|| sample(rng))
+                }
                 _ => sample(rng),
             })
             .collect();
@@ -838,7 +841,7 @@ pub fn table(rng: &mut Rng) -> Made {
         0..=37 => {}
         38..=44 => {}
         45..=84 => {
-            let rule = rng.code(1, 7);
+            let rule = *rng.pick(&[1, 2, 3, 4, 4, 5, 5, 6, 6, 7, 7]);
             what.push(break_rule(rng, &mut builder, rule));
             while rng.percent(20) {
                 let rule = rng.code(rule, 7);

@@ -61,7 +61,7 @@ pub fn broken(index: &Index, rule: u32) -> Option<String> {
     }
 }
 
-/// 1. Every codepoint named, those inside pairs and triples included, is a
+/// Rule 1: Every codepoint named, those inside pairs and triples included, is a
 /// Unicode scalar value.
 fn scalar_values(table: &Table) -> Option<String> {
     let bad_range = |first: u32, last: u32| last > 0x10FFFF || (first <= 0xDFFF && last >= 0xD800);
@@ -111,7 +111,7 @@ fn needed(index: &Index) -> Ranges {
     Ranges::new(pairs)
 }
 
-/// 2. Valid is exactly the groups' characters and those of their full
+/// Rule 2: Valid is exactly the groups' characters and those of their full
 /// decompositions; 2E and FE0F are not among them.
 fn valid_is_what_groups_need(index: &Index) -> Option<String> {
     let needed = needed(index);
@@ -124,14 +124,14 @@ fn valid_is_what_groups_need(index: &Index) -> Option<String> {
     [STOP, FE0F].into_iter().find(|&c| index.is_valid(c)).map(|c| format!("valid: {c:X}"))
 }
 
-/// 3. Every item of a mapping is valid.
+/// Rule 3: Every item of a mapping is valid.
 fn mapping_items_valid(index: &Index) -> Option<String> {
     let bad = |items: &[u32]| items.iter().any(|&c| !index.is_valid(c));
     let record = index.table().mapped.iter().find(|r| bad(r.items))?;
     Some(format!("mapped: {:X} = {}", record.head, hex(record.items)))
 }
 
-/// 4. No emoji sequence holds 2E, starts with FE0F or has two FE0F together;
+/// Rule 4: No emoji sequence holds 2E, starts with FE0F or has two FE0F together;
 /// stripped, no two are equal.
 fn emoji_well_formed(table: &Table) -> Option<String> {
     let mut seen = HashSet::new();
@@ -147,7 +147,7 @@ fn emoji_well_formed(table: &Table) -> Option<String> {
     None
 }
 
-/// 5. No valid codepoint is alone a stripped sequence. Where a proper start
+/// Rule 5: No valid codepoint is alone a stripped sequence. Where a proper start
 /// of a stripped sequence is itself one, or is one valid codepoint, the next
 /// codepoint is neither valid nor first of any sequence.
 fn emoji_apart_from_text(index: &Index) -> Option<String> {
@@ -170,7 +170,7 @@ fn emoji_apart_from_text(index: &Index) -> Option<String> {
     None
 }
 
-/// 6. Four rounds decompose fully: a fifth changes nothing. Heads are
+/// Rule 6: Four rounds decompose fully: a fifth changes nothing. Heads are
 /// distinct; no head is ASCII, a Hangul syllable or a jamo; no class entry
 /// gives a jamo or a syllable a class other than 0.
 fn decomposes_fully(index: &Index) -> Option<String> {
@@ -197,7 +197,7 @@ fn decomposes_fully(index: &Index) -> Option<String> {
     None
 }
 
-/// 7. No two composition pairs are equal, and none is a Hangul pair.
+/// Rule 7: No two composition pairs are equal, and none is a Hangul pair.
 fn pairs_distinct(index: &Index) -> Option<String> {
     let table = index.table();
     let excluded: HashSet<u32> = table.exclusions.iter().copied().collect();
