@@ -1,0 +1,205 @@
+//! The published shapes of `spec.json` and `nf.json`.
+
+use crate::json::{self, Value};
+use std::collections::HashMap;
+
+#[derive(Clone, Debug, PartialEq, Eq)]
+pub struct Group {
+    pub name: String,
+    pub restricted: bool,
+    pub whitelisted: bool,
+    /// Primary and secondary.
+    pub characters: Vec<u32>,
+}
+
+impl Group {
+    /// 1 is restricted, 2 is CM whitelisted.
+    pub fn flags(&self) -> u32 {
+        u32::from(self.restricted) + 2 * u32::from(self.whitelisted)
+    }
+}
+
+#[derive(Clone, Debug, PartialEq, Eq)]
+pub struct Whole {
+    pub valid: Vec<u32>,
+    pub confused: Vec<u32>,
+}
+
+/// What a table needs of `spec.json`. Its valid characters follow from the
+/// groups; `escape` and `nfc_check` have no part in a table.
+#[derive(Clone, Debug, PartialEq, Eq)]
+pub struct Spec {
+    pub emoji: Vec<Vec<u32>>,
+    pub mapped: Vec<(u32, Vec<u32>)>,
+    pub ignored: Vec<u32>,
+    pub fenced: Vec<u32>,
+    pub groups: Vec<Group>,
+    pub wholes: Vec<Whole>,
+    pub cm: Vec<u32>,
+    pub nsm: Vec<u32>,
+}
+
+#[derive(Clone, Debug, PartialEq, Eq)]
+pub struct Nf {
+    pub exclusions: Vec<u32>,
+    pub decomp: Vec<(u32, Vec<u32>)>,
+    /// By combining class, ascending; class 0 is not among them.
+    pub ranks: Vec<Vec<u32>>,
+}
+
+fn key<'v>(v: &'v Value, name: &str) -> Result<&'v Value, String> {
+    v.get(name).ok_or_else(|| format!("{name} is missing"))
+}
+
+fn list<'v>(v: &'v Value, what: &str) -> Result<&'v [Value], String> {
+    v.list().ok_or_else(|| format!("{what}: a list is expected"))
+}
+
+fn number(v: &Value, what: &str) -> Result<u32, String> {
+    v.number().ok_or_else(|| format!("{what}: a codepoint is expected"))
+}
+
+fn codepoints(v: &Value, what: &str) -> Result<Vec<u32>, String> {
+    list(v, what)?.iter().map(|c| number(c, what)).collect()
+}
+
+fn rows<T>(v: &Value, what: &str, row: impl Fn(&Value) -> Result<T, String>) -> Result<Vec<T>, String> {
+    let place = |i: usize, fault: String| format!("{what}, row {i}: {fault}");
+    list(v, what)?.iter().enumerate().map(|(i, r)| row(r).map_err(|fault| place(i, fault))).collect()
+}
+
+/// A row [head, [items]], with at least one and at most `most` items.
+fn record(v: &Value, most: usize) -> Result<(u32, Vec<u32>), String> {
+    let [head, items] = list(v, "record")? else {
+        return Err("head and items are expected".into());
+    };
+    let (head, items) = (number(head, "head")?, codepoints(items, "items")?);
+    if items.is_empty() || items.len() > most {
+        return Err(format!("{head:X} has {} items; a table takes 1 to {most}", items.len()));
+    }
+    Ok((head, items))
+}
+
+/// A codepoint, or a row [codepoint, name].
+fn fenced(v: &Value) -> Result<u32, String> {
+    match v.list() {
+        Some([c, ..]) => number(c, "codepoint"),
+        _ => number(v, "codepoint"),
+    }
+}
+
+fn group(v: &Value) -> Result<Group, String> {
+    let name = key(v, "name")?.text().ok_or("the name is no string")?.to_string();
+    let restricted = match v.get("restricted") {
+        None | Some(Value::Null) => false,
+        Some(flag) => flag.boolean().ok_or("restricted is no boolean")?,
+    };
+    // ENSIP-15: CM whitelisted is effectively true where "cm" is []. A list with
+    // compound sequences is more than a table can say.
+    let whitelisted = match v.get("cm") {
+        None | Some(Value::Null) => false,
+        Some(cm) if list(cm, "cm")?.is_empty() => true,
+        Some(_) => return Err(format!("group {name} has compound sequences, which a table cannot hold")),
+    };
+    let mut characters = codepoints(key(v, "primary")?, "primary")?;
+    characters.extend(codepoints(key(v, "secondary")?, "secondary")?);
+    Ok(Group { name, restricted, whitelisted, characters })
+}
+
+fn whole(v: &Value) -> Result<Whole, String> {
+    Ok(Whole {
+        valid: codepoints(key(v, "valid")?, "valid")?,
+        confused: codepoints(key(v, "confused")?, "confused")?,
+    })
+}
+
+impl Spec {
+    pub fn read(text: &str) -> Result<Spec, String> {
+        let v = json::read(text)?;
+        let max = key(&v, "nsm_max")?.number();
+        if max != Some(4) {
+            return Err("nsm_max is not 4, the limit of the rules".into());
+        }
+        Ok(Spec {
+            emoji: rows(key(&v, "emoji")?, "emoji", |r| {
+                let items = codepoints(r, "sequence")?;
+                match items.len() {
+                    1..=32 => Ok(items),
+                    n => Err(format!("{n} codepoints; a table takes 1 to 32")),
+                }
+            })?,
+            mapped: rows(key(&v, "mapped")?, "mapped", |r| record(r, 32))?,
+            ignored: codepoints(key(&v, "ignored")?, "ignored")?,
+            fenced: rows(key(&v, "fenced")?, "fenced", fenced)?,
+            groups: rows(key(&v, "groups")?, "groups", group)?,
+            wholes: rows(key(&v, "wholes")?, "wholes", whole)?,
+            cm: codepoints(key(&v, "cm")?, "cm")?,
+            nsm: codepoints(key(&v, "nsm")?, "nsm")?,
+        })
+    }
+
+    /// The number of a group, by its name.
+    pub fn group_number(&self, name: &str) -> Option<usize> {
+        self.groups.iter().position(|g| g.name == name)
+    }
+}
+
+impl Nf {
+    /// Decompositions are taken as they stand. The published ones are single
+    /// steps, of two items at most; composition pairs come from these.
+    pub fn read(text: &str) -> Result<Nf, String> {
+        let v = json::read(text)?;
+        let ranks = rows(key(&v, "ranks")?, "ranks", |r| codepoints(r, "rank"))?;
+        if ranks.len() > 255 {
+            return Err(format!("{} ranks; a table takes 255", ranks.len()));
+        }
+        Ok(Nf {
+            exclusions: codepoints(key(&v, "exclusions")?, "exclusions")?,
+            decomp: rows(key(&v, "decomp")?, "decomp", |r| record(r, 4))?,
+            ranks,
+        })
+    }
+
+    pub fn by_head(&self) -> HashMap<u32, &[u32]> {
+        let mut out = HashMap::new();
+        for (head, items) in &self.decomp {
+            out.entry(*head).or_insert(items.as_slice());
+        }
+        out
+    }
+}
+
+#[cfg(test)]
+mod tests {
+    use super::*;
+
+    const SPEC: &str = r#"{"created":"x","unicode":"16","emoji":[[35,65039,8419]],"mapped":[[65,[97]]],
+        "ignored":[173],"fenced":[8217,[8260,"Fraction Slash"]],
+        "groups":[{"name":"A","primary":[97],"secondary":[48],"cm":[]},
+                  {"name":"B","restricted":true,"primary":[98],"secondary":[]}],
+        "wholes":[{"target":"a","valid":[97],"confused":[1072]}],
+        "cm":[768],"nsm":[768],"nsm_max":4}"#;
+
+    #[test]
+    fn reads_both_shapes_of_fenced_and_the_flags() {
+        let spec = Spec::read(SPEC).unwrap();
+        assert_eq!(spec.fenced, [8217, 8260]);
+        assert_eq!(spec.groups[0].flags(), 2);
+        assert_eq!(spec.groups[1].flags(), 1);
+        assert_eq!(spec.groups[0].characters, [97, 48]);
+        assert_eq!(spec.group_number("B"), Some(1));
+        assert_eq!(spec.wholes[0].confused, [1072]);
+    }
+
+    #[test]
+    fn refuses_what_a_table_cannot_hold() {
+        let with = |old: &str, new: &str| Spec::read(&SPEC.replace(old, new)).unwrap_err();
+        assert!(with("\"nsm_max\":4", "\"nsm_max\":5").contains("nsm_max"));
+        assert!(with("\"cm\":[]", "\"cm\":[[97,768]]").contains("compound"));
+        assert!(with("[[65,[97]]]", "[[65,[]]]").contains("row 0"));
+        assert!(with("\"ignored\":[173],", "").contains("ignored"));
+        assert!(with("[173]", "[-1]").contains("codepoint"));
+        let nf = r#"{"exclusions":[],"decomp":[[192,[65,768,1,2,3]]],"ranks":[]}"#;
+        assert!(Nf::read(nf).unwrap_err().contains("1 to 4"));
+    }
+}
