@@ -1,12 +1,13 @@
 #!/usr/bin/env python3
 """Derive stand-in files of the published ENSIP-15 shapes from Unicode 16.0 data.
 
-usage: derive.py UNICODE_FOLDER [OUT_FOLDER]
+usage: derive.py UNICODE_FOLDER [DATA_FOLDER]
 
 UNICODE_FOLDER holds UnicodeData.txt, ppucd.txt, DerivedNormalizationProps.txt,
-IdnaMappingTable.txt, emoji-sequences.txt, emoji-zwj-sequences.txt and
-confusables.txt of Unicode 16.0.  OUT_FOLDER (default: data/standin beside this
-tool's folder) receives spec.json and nf.json.
+IdnaMappingTable.txt, emoji-sequences.txt, emoji-zwj-sequences.txt,
+confusables.txt and NormalizationTest.txt of Unicode 16.0.  DATA_FOLDER (default:
+the data folder of the repository) receives standin/spec.json, standin/nf.json and
+unicode/NormalizationTest.txt, the last one shortened.
 
 The rules are those of the "Derivation" part of ENSIP-15.  That part leaves
 several lists open; every choice made here in place of one is marked GUESS and
@@ -470,8 +471,9 @@ class Derivation:
             p = tuple(ord(chr(x).lower()) if x < 0x80 else x for x in p)
             if c < 0x80:
                 p = (c,)                  # ASCII characters stay apart
-            elif ch.scx == ("Zyyy",):
-                continue                  # GUESS: Common would join every extent
+            elif ch.scx == ("Zyyy",) or ch.gc[0] == "P":
+                continue                  # GUESS: Common would join every extent, and the
+                                          # source takes names with 30FB for valid
             classes.setdefault(p, set()).add(c)
         classes[(0x78,)].add(0x4B3)       # the source's extent of 445
         self.whole_list = []
@@ -541,6 +543,23 @@ class Derivation:
         return "\n".join(out) + "\n}\n"
 
 
+def normalization_test(folder):
+    """NormalizationTest.txt: the lines @Part0 to @Part5 and the five columns of each
+    test, without leading zeros; the last two are left out where they repeat the two
+    before them."""
+    out = []
+    for line in lines(folder, "NormalizationTest.txt"):
+        line = line.split("#", 1)[0].strip()
+        if line.startswith("@"):
+            out.append(line)
+        elif line:
+            columns = line.split(";")[:5]
+            if columns[3:] == columns[1:3]:
+                del columns[3:]
+            out.append(";".join(" ".join("%X" % c for c in cps(x)) for x in columns))
+    return "\n".join(out) + "\n"
+
+
 def nums(xs):
     return ",".join(str(x) for x in xs)
 
@@ -564,11 +583,13 @@ def main():
     if len(sys.argv) not in (2, 3):
         sys.exit(__doc__)
     here = os.path.dirname(os.path.abspath(__file__))
-    out = sys.argv[2] if len(sys.argv) == 3 else os.path.join(here, os.pardir, "data", "standin")
+    out = sys.argv[2] if len(sys.argv) == 3 else os.path.join(here, os.pardir, "data")
     d = Derivation(sys.argv[1])
-    os.makedirs(out, exist_ok=True)
-    for name, text in (("spec.json", d.spec()), ("nf.json", d.nf())):
-        with open(os.path.join(out, name), "w", encoding="ascii", newline="\n") as f:
+    for name, text in (("standin/spec.json", d.spec()), ("standin/nf.json", d.nf()),
+                       ("unicode/NormalizationTest.txt", normalization_test(sys.argv[1]))):
+        path = os.path.join(out, *name.split("/"))
+        os.makedirs(os.path.dirname(path), exist_ok=True)
+        with open(path, "w", encoding="ascii", newline="\n") as f:
             f.write(text)
     print("groups %d, emoji %d, mapped %d, ignored %d, valid %d, wholes %d" % (
         len(d.group_list), len(d.emoji_list), len(d.mapped), len(d.ignored),
