@@ -147,13 +147,17 @@ impl Reduction {
         let wholes: Vec<Whole> = wholes.collect();
         out.wholes = wholes;
 
-        // Decompositions that a text can need: of what is valid, and to it.
+        // Decompositions that a text can need: of what is valid, and pairs of what
+        // is valid, excluded ones with their exclusion.
         let by_head = nf.by_head();
         let mut small = nf.clone();
-        small.decomp.retain(|(head, _)| full_decomposition(&by_head, *head).iter().all(|c| keep.contains(c)));
+        small.decomp.retain(|(head, items)| {
+            let used = keep.contains(head) || items.len() == 2;
+            used && full_decomposition(&by_head, *head).iter().all(|c| keep.contains(c))
+        });
         let heads: BTreeSet<u32> = small.decomp.iter().map(|(head, _)| *head).collect();
         small.exclusions.retain(|c| heads.contains(c));
-        // A head has the class of nothing valid, but a composition pair asks for it.
+        // A head that is not valid keeps its class: a composition pair asks for it.
         for rank in &mut small.ranks {
             rank.retain(|c| keep.contains(c) || heads.contains(c));
         }
