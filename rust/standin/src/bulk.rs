@@ -1,0 +1,236 @@
+//! Every codepoint, and random names of real characters.
+
+use crate::desk::{Desk, Kind, Name, Refusal};
+use crate::Made;
+use compare::Engine;
+use gen::Rng;
+use std::collections::BTreeMap;
+
+/// What a run met.
+#[derive(Clone, Debug, Default, PartialEq, Eq)]
+pub struct Counts {
+    pub accepted: usize,
+    pub changed: usize,
+    pub emoji: usize,
+    pub ascii: usize,
+    /// Labels of each group.
+    pub groups: BTreeMap<u32, usize>,
+    pub refused: BTreeMap<u32, usize>,
+}
+
+impl Counts {
+    fn add(&mut self, name: &[u32], result: &Result<Name, Refusal>, kinds: &[Kind]) {
+        match result {
+            Ok(n) => {
+                self.accepted += 1;
+                self.changed += usize::from(n.answer != name);
+            }
+            Err((number, _)) => *self.refused.entry(*number).or_default() += 1,
+        }
+        for kind in kinds {
+            match kind {
+                Kind::Emoji => self.emoji += 1,
+                Kind::Ascii => self.ascii += 1,
+                Kind::Group { number, .. } => *self.groups.entry(*number).or_default() += 1,
+            }
+        }
+    }
+
+    /// How often a refusal was met.
+    pub fn refusals(&self, number: u32) -> usize {
+        self.refused.get(&number).copied().unwrap_or(0)
+    }
+}
+
+/// One name through the name call and, where it has no stop, the label call,
+/// by `engine` and by `reference`; an accepted answer once more.
+fn one(desk: &mut Desk, reference: &mut Option<Desk>, name: &[u32], counts: &mut Counts) {
+    let result = desk.name(name);
+    let kinds = match &result {
+        Ok(first) => desk.again(name, first),
+        Err(_) => Vec::new(),
+    };
+    let label = desk.label(name);
+    if let Some(reference) = reference {
+        assert_eq!(result, reference.name(name), "the name call and {name:X?}");
+        assert_eq!(label, reference.label(name), "the label call and {name:X?}");
+    }
+    // A name without a stop is one label: both calls agree but for the empty one.
+    if !name.is_empty() && !name.contains(&plain::STOP) {
+        match (&result, &label) {
+            (Ok(n), Ok(l)) => assert_eq!((&n.answer, n.labels), (&l.answer, 1), "{name:X?}"),
+            (Err(a), Err(b)) => assert_eq!(a, b, "{name:X?}"),
+            _ => panic!("the calls disagree on {name:X?}: {result:?}, {label:?}"),
+        }
+    }
+    counts.add(name, &result, &kinds);
+}
+
+/// Every codepoint of these as a name and as a label. Numbers that are no
+/// scalar values have to be refused as 4, and 2E as no label.
+pub fn codepoints(
+    engine: &dyn Engine,
+    reference: Option<&dyn Engine>,
+    table: &[u32],
+    of: impl Iterator<Item = u32>,
+) -> Counts {
+    let mut desk = Desk::new(engine, table);
+    let mut reference = reference.map(|r| Desk::new(r, table));
+    let mut counts = Counts::default();
+    for c in of {
+        one(&mut desk, &mut reference, &[c], &mut counts);
+        if !plain::is_scalar(c) {
+            assert_eq!(desk.name(&[c]), Err((4, 0)));
+        } else if c == plain::STOP {
+            assert_eq!(desk.name(&[c]), Err((6, 0)));
+            assert_eq!(desk.label(&[c]), Err((5, 0)));
+        }
+    }
+    counts
+}
+
+/// What random names are made of.
+pub struct Vocabulary {
+    /// Each group's characters and, where they decompose, their forms.
+    groups: Vec<Vec<u32>>,
+    marks: Vec<u32>,
+    mapped: Vec<u32>,
+    /// Mapped to characters of this group alone, by group.
+    group_mapped: Vec<Vec<u32>>,
+    ignored: Vec<u32>,
+    emoji: Vec<Vec<u32>>,
+    confused: Vec<u32>,
+    made: BTreeMap<u32, Vec<u32>>,
+}
+
+impl Vocabulary {
+    pub fn new(made: &Made) -> Vocabulary {
+        let spec = &made.spec;
+        let by_head = made.nf.by_head();
+        let valid = maker::valid(spec, &made.nf);
+        let forms = valid.iter().map(|&c| (c, maker::full_decomposition(&by_head, c)));
+        let sets: Vec<std::collections::HashSet<u32>> =
+            spec.groups.iter().map(|g| g.characters.iter().copied().collect()).collect();
+        let of_group = |set: &std::collections::HashSet<u32>| {
+            let fits = |to: &[u32]| to.iter().all(|c| set.contains(c));
+            spec.mapped.iter().filter(|(_, to)| fits(to)).map(|(head, _)| *head).collect()
+        };
+        Vocabulary {
+            groups: spec.groups.iter().map(|g| g.characters.clone()).collect(),
+            marks: spec.cm.iter().copied().filter(|c| valid.contains(c)).collect(),
+            mapped: spec.mapped.iter().map(|(head, _)| *head).collect(),
+            group_mapped: sets.iter().map(of_group).collect(),
+            ignored: spec.ignored.clone(),
+            emoji: spec.emoji.clone(),
+            confused: spec.wholes.iter().flat_map(|w| w.confused.iter().copied()).collect(),
+            made: forms.filter(|(c, form)| form != &[*c]).collect(),
+        }
+    }
+
+    fn emoji(&self, rng: &mut Rng, out: &mut Vec<u32>) {
+        // FE0F is optional; now and then one too many.
+        for &c in rng.pick(&self.emoji) {
+            if c != plain::FE0F || rng.percent(60) {
+                out.push(c);
+            }
+        }
+        if rng.percent(5) {
+            out.push(plain::FE0F);
+        }
+    }
+
+    fn character(&self, rng: &mut Rng, group: usize, out: &mut Vec<u32>) {
+        let characters = &self.groups[group];
+        let c = *rng.pick(characters);
+        match self.made.get(&c) {
+            Some(form) if rng.percent(60) => out.extend(form),
+            _ => out.push(c),
+        }
+    }
+
+    fn label(&self, rng: &mut Rng, out: &mut Vec<u32>) {
+        let among = if rng.percent(60) { 8.min(self.groups.len()) } else { self.groups.len() };
+        let group = rng.below(among);
+        let style = rng.below(100);
+        let length = if rng.percent(1) { rng.between(900, 1100) } else { rng.between(1, 10) };
+        if rng.percent(6) {
+            out.extend(std::iter::repeat_n(0x5F, rng.between(1, 3)));
+        }
+        for _ in 0..length {
+            let roll = rng.below(1000);
+            match style {
+                // Emoji alone.
+                0..=7 => self.emoji(rng, out),
+                // ASCII.
+                8..=17 => match roll {
+                    0..=19 => out.extend([0x2D, 0x2D]),
+                    20..=29 => out.push(0x5F),
+                    30..=399 => out.push(rng.code(0x41, 0x5A)),
+                    400..=599 => out.push(rng.code(0x30, 0x39)),
+                    600..=619 => out.push(0x2D),
+                    _ => out.push(rng.code(0x61, 0x7A)),
+                },
+                // Confused characters.
+                18..=23 => out.push(*rng.pick(&self.confused)),
+                // Anything at all.
+                24..=25 => out.push(match roll {
+                    0..=499 => rng.code(0, 0x10FFFF),
+                    500..=799 => *rng.pick(&self.mapped),
+                    _ => {
+                        let any = rng.below(self.groups.len());
+                        *rng.pick(&self.groups[any])
+                    }
+                }),
+                // One group, with what may come into it.
+                _ => match roll {
+                    0..=14 => self.emoji(rng, out),
+                    15..=24 => out.push(*rng.pick(&self.ignored)),
+                    25..=34 => out.push(*rng.pick(&self.marks)),
+                    35..=39 => out.push(*rng.pick(&[0x2019, 0x30FB, 0x2044, 0x27])),
+                    40..=42 => out.push(0x5F),
+                    43..=49 => {
+                        let any = rng.below(self.groups.len());
+                        self.character(rng, any, out);
+                    }
+                    50..=149 if !self.group_mapped[group].is_empty() => out.push(*rng.pick(&self.group_mapped[group])),
+                    _ => self.character(rng, group, out),
+                },
+            }
+        }
+    }
+
+    /// A random name.
+    pub fn name(&self, rng: &mut Rng) -> Vec<u32> {
+        let mut out = Vec::new();
+        let labels = if rng.percent(70) { 1 } else { rng.between(2, 4) };
+        for i in 0..labels {
+            if i > 0 {
+                out.push(plain::STOP);
+            }
+            if !rng.percent(1) {
+                self.label(rng, &mut out);
+            }
+        }
+        out
+    }
+}
+
+/// Random names of real characters.
+pub fn random_names(
+    engine: &dyn Engine,
+    reference: Option<&dyn Engine>,
+    made: &Made,
+    seed: u64,
+    count: usize,
+) -> Counts {
+    let vocabulary = Vocabulary::new(made);
+    let mut desk = Desk::new(engine, &made.words);
+    let mut reference = reference.map(|r| Desk::new(r, &made.words));
+    let mut rng = Rng::new(seed);
+    let mut counts = Counts::default();
+    for _ in 0..count {
+        let name = vocabulary.name(&mut rng);
+        one(&mut desk, &mut reference, &name, &mut counts);
+    }
+    counts
+}

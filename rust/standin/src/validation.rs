@@ -1,0 +1,51 @@
+//! The published validation tests: a list of {name, norm, error, comment}.
+//! Without `error` the normal form is `norm`, or the name itself.
+
+use crate::desk::Desk;
+use maker::json;
+
+/// What a run of the validation tests showed.
+#[derive(Clone, Debug, Default, PartialEq, Eq)]
+pub struct Outcome {
+    pub passed: usize,
+    /// What each test that failed is about.
+    pub failed: Vec<String>,
+}
+
+fn codepoints(text: &str) -> Vec<u32> {
+    text.chars().map(u32::from).collect()
+}
+
+/// Runs the tests of this file's text. Rows that do not have the shape are an
+/// error; a row without a name (the published file starts with one about its
+/// version) is passed over.
+pub fn run(desk: &mut Desk, text: &str) -> Result<Outcome, String> {
+    let tests = json::read(text)?;
+    let mut out = Outcome::default();
+    for (i, test) in tests.list().ok_or("no list of tests")?.iter().enumerate() {
+        let Some(name) = test.get("name") else {
+            if i == 0 {
+                continue;
+            }
+            return Err(format!("test {i} has no name"));
+        };
+        let name = codepoints(name.text().ok_or_else(|| format!("test {i}: the name is no string"))?);
+        let error = test.get("error").is_some_and(|e| e.boolean() != Some(false));
+        let norm = match test.get("norm") {
+            Some(norm) => codepoints(norm.text().ok_or_else(|| format!("test {i}: norm is no string"))?),
+            None => name.clone(),
+        };
+        let result = desk.name(&name);
+        let right = match &result {
+            Ok(n) => !error && n.answer == norm,
+            Err(_) => error,
+        };
+        if right {
+            out.passed += 1;
+        } else {
+            let wanted = if error { "an error".to_string() } else { format!("{norm:X?}") };
+            out.failed.push(format!("test {i}: {name:X?} gives {result:X?}, not {wanted}"));
+        }
+    }
+    Ok(out)
+}
