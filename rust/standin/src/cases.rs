@@ -156,7 +156,8 @@ pub fn examples() -> Vec<Case> {
         same("5F4", &["Greek"]),
         same("24", &["ASCII"]),
         same("5F", &["ASCII"]),
-        gives("27", "2019", &[]),
+        gives("61 27 73", "61 2019 73", &["Latin"]),
+        refused("27", 10, 0),
         gives("39E", "3BE", &["Latin"]),
         same("271A", &["Latin"]),
         gives("2714 FE0E", "2714", &["Emoji"]),
@@ -177,13 +178,6 @@ pub fn examples() -> Vec<Case> {
         // Beautify
         gives("2010 39E 31 FE0F 20E3", "2D 3BE 31 20E3", &["Latin"]),
     ];
-    // An apostrophe alone is fenced.
-    for case in &mut all {
-        if case.name == [0x27] {
-            case.due = Due::Refused(10, 0);
-        }
-    }
-    all.push(gives("61 27 73", "61 2019 73", &["Latin"]));
     // Disallowed by the derivation, and the emoji that are not emoji.
     let disallowed = "3002 FF0E FF61 589 2997 294 463 218A 1F7A1 1F7A2 1F7A3 1F7A4 1F7A5 1F7A6 1F7A7 2713 131 A74F \
         2376 203C 2049 1F3FB 1F3FC 1F3FD 1F3FE 1F3FF 1F1E6 1F1FF 2800 28FF 10600 10000 1D800";

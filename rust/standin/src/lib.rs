@@ -3,7 +3,9 @@
 //! names of real characters, and the published validation tests.
 //!
 //! The tables are made from stand-in files, not from the published ones; see
-//! docs/STANDIN.md. Another engine is run by handing it to the same functions.
+//! docs/STANDIN.md. Another engine is run by handing it to the same functions:
+//! `cases::run(&engine, ..)`, and `bulk::codepoints(&engine, Some(&prepared), ..)`
+//! and `bulk::random_names`, which hold it against the plain version.
 
 pub mod bulk;
 pub mod cases;
