@@ -211,13 +211,13 @@ VARIATION = re.compile(
     r"|(LEFT|RIGHT|TOP|BOTTOM|UPPER|LOWER) HALF)\b")
 
 # GUESS: blocks and names of "esoteric" symbols.
-ESOTERIC_BLOCKS = {"APL", "Control_Pictures", "OCR", "CJK_Radicals_Sup", "Kangxi", "IDC",
+ESOTERIC_BLOCKS = {"Control_Pictures", "OCR", "CJK_Radicals_Sup", "Kangxi", "IDC",
                    "CJK_Strokes", "Yijing", "Tai_Xuan_Jing", "Counting_Rod", "Mahjong",
                    "Domino", "Playing_Cards", "Alchemical", "Geometric_Shapes_Ext",
                    "Symbols_For_Legacy_Computing", "Symbols_For_Legacy_Computing_Sup",
                    "Byzantine_Music", "Music", "Ancient_Greek_Music", "Ancient_Symbols",
                    "Phaistos", "Znamenny_Music", "Sup_Arrows_C", "Chess_Symbols",
-                   "Mayan_Numerals", "Kaktovik_Numerals", "Siyaq_Numbers",
+                   "Mayan_Numerals", "Kaktovik_Numerals",
                    "Indic_Siyaq_Numbers", "Ottoman_Siyaq_Numbers", "Ornamental_Dingbats"}
 ESOTERIC_NAME = re.compile(r"\b(APL FUNCTIONAL|SYMBOL FOR)\b")
 
@@ -354,6 +354,7 @@ class Derivation:
         return c != self.best_weight.get(WEIGHT.sub("", ch.name), c)
 
     def candidates(self):
+        assert ESOTERIC_BLOCKS <= {ch.blk for ch in self.chars.values()}
         series = {}
         for c, ch in sorted(self.chars.items()):
             if ch.gc[0] == "S" and self.status.get(c) == "valid" and \
