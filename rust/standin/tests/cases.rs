@@ -83,6 +83,12 @@ fn statements_of_ensip_15() {
     for g in spec.groups.iter().filter(|g| g.restricted) {
         assert!(g.characters.iter().all(|&c| seen.insert(c)), "{}", g.name);
     }
+    // Braille, Linear B, Linear A and SignWriting are disallowed.
+    for range in [0x2800..=0x28FF, 0x10000..=0x100FF, 0x10600..=0x1077F, 0x1D800..=0x1DAAF] {
+        assert!(spec.groups.iter().all(|g| !g.characters.iter().any(|c| range.contains(c))));
+        assert!(spec.mapped.iter().all(|(head, _)| !range.contains(head)));
+        assert!(spec.ignored.iter().all(|c| !range.contains(c)));
+    }
     // No character maps to the stop; ASCII is what ENSIP-15 leaves of it.
     assert!(spec.mapped.iter().all(|(_, to)| !to.contains(&0x2E)));
     let ascii: String = maker::valid(spec, &made.nf).into_iter().filter_map(char::from_u32).filter(char::is_ascii).collect();
