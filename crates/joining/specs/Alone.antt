@@ -14,7 +14,7 @@ use Rattle.answers.specs.Verdict.{Verdict, accepted, refused, next}
 use Rattle.table.specs.Table.{Table}
 use Rattle.table.specs.Layout.{parse}
 use Rattle.text.specs.Scalar.{isScalar}
-use Rattle.name.specs.Label.{Label, stop, leastWork, mostInput, mostWorked, answer, admitted, fitting, labelVerdict, labelCallVerdict, labelResult, labelCall}
+use Rattle.name.specs.Label.{Label, stop, leastWork, mostInput, mostWorked, answer, admitted, fitting, labelVerdict, oneLabel, labelCallVerdict, labelResult, labelCall}
 use Rattle.name.specs.Name.{EnoughRoom, labelsOf, labelsVerdict, nameVerdict}
 use Rattle.joining.specs.Places.{placeWith-none, label-fits, label-moves}
 use Rattle.joining.specs.Labels.{cons-accepts}
@@ -23,10 +23,15 @@ use Rattle.joining.specs.Joining.{NameAccepts, name-accepts}
 abbrev scalarsOnly : List ℕ → Type 0
 scalarsOnly l = placeWith (λ c. not (isScalar c)) 0 l ≡ none
 
--- a label with nothing that 3 and 4 refuse
+-- no full stop
+abbrev noStop : List ℕ → Type 0
+noStop l = placeWith (λ c. eqb c stop) 0 l ≡ none
+
+-- a label with nothing that 3 and 4 refuse, and no stop
 record Admissible (most : ℕ) (l : List ℕ) : Type 0 where
   short : length l ≤ most
   scalars : scalarsOnly l
+  whole : noStop l
 
 data All (most : ℕ) : List (List ℕ) → Type 0 where
   nil : All most []
@@ -34,33 +39,33 @@ data All (most : ℕ) : List (List ℕ) → Type 0 where
 
 wider : {m k : ℕ} {ls : List (List ℕ)} → m ≤ k → All m ls → All k ls
 wider h nil = nil
-wider h (cons {l = l} a r) = cons {l = l} (record { short = omega (arith, a .short); scalars = a .scalars }) (wider h r)
+wider h (cons {l = l} a r) = cons {l = l} (record { short = omega (arith, a .short); scalars = a .scalars; whole = a .whole }) (wider h r)
 
 -- a scalar in front of the first part
-onto-first : {m : ℕ} {ls : List (List ℕ)} (c : ℕ) → isScalar c ≡ true → All m ls → All (suc m) (ontoFirst c ls)
-onto-first c h nil = cons {l = c ∷ []} (record { short = omega arith; scalars = rw h }) nil
-onto-first c h (cons {l = l} a r) = cons {l = c ∷ l} (record { short = omega (arith, a .short); scalars = rw h (placeWith-none (λ x. not (isScalar x)) 0 1 l (a .scalars)) }) (wider (omega arith) r)
+onto-first : {m : ℕ} {ls : List (List ℕ)} (c : ℕ) → isScalar c ≡ true → eqb c stop ≡ false → All m ls → All (suc m) (ontoFirst c ls)
+onto-first c h k nil = cons {l = c ∷ []} (record { short = omega arith; scalars = rw h; whole = rw k }) nil
+onto-first c h k (cons {l = l} a r) = cons {l = c ∷ l} (record { short = omega (arith, a .short); scalars = rw h (placeWith-none (λ x. not (isScalar x)) 0 1 l (a .scalars)); whole = rw k (placeWith-none (λ x. eqb x stop) 0 1 l (a .whole)) }) (wider (omega arith) r)
 
 empty-first : {m : ℕ} {ls : List (List ℕ)} → All m ls → All (suc m) ([] ∷ ls)
-empty-first r = cons {l = []} (record { short = omega arith; scalars = refl }) (wider (omega arith) r)
+empty-first r = cons {l = []} (record { short = omega arith; scalars = refl; whole = refl }) (wider (omega arith) r)
 
 -- the parts of a name are no longer than it, and hold scalars where it does
 parts : (n : List ℕ) → scalarsOnly n → All (length n) (split stop n)
 unfolding split
-parts [] e = cons {l = []} (record { short = omega arith; scalars = refl }) nil
-parts (c ∷ n) e = go (isScalar c) refl (eqb c stop) e (λ f. parts n (placeWith-none (λ x. not (isScalar x)) 1 0 n f))
+parts [] e = cons {l = []} (record { short = omega arith; scalars = refl; whole = refl }) nil
+parts (c ∷ n) e = go (isScalar c) refl (eqb c stop) refl e (λ f. parts n (placeWith-none (λ x. not (isScalar x)) 1 0 n f))
   where
-    go : (b : Bool) → isScalar c ≡ b → (d : Bool) → cond (not b) (some 0) (placeWith (λ x. not (isScalar x)) 1 n) ≡ none → (placeWith (λ x. not (isScalar x)) 1 n ≡ none → All (length n) (split stop n)) → All (suc (length n)) (cond d ([] ∷ split stop n) (ontoFirst c (split stop n)))
-    go false h d f r = absurd (let z : _≡_ {A = ℕ} 0 1 = cc in omega arith)
-    go true h true f r = empty-first (r f)
-    go true h false f r = onto-first c h (r f)
+    go : (b : Bool) → isScalar c ≡ b → (d : Bool) → eqb c stop ≡ d → cond (not b) (some 0) (placeWith (λ x. not (isScalar x)) 1 n) ≡ none → (placeWith (λ x. not (isScalar x)) 1 n ≡ none → All (length n) (split stop n)) → All (suc (length n)) (cond d ([] ∷ split stop n) (ontoFirst c (split stop n)))
+    go false h d k f r = absurd (let z : _≡_ {A = ℕ} 0 1 = cc in omega arith)
+    go true h true k f r = empty-first (r f)
+    go true h false k f r = onto-first c h k (r f)
 
 -- one label alone: 1 to 4, then the label, then 15
 label-alone : (words : List ℕ) (t : Table) (l : List ℕ) (x : Label) (s d p room work : ℕ) → parse words ≡ some t → Admissible mostInput l → labelVerdict t s d p l ≡ accepted x → EnoughRoom (answer x) room work → labelCallVerdict words l room work ≡ accepted x
-unfolding labelCallVerdict admitted
+unfolding labelCallVerdict admitted oneLabel
 label-alone words t l x s d p room work laid a e r =
     let alone : labelVerdict t 0 0 0 l ≡ accepted x = label-moves t s d p 0 0 0 l x e (omega (arith, label-fits t s d p l x e)) in
-    rw (laid, le-ltb work leastWork (r .forWork), le-ltb mostInput (length l) (a .short), a .scalars, alone, le-ltb room (length (answer x)) (r .forAnswer))
+    rw (laid, le-ltb work leastWork (r .forWork), le-ltb mostInput (length l) (a .short), a .scalars, a .whole, alone, le-ltb room (length (answer x)) (r .forAnswer))
 
 -- each label beside what it is accepted as: the label call on it alone
 pub data EachAlone (words : List ℕ) (room work : ℕ) : List (List ℕ) → List Label → Type 0 where

@@ -14,7 +14,7 @@ use lib.Dec.{ltb}
 use borrow.Author.Tests.{ltb-false}
 use Rattle.tokens.specs.Scan.{steps}
 use Rattle.tokens.specs.Tokens.{Token, tokensOf, worked}
-use Rattle.joining.specs.Places.{LabelAccepts, clash, judge-moves, label-accepts, label-fits, label-moves, refused5-none}
+use Rattle.joining.specs.Places.{LabelAccepts, clash, judge-moves, label-accepts, label-fits, label-moves, disallowed-none}
 
 -- the worked lengths of the labels, with one for the stop behind each
 unfoldable pub spent : List Label → ℕ
@@ -142,7 +142,7 @@ label-only-7 t s d p s′ d′ p′ l x n q e f = go (ltb mostWorked (d′ + wor
 
     go : (b : Bool) → ltb mostWorked (d′ + worked t ts) ≡ b → n ≡ 7
     go true eb =
-        let r : labelVerdict t s′ d′ p′ l ≡ refused 7 p′ = rw (refused5-none t s s′ l (a .allowed), a .accepts .some-token, eb) refl in
+        let r : labelVerdict t s′ d′ p′ l ≡ refused 7 p′ = rw (disallowed-none s s′ (steps t l) (a .allowed), a .accepts .some-token, eb) refl in
         cc
     go false eb =
         let y : labelVerdict t s′ d′ p′ l ≡ accepted x = label-moves t s d p s′ d′ p′ l x e (rw w (ltb-false mostWorked (d′ + worked t ts) eb)) in

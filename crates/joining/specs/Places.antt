@@ -20,7 +20,7 @@ use Rattle.label.specs.Marks.{nsmFits}
 use Rattle.label.specs.Confusable.{confusable}
 use Rattle.label.specs.Groups.{Numbered, groupOf}
 use Rattle.label.specs.Judge.{judge, judgeAscii, judgeMixed, judgeText, judgeInGroup, unless, onlyEmoji, onlyAscii}
-use Rattle.name.specs.Label.{Label, stop, mostWorked, refused5, judged, labelVerdict}
+use Rattle.name.specs.Label.{Label, mostWorked, judged, labelVerdict}
 
 -- a place is found from one start exactly when it is found from another
 pub placeWith-none : {A : Type 0} (p : A → Bool) (a b : ℕ) (s : List A) → placeWith p a s ≡ none → placeWith p b s ≡ none
@@ -31,22 +31,13 @@ placeWith-none p a b (x ∷ s) e = go (p x) e (placeWith-none p (suc a) (suc b) 
     go true q r = cc
     go false q r = r q
 
-disallowed-none : (a b : ℕ) (ss : List Step) → firstDisallowed a ss ≡ none → firstDisallowed b ss ≡ none
+pub disallowed-none : (a b : ℕ) (ss : List Step) → firstDisallowed a ss ≡ none → firstDisallowed b ss ≡ none
 unfolding firstDisallowed
 disallowed-none a b [] e = refl
 disallowed-none a b (disallowed ∷ ss) e = cc
 disallowed-none a b (emoji f ∷ ss) e = disallowed-none (a + f .taken .length) (b + f .taken .length) ss e
 disallowed-none a b (text s ∷ ss) e = disallowed-none (suc a) (suc b) ss e
 disallowed-none a b (ignored ∷ ss) e = disallowed-none (suc a) (suc b) ss e
-
-pub refused5-none : (t : Table) (a b : ℕ) (l : List ℕ) → refused5 t a l ≡ none → refused5 t b l ≡ none
-unfolding refused5
-refused5-none t a b l e =
-    go (firstDisallowed a (steps t (takeWith (λ c. not (eqb c stop)) l))) refl e
-  where
-    go : (o : Option ℕ) → firstDisallowed a (steps t (takeWith (λ c. not (eqb c stop)) l)) ≡ o → onSome o some (placeWith (eqb stop) a l) ≡ none → onSome (firstDisallowed b (steps t (takeWith (λ c. not (eqb c stop)) l))) some (placeWith (eqb stop) b l) ≡ none
-    go (some i) h q = cc
-    go none h q = rw (disallowed-none a b _ h) (placeWith-none (eqb stop) a b l q)
 
 module _ (k : Kind) where
   unless-moves : (b : Bool) (n p q : ℕ) (v w : Verdict Kind) → (v ≡ accepted k → w ≡ accepted k) → unless b n p v ≡ accepted k → unless b n q w ≡ accepted k
@@ -129,14 +120,14 @@ accepts-judged t d p ts x a = rw (a .some-token, le-ltb mostWorked (d + worked t
 
 -- what an accepted label rests on: no 5, and the tokens pass
 pub record LabelAccepts (t : Table) (start done place : ℕ) (l : List ℕ) (x : Label) : Type 0 where
-  pub allowed : refused5 t start l ≡ none
+  pub allowed : firstDisallowed start (steps t l) ≡ none
   pub accepts : Accepts t done place (tokensOf (steps t l)) x
 
 pub label-accepts : (t : Table) (s d p : ℕ) (l : List ℕ) (x : Label) → labelVerdict t s d p l ≡ accepted x → LabelAccepts t s d p l x
 unfolding labelVerdict
-label-accepts t s d p l x = go (refused5 t s l) refl
+label-accepts t s d p l x = go (firstDisallowed s (steps t l)) refl
   where
-    go : (o : Option ℕ) → refused5 t s l ≡ o → onSome o (refused 5) (judged t d p (tokensOf (steps t l))) ≡ accepted x → LabelAccepts t s d p l x
+    go : (o : Option ℕ) → firstDisallowed s (steps t l) ≡ o → onSome o (refused 5) (judged t d p (tokensOf (steps t l))) ≡ accepted x → LabelAccepts t s d p l x
     go none eo e = record { allowed = eo; accepts = judged-accepts t d p (tokensOf (steps t l)) x e }
     go (some i) eo e = clash 5 i x e
 
@@ -158,4 +149,4 @@ label-moves t s d p s′ d′ p′ l x e h =
     let ts = tokensOf (steps t l) in
     let w : x .worked ≡ worked t ts = ap (λ (y : Label). y .worked) (a .accepts .label) in
     let fits : d′ + worked t ts ≤ mostWorked = rw (← w) h in
-    accepts-label t s′ d′ p′ l x (record { allowed = refused5-none t s s′ l (a .allowed); accepts = record { some-token = a .accepts .some-token; fits = fits; kind = judge-moves (x .kind) t p p′ (normal t ts) (a .accepts .kind); label = a .accepts .label } })
+    accepts-label t s′ d′ p′ l x (record { allowed = disallowed-none s s′ (steps t l) (a .allowed); accepts = record { some-token = a .accepts .some-token; fits = fits; kind = judge-moves (x .kind) t p p′ (normal t ts) (a .accepts .kind); label = a .accepts .label } })

@@ -21,6 +21,7 @@ unfoldable pub groupFrom : ℕ → List Group → List ℕ → Option Numbered
 groupFrom n [] s = none
 groupFrom n (g ∷ gs) s = let later = groupFrom (suc n) gs s in cond (holdsAll s g) (some (record { number = n; group = g })) later
 
+-- "the first group that holds every character"
 unfoldable pub groupOf : List Group → List ℕ → Option Numbered
 unfolding groupFrom
 groupOf gs s = groupFrom 0 gs s

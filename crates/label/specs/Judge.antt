@@ -62,6 +62,7 @@ judgeMixed t place ts =
     unless (lowLine (spelled ts)) 8 place
     (unless (fenced t (spelled ts)) 10 place (unless (leadingMark t ts) 11 place (judgeText t place (joinedText ts))))
 
+-- "Only emoji tokens: kind emoji." "A single token, which is text, all below 80 hex" is ASCII's; "otherwise" the rest.
 unfoldable pub judge : Table → ℕ → List Token → Verdict Kind
 unfolding judgeAscii judgeMixed spelled
 judge t place ts =

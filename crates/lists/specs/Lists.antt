@@ -1,4 +1,6 @@
--- Tests and functions on lists that the definitions of the layers above share. Assumes nothing.
+-- Tests and functions on lists that the definitions of the layers above share. They are like mathlib's, but over the native numbers and
+-- Booleans, with the test first. A recursive call that may not be wanted is bound by `let`, so that it is computed only where it is read.
+-- Assumes nothing.
 use Prim.Native.Nat.{ℕ, zero, suc, _+_}
 use mathlib.Core.Bool.{Bool, true, false, not, _&&_, _||_, cond}
 use mathlib.Core.List.{List, [], _∷_, _++_}
@@ -24,12 +26,12 @@ module _ {A : Type 0} where
   -- the first element that passes the test
   abbrev pub firstWith : (A → Bool) → List A → Option A
   firstWith p [] = none
-  firstWith p (x ∷ xs) = cond (p x) (some x) (firstWith p xs)
+  firstWith p (x ∷ xs) = let later = firstWith p xs in cond (p x) (some x) later
 
   -- the place, from `at` on, of the first element that passes the test
   abbrev pub placeWith : (A → Bool) → ℕ → List A → Option ℕ
   placeWith p at [] = none
-  placeWith p at (x ∷ xs) = cond (p x) (some at) (placeWith p (suc at) xs)
+  placeWith p at (x ∷ xs) = let later = placeWith p (suc at) xs in cond (p x) (some at) later
 
   -- the elements from the first that fails the test on
   abbrev pub dropWith : (A → Bool) → List A → List A

@@ -2,7 +2,7 @@
 use Prim.Native.Nat.{ℕ, _+_, _-_}
 use mathlib.Core.Bool.{Bool, true, false, not, cond}
 use mathlib.Core.List.{List, [], _∷_, _++_}
-use mathlib.Core.Option.{Option, none, some}
+use mathlib.Core.Option.{Option, none, some, Option·getD}
 use lib.ListN.{length, replicate}
 use lib.Dec.{leb, ltb, eqb}
 use Rattle.lists.specs.Lists.{isEmpty, mem, onSome, placeWith, takeWith}
@@ -42,14 +42,6 @@ pub record Label : Type 0 where
 abbrev pub answer : Label → List ℕ
 answer l = spelled (l .tokens)
 
--- 5: the place of the first disallowed codepoint, the label starting at `start`. "The label call gives 5 for a 2E, which no emoji
--- match covers there": a label is scanned up to its first 2E, and a 2E is disallowed. The labels of a split name hold none.
-unfoldable pub refused5 : Table → ℕ → List ℕ → Option ℕ
-unfolding steps firstDisallowed
-refused5 t start l =
-    let part = takeWith (λ c. not (eqb c stop)) l in
-    onSome (firstDisallowed start (steps t part)) some (placeWith (eqb stop) start l)
-
 -- 6 to 14 on the tokens, in order. `done` is the worked length of the labels before this one, with the stops behind them, and
 -- `place` the label's number.
 unfoldable pub judged : Table → ℕ → ℕ → List Token → Verdict Label
@@ -61,10 +53,19 @@ judged t done place ts =
 
 -- refusals 5 to 14 of the label that starts at `start`: 5 is looked for in the whole label before 6 and 7 are judged
 unfoldable pub labelVerdict : Table → ℕ → ℕ → ℕ → List ℕ → Verdict Label
-unfolding refused5 steps tokensOf judged
+unfolding steps firstDisallowed tokensOf judged
 labelVerdict t start done place l =
     let rest = judged t done place (tokensOf (steps t l)) in
-    onSome (refused5 t start l) (refused 5) rest
+    onSome (firstDisallowed start (steps t l)) (refused 5) rest
+
+-- The one label of the label call. "The label call gives 5 for a 2E, which no emoji match covers there": where there is a 2E, the part
+-- before the first one is scanned alone, and 5 is given in it or else at that 2E, before 6 and 7. "Its place for 6 to 14 is 0."
+unfoldable pub oneLabel : Table → List ℕ → Verdict Label
+unfolding steps firstDisallowed labelVerdict
+oneLabel t l =
+    let part = takeWith (λ c. not (eqb c stop)) l in
+    let whole = labelVerdict t 0 0 0 l in
+    onSome (placeWith (λ c. eqb c stop) 0 l) (λ at. refused 5 (Option·getD (firstDisallowed 0 (steps t part)) at)) whole
 
 -- 1 to 4 "are tried in order over the whole name"
 unfoldable pub admitted : List ℕ → ℕ → List ℕ → Verdict Table
@@ -103,11 +104,11 @@ labelResult room work (accepted l) =
 labelResult room work (refused n p) =
     record { values = record { number = n; place = p; length = 0; kind = none }; answer = replicate room 0; work = replicate work 0 }
 
--- the verdict of the label call: 1 to 4, then 5 to 14 of the one label ("its place for 6 to 14 is 0"), then 15
+-- the verdict of the label call: 1 to 4, then 5 to 14 of the one label, then 15
 unfoldable pub labelCallVerdict : List ℕ → List ℕ → ℕ → ℕ → Verdict Label
-unfolding admitted labelVerdict spelled
+unfolding admitted oneLabel spelled
 labelCallVerdict words input room work =
-    next (admitted words work input) (λ t. next (labelVerdict t 0 0 0 input) (λ l. fitting room (length (answer l)) l))
+    next (admitted words work input) (λ t. next (oneLabel t input) (λ l. fitting room (length (answer l)) l))
 
 -- the label call on the words of a table and a label, with an answer buffer of `room` words and a work area of `work` words
 unfoldable pub labelCall : List ℕ → List ℕ → ℕ → ℕ → LabelResult

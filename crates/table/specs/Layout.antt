@@ -1,5 +1,5 @@
 -- From words to a table, or nothing where the words have a layout fault. 01, "The table", second paragraph. Assumes nothing.
-use Prim.Native.Nat.{ℕ, zero, suc, _%_}
+use Prim.Native.Nat.{ℕ, zero, suc, _/_, _%_}
 use mathlib.Core.Bool.{Bool, true, false, _&&_, cond}
 use mathlib.Core.List.{List, [], _∷_}
 use mathlib.Core.Option.{Option, none, some}
@@ -65,8 +65,8 @@ classRanges (a ∷ b ∷ k ∷ ws) =
 abbrev pub countFits : ℕ → ℕ → List ℕ → Bool
 countFits most n ws = leb 1 n && leb n most && leb n (length ws)
 
--- records head, count, items. The first argument of this and of the next three bounds the number of records: the number of
--- words is enough, since a record takes at least one.
+-- records head, count, items. The first argument of `headed`, `sequences`, `groups` and `wholes` bounds the number of records: the
+-- number of words is enough, since a record takes at least one.
 unfoldable pub headed : ℕ → ℕ → List ℕ → Option (List Headed)
 headed zero most [] = some []
 headed zero most (w ∷ ws) = none
@@ -92,7 +92,7 @@ excluded (n ∷ ws) = onlyIf (eqb n (length ws)) (some ws)
 
 -- "flags, where 1 is restricted and 2 is CM whitelisted"
 abbrev pub group : ℕ → List Range → Group
-group flags rs = record { restricted = eqb (flags % 2) 1; whitelisted = leb 2 flags; ranges = rs }
+group flags rs = record { restricted = eqb (flags % 2) 1; whitelisted = eqb (flags / 2 % 2) 1; ranges = rs }
 
 -- records flags, word count, pairs
 unfoldable pub groups : ℕ → List ℕ → Option (List Group)

@@ -42,27 +42,27 @@ unfoldable pub pair : Table → ℕ → ℕ → Option ℕ
 unfolding tablePair
 pair t a b = onSome (hangulPair a b) some (tablePair t a b)
 
--- c is not blocked from the starter before the marks ms: each of them has a lower class. So a starter is not blocked only where
--- no mark stands between.
+-- c is not blocked from the starter by the non-starters ns between (D115): each has a class below that of c. So a starter composes with
+-- the one before it only where nothing stands between.
 abbrev pub unblocked : Table → List ℕ → ℕ → Bool
-unblocked t ms c = all (λ m. ltb (classOf t m) (classOf t c)) ms
+unblocked t ns c = all (λ n. ltb (classOf t n) (classOf t c)) ns
 
 -- what c composes to with the starter s, if it is not blocked
 abbrev pub composed : Table → ℕ → List ℕ → ℕ → Option ℕ
-composed t s ms c = cond (unblocked t ms c) (pair t s c) none
+composed t s ns c = cond (unblocked t ns c) (pair t s c) none
 
--- The rest of a text after the starter s, which holds all that it has taken up, and the marks ms behind it that stayed: c is taken
--- up where it composes; a starter that is not is the next starter; a mark that is not stays.
+-- The rest of a text: s is the last starter, as composed so far, and ns are the non-starters behind it that did not compose. c composes with
+-- s if it can; else a starter becomes the last starter, and a non-starter joins ns.
 unfoldable pub composeAfter : Table → ℕ → List ℕ → List ℕ → List ℕ
 unfolding classOf pair
-composeAfter t s ms [] = s ∷ ms
-composeAfter t s ms (c ∷ r) =
-    let starts = s ∷ ms ++ composeAfter t c [] r in
-    let stays = composeAfter t s (ms ++ c ∷ []) r in
-    let apart = cond (eqb (classOf t c) 0) starts stays in
-    onSome (composed t s ms c) (λ h. composeAfter t h ms r) apart
+composeAfter t s ns [] = s ∷ ns
+composeAfter t s ns (c ∷ r) =
+    let starts = s ∷ ns ++ composeAfter t c [] r in
+    let stays = composeAfter t s (ns ++ c ∷ []) r in
+    let alone = cond (eqb (classOf t c) 0) starts stays in
+    onSome (composed t s ns c) (λ h. composeAfter t h ns r) alone
 
--- composition of a decomposed text: marks before the first starter stay
+-- composition of a decomposed text: non-starters before the first starter stay
 unfoldable pub compose : Table → List ℕ → List ℕ
 unfolding classOf composeAfter
 compose t [] = []

@@ -8,7 +8,7 @@ use mathlib.Core.Option.{Option, none, some, Option·getD}
 use Rattle.lists.specs.Lists.{joinedMap}
 use Rattle.table.specs.Table.{Table}
 use Rattle.table.specs.Lookup.{tableClass, itemsOf}
-use Rattle.text.specs.Hangul.{isSyllable, isJamo, jamoOf}
+use Rattle.text.specs.Hangul.{firstSyllable, isSyllable, isJamo, jamoOf}
 
 -- the combining class: "syllables and jamo have class 0", then the first class entry, else 0
 unfoldable pub classOf : Table → ℕ → ℕ
@@ -18,7 +18,7 @@ classOf t c = cond (isSyllable c || isJamo c) 0 (tableClass (t .classes) c)
 -- a single replacement: a syllable's jamo, else the items of the first decomposition with this head, else the codepoint itself
 unfoldable pub single : Table → ℕ → List ℕ
 unfolding itemsOf
-single t c = cond (isSyllable c) (jamoOf (c - 0xAC00)) (Option·getD (itemsOf (t .decompositions) c) (c ∷ []))
+single t c = cond (isSyllable c) (jamoOf (c - firstSyllable)) (Option·getD (itemsOf (t .decompositions) c) (c ∷ []))
 
 -- one round: every codepoint of the text replaced
 unfoldable pub round : Table → List ℕ → List ℕ

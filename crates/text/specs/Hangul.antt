@@ -29,11 +29,11 @@ abbrev pub isJamo : ℕ → Bool
 isJamo c = isLeading c || isVowel c || isTrailing c
 
 abbrev pub isSyllable : ℕ → Bool
-isSyllable c = leb 0xAC00 c && ltb c (0xAC00 + 11172)
+isSyllable c = leb firstSyllable c && ltb c (firstSyllable + syllableCount)
 
 -- a syllable of a leading consonant and a vowel alone
 abbrev pub isOpenSyllable : ℕ → Bool
-isOpenSyllable c = isSyllable c && eqb ((c - 0xAC00) % 28) 0
+isOpenSyllable c = isSyllable c && eqb ((c - firstSyllable) % 28) 0
 
 -- the jamo of the syllable number s, counted from 0
 abbrev pub jamoOf : ℕ → List ℕ
@@ -45,5 +45,5 @@ jamoOf s =
 -- the syllable of a leading consonant and a vowel, or of an open syllable and a trailing consonant
 abbrev pub hangulPair : ℕ → ℕ → Option ℕ
 hangulPair a b =
-    cond (isLeading a && isVowel b) (some (0xAC00 + ((a - 0x1100) * 21 + (b - 0x1161)) * 28))
+    cond (isLeading a && isVowel b) (some (firstSyllable + ((a - 0x1100) * 21 + (b - 0x1161)) * 28))
     (cond (isOpenSyllable a && isTrailing b) (some (a + (b - 0x11A7))) none)

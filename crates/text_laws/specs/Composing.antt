@@ -87,11 +87,11 @@ module _ (t : Table) where
   -- composition makes no text longer
   after-length : (s : ℕ) (ms r : List ℕ) → length (composeAfter t s ms r) ≤ suc (length ms + length r)
   after-length = composing (λ s ms r out. length out ≤ suc (length ms + length r)) (record {
-      ends = λ s ms. omega arith;
-      taken = λ s ms c r h out e l. omega arith;
-      starts = λ s ms c r out z l. simp length-append (omega arith);
-      stays = λ s ms c r out z l. omega (arith, length-append ms (c ∷ []));
-    })
+    ends = λ s ms. omega arith;
+    taken = λ s ms c r h out e l. omega arith;
+    starts = λ s ms c r out z l. simp length-append (omega arith);
+    stays = λ s ms c r out z l. omega (arith, length-append ms (c ∷ []));
+  })
 
   pub compose-length : (d : List ℕ) → length (compose t d) ≤ length d
   compose-length [] = rw compose-nil (omega arith)
@@ -100,11 +100,11 @@ module _ (t : Table) where
   -- composition gives an empty text for an empty one only
   after-some : (s : ℕ) (ms r : List ℕ) → isEmpty (composeAfter t s ms r) ≡ false
   after-some = composing (λ s ms r out. isEmpty out ≡ false) (record {
-      ends = λ s ms. refl;
-      taken = λ s ms c r h out e l. l;
-      starts = λ s ms c r out z l. refl;
-      stays = λ s ms c r out z l. l;
-    })
+    ends = λ s ms. refl;
+    taken = λ s ms c r h out e l. l;
+    starts = λ s ms c r out z l. refl;
+    stays = λ s ms c r out z l. l;
+  })
 
   pub compose-empty : (d : List ℕ) → isEmpty (compose t d) ≡ isEmpty d
   compose-empty [] = rw compose-nil
@@ -114,11 +114,11 @@ module _ (t : Table) where
   module _ (P : ℕ → Type 0) (results : (a b h : ℕ) → pair t a b ≡ some h → P h) where
     after-every : (s : ℕ) (ms r : List ℕ) → P s → Every P ms → Every P r → Every P (composeAfter t s ms r)
     after-every = composing (λ s ms r out. P s → Every P ms → Every P r → Every P out) (record {
-        ends = λ s ms p q k. (p, q);
-        taken = λ s ms c r h out e l p q k. l (results s c h (composed-pair s ms c h e .0)) q (k .1);
-        starts = λ s ms c r out z l p q k. (p, every-append P ms out q (l (k .0) tt (k .1)));
-        stays = λ s ms c r out z l p q k. l p (every-append P ms (c ∷ []) q (k .0, tt)) (k .1);
-      })
+      ends = λ s ms p q k. (p, q);
+      taken = λ s ms c r h out e l p q k. l (results s c h (composed-pair s ms c h e .0)) q (k .1);
+      starts = λ s ms c r out z l p q k. (p, every-append P ms out q (l (k .0) tt (k .1)));
+      stays = λ s ms c r out z l p q k. l p (every-append P ms (c ∷ []) q (k .0, tt)) (k .1);
+    })
 
     pub compose-every : (d : List ℕ) → Every P d → Every P (compose t d)
     compose-every [] h = rw compose-nil tt

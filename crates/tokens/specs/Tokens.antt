@@ -49,6 +49,7 @@ unfolding fourRounds
 workedToken t (emoji s) = length s
 workedToken t (text s) = length (fourRounds t s)
 
+-- the worked length of one label's tokens
 unfoldable pub worked : Table → List Token → ℕ
 unfolding workedToken
 worked t ts = total (map (workedToken t) ts)
@@ -59,6 +60,7 @@ unfolding nfc
 normalToken t (emoji s) = emoji s
 normalToken t (text s) = text (nfc t s)
 
+-- the normalised tokens of a label
 unfoldable pub normal : Table → List Token → List Token
 unfolding normalToken
 normal t ts = map (normalToken t) ts
