@@ -4,3 +4,6 @@ pub mod Insertion
 pub mod Runs
 pub mod Composing
 pub mod Stable
+pub mod Syllables
+pub mod PairLaws
+pub mod Recompose

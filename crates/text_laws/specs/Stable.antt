@@ -56,12 +56,12 @@ rule6-parts t h =
     spares = all sparesHangul (t .classes)
 
 -- the head of a record is among the heads
-head-member : (rs : List Headed) (r : Headed) → List·Memᴰ r rs → List·Memᴰ (r .head) (map (λ (q : Headed). q .head) rs)
+pub head-member : (rs : List Headed) (r : Headed) → List·Memᴰ r rs → List·Memᴰ (r .head) (map (λ (q : Headed). q .head) rs)
 head-member [] r m = absurd (List·Memᴰ·not-nil m)
 head-member (q ∷ rs) r m = ⊎-elim (λ e. List·Memᴰ·head (ap (λ (x : Headed). x .head) e)) (λ k. List·Memᴰ·tail (head-member rs r k)) (List·Memᴰ·cases-cons m)
 
 -- a codepoint has no record, or is a head
-no-record-or-head : (rs : List Headed) (c : ℕ) → (itemsOf rs c ≡ none) ⊎ List·Memᴰ c (map (λ (q : Headed). q .head) rs)
+pub no-record-or-head : (rs : List Headed) (c : ℕ) → (itemsOf rs c ≡ none) ⊎ List·Memᴰ c (map (λ (q : Headed). q .head) rs)
 unfolding itemsOf
 no-record-or-head rs c = go (firstWith at rs) refl
   where
