@@ -1,17 +1,17 @@
 -- Laws of the tests and functions of Lists.antt. Assumes nothing.
-use Prim.Native.Nat.{ℕ, zero, suc, _+_, _*_, _≤_, _<_}
+use Prim.Native.Nat.{ℕ, suc, _+_, _*_, _≤_}
 use native.Mathlib.Nat.{mul-suc}
 use native.Mathlib.Omega.{arith}
 use mathlib.Core.Path.{_≡_, refl, sym, ap, _∙_}
-use mathlib.Core.Bool.{Bool, true, false, not, _&&_, _||_, cond, false≢true, true≢false}
-use mathlib.Core.List.{List, [], _∷_, _++_, map, append-nil, append-assoc, tail-eq-of-cons-eq, head-eq-of-cons-eq}
+use mathlib.Core.Bool.{Bool, true, false, _&&_, _||_, cond, false≢true}
+use mathlib.Core.List.{List, [], _∷_, _++_, append-assoc, tail-eq-of-cons-eq, head-eq-of-cons-eq}
 use mathlib.Core.List.{List·Memᴰ, List·Memᴰ·head, List·Memᴰ·tail, List·Memᴰ·cases-cons, List·Memᴰ·not-nil}
 use mathlib.Core.Logic.{_⊎_, inl, inr, ⊎-elim}
 use mathlib.Core.Option.{Option, none, some, Option·none-ne-some, Option·some-injective}
 use lib.ListN.{length, length-append}
 use lib.Dec.{eqb}
 use borrow.Author.Tests.{eqb-true, eq-eqb}
-use Rattle.lists.specs.Lists.{all, any, keep, firstWith, joinedMap, countWith, andThen, mem, sameList, distinct}
+use Rattle.lists.specs.Lists.{all, keep, firstWith, joinedMap, countWith, andThen, isEmpty, mem, sameList}
 
 -- both of two tests pass
 pub both-left : (a b : Bool) → (a && b) ≡ true → a ≡ true
@@ -81,6 +81,10 @@ module _ {A : Type 0} where
   pub every-all : (p : A → Bool) (s : List A) → Every (λ x. p x ≡ true) s → all p s ≡ true
   every-all p [] h = refl
   every-all p (x ∷ s) h = both (p x) (all p s) (h .0) (every-all p s (h .1))
+
+  pub not-empty : (s : List A) → 1 ≤ length s → isEmpty s ≡ false
+  not-empty [] h = absurd (omega arith)
+  not-empty (x ∷ s) h = refl
 
   -- the element found is a member and passes the test
   pub found-member : (p : A → Bool) (s : List A) (x : A) → firstWith p s ≡ some x → List·Memᴰ x s × (p x ≡ true)

@@ -1,20 +1,23 @@
 -- Composition on any table: what it keeps, and its length. Assumes nothing.
-use Prim.Native.Nat.{ℕ, zero, suc, _+_, _≤_, _<_}
+use Prim.Native.Nat.{ℕ, suc, _+_, _≤_, _<_}
 use native.Mathlib.Omega.{arith}
-use mathlib.Core.Path.{_≡_, refl, sym, ap, _∙_}
-use mathlib.Core.Bool.{Bool, true, false, cond}
-use mathlib.Core.List.{List, [], _∷_, _++_, append-nil, append-assoc}
-use mathlib.Core.List.{List·Memᴰ}
+use mathlib.Core.Path.{_≡_, refl, _∙_}
+use mathlib.Core.Bool.{Bool, true, false}
+use mathlib.Core.List.{List, [], _∷_, _++_}
 use mathlib.Core.Logic.{_⊎_, inl, inr, ⊎-elim}
 use mathlib.Core.Option.{Option, none, some, Option·none-ne-some}
 use lib.ListN.{length, length-append}
 use lib.Dec.{eqb}
 use borrow.Author.Tests.{eqb-true, eqb-false, eq-eqb, ne-eqb}
-use Rattle.lists.specs.Lists.{all, isEmpty, mem, onSome}
-use Rattle.lists.specs.Laws.{Every, every-append, every-member, every-of-all, mem-of, member-of}
+use Rattle.lists.specs.Lists.{isEmpty, mem}
+use Rattle.lists.specs.Laws.{Every, every-append, every-member, every-of-all, mem-of, member-of, not-empty}
 use Rattle.table.specs.Table.{Table}
-use Rattle.text.specs.Decomposition.{classOf}
-use Rattle.text.specs.Composition.{pair, unblocked, composed, composeAfter, compose}
+use Rattle.text.specs.Decomposition.{classOf, fourRounds}
+use Rattle.text.specs.Ordering.{nfd}
+use Rattle.text.specs.Composition.{pair, unblocked, composed, composeAfter, compose, nfc}
+use Rattle.text_laws.specs.Parsed.{Shaped}
+use Rattle.text_laws.specs.Rounds.{rounds-longer}
+use Rattle.text_laws.specs.Insertion.{order-every, order-length}
 
 module _ (t : Table) where
   -- the clauses of composition behind a starter
@@ -132,3 +135,20 @@ module _ (t : Table) where
     where
       From : ℕ → Type 0
       From x = (mem x d ≡ true) ⊎ ((a : ℕ) × (b : ℕ) × (pair t a b ≡ some x))
+
+  -- NFC is no longer than the full decomposition
+  pub nfc-length : (s : List ℕ) → length (nfc t s) ≤ length (fourRounds t s)
+  unfolding nfc nfd
+  nfc-length s = omega (arith, compose-length (nfd t s), order-length t (fourRounds t s))
+
+  -- NFC is empty for an empty text only
+  pub nfc-empty : Shaped t → (s : List ℕ) → isEmpty (nfc t s) ≡ isEmpty s
+  unfolding nfc nfd
+  nfc-empty fit [] = refl
+  nfc-empty fit (c ∷ s) =
+      compose-empty (nfd t (c ∷ s)) ∙ not-empty (nfd t (c ∷ s)) (omega (arith, order-length t (fourRounds t (c ∷ s)), rounds-longer t fit (c ∷ s)))
+
+  -- what holds of every codepoint of the full decomposition and of every result of a pair holds of every codepoint of NFC
+  pub nfc-every : (P : ℕ → Type 0) → ((a b h : ℕ) → pair t a b ≡ some h → P h) → (s : List ℕ) → Every P (fourRounds t s) → Every P (nfc t s)
+  unfolding nfc nfd
+  nfc-every P results s h = compose-every P results (nfd t s) (order-every t P (fourRounds t s) h)

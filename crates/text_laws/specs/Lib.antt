@@ -1,9 +1,12 @@
+pub mod Laws
+pub mod Examples
 pub mod Parsed
 pub mod Rounds
 pub mod Insertion
 pub mod Runs
+pub mod Exchange
 pub mod Composing
-pub mod Stable
 pub mod Syllables
+pub mod Stable
 pub mod PairLaws
 pub mod Recompose

@@ -1,24 +1,24 @@
 -- What two codepoints compose to decomposes to what they decompose to, on a table that keeps rule 6. Assumes nothing.
-use Prim.Native.Nat.{ℕ, _-_}
-use mathlib.Core.Path.{_≡_, refl, sym, ap, _∙_}
-use mathlib.Core.Bool.{Bool, true, false, not, _&&_, _||_, cond, false≢true}
+use Prim.Native.Nat.{ℕ, _+_, _≤_}
+use native.Mathlib.Omega.{arith}
+use mathlib.Core.Path.{_≡_, refl, sym, _∙_}
+use mathlib.Core.Bool.{Bool, true, false, not, _&&_, false≢true}
 use mathlib.Core.List.{List, [], _∷_, _++_, map}
 use mathlib.Core.List.{List·Memᴰ, List·Memᴰ·cases-cons, List·Memᴰ·not-nil}
 use mathlib.Core.Logic.{_⊎_, inl, inr, ⊎-elim}
-use mathlib.Core.Option.{Option, none, some, Option·map, Option·getD, Option·none-ne-some, Option·some-injective}
-use lib.Dec.{ltb, eqb}
-use borrow.Author.Tests.{eqb-true, eq-eqb, not-true}
-use Rattle.lists.specs.Lists.{all, distinct, firstWith, mem, onSome, sameList}
-use Rattle.lists.specs.Laws.{Every, all-every, every-member, both-left, both-right, found-member, keep-member, mem-of, same-list}
+use mathlib.Core.Option.{Option, none, some, Option·map, Option·none-ne-some, Option·some-injective}
+use lib.Dec.{leb, ltb, eqb}
+use borrow.Author.Tests.{eqb-true, eq-eqb, leb-true, not-true}
+use Rattle.lists.specs.Lists.{distinct, firstWith, mem, onSome, sameList}
+use Rattle.lists.specs.Laws.{both-left, both-right, found-member, keep-member, mem-of, same-list}
 use Rattle.table.specs.Table.{Table, Headed}
 use Rattle.table.specs.Lookup.{itemsOf}
-use Rattle.text.specs.Hangul.{isSyllable, isJamo, jamoOf, hangulPair}
-use Rattle.text.specs.Decomposition.{classOf, single, fourRounds}
+use Rattle.text.specs.Hangul.{isSyllable, isJamo, hangulPair}
+use Rattle.text.specs.Decomposition.{classOf, single}
 use Rattle.text.specs.Composition.{isTwo, firstItem, isPair, pairs, tablePair, pair}
-use Rattle.soundness.specs.Pairs.{heads, plainHead}
-use Rattle.text_laws.specs.Parsed.{Shaped}
-use Rattle.text_laws.specs.Rounds.{fully, rounds-append, rounds-cons}
-use Rattle.text_laws.specs.Stable.{Rule6, Stable, head-member, single-syllable, single-other, fully-settled, fully-single, jamos-stable, syllable-number, leading-stable, vowel-stable, trailing-stable}
+use Rattle.soundness.specs.Pairs.{plainHead}
+use Rattle.text_laws.specs.Rounds.{fully, rounds-cons}
+use Rattle.text_laws.specs.Stable.{Rule6, head-member, head-plain, head-high, single-other, fully-one, fully-single, fully-syllable, leading-stable, vowel-stable, trailing-stable}
 use Rattle.text_laws.specs.Syllables.{MakesTwo, MakesThree, hangul-pair}
 
 -- where heads are distinct, a record's head has that record's items
@@ -100,39 +100,31 @@ pub record Splits (t : Table) (a b h : ℕ) : Type 0 where
   pub starter : classOf t h ≡ 0
   pub parts : fully t h ≡ fully t a ++ fully t b
 
-module _ (t : Table) (fit : Shaped t) (r6 : Rule6 t) where
-  -- a codepoint that decomposes no further
-  pub fully-one : (c : ℕ) → Stable t c → fully t c ≡ c ∷ []
-  fully-one c h = fully-settled t c (c ∷ []) h (h, tt)
-
-  -- a syllable's jamo
-  pub fully-syllable : (c : ℕ) → isSyllable c ≡ true → fully t c ≡ jamoOf (c - 0xAC00)
-  fully-syllable c h = fully-settled t c (jamoOf (c - 0xAC00)) (single-syllable t c h) (jamos-stable t fit r6 (c - 0xAC00) (syllable-number c h))
-
+module _ (t : Table) (r6 : Rule6 t) where
   two-splits : (a b h : ℕ) → MakesTwo a b h → Splits t a b h
   two-splits a b h m = record {
-      starter = syllable-starter t h (m .syllable);
-      parts = rw (fully-syllable h (m .syllable), fully-one a (leading-stable t fit r6 a (m .leading)), fully-one b (vowel-stable t fit r6 b (m .vowel))) (m .jamo);
-    }
+    starter = syllable-starter t h (m .syllable);
+    parts = rw (fully-syllable t r6 h (m .syllable), fully-one t a (leading-stable t r6 a (m .leading)), fully-one t b (vowel-stable t r6 b (m .vowel))) (m .jamo);
+  }
 
   three-splits : (a b h : ℕ) → MakesThree a b h → Splits t a b h
   three-splits a b h m = record {
-      starter = syllable-starter t h (m .syllable);
-      parts = rw (fully-syllable h (m .syllable), fully-syllable a (m .before), fully-one b (trailing-stable t fit r6 b (m .trailing))) (m .jamo);
-    }
+    starter = syllable-starter t h (m .syllable);
+    parts = rw (fully-syllable t r6 h (m .syllable), fully-syllable t r6 a (m .before), fully-one t b (trailing-stable t r6 b (m .trailing))) (m .jamo);
+  }
 
   -- the single replacement of a head
   head-single : (r : Headed) → List·Memᴰ r (t .decompositions) → single t (r .head) ≡ r .items
   head-single r m =
       let c = r .head in
-      let p : plainHead c ≡ true = every-member (λ x. plainHead x ≡ true) (heads t) (all-every plainHead (heads t) (r6 .plain)) (head-member (t .decompositions) r m) in
+      let p : plainHead c ≡ true = head-plain t r6 c (head-member (t .decompositions) r m) in
       let n : not (isSyllable c) ≡ true = both-right (not (ltb c 0x80)) (not (isSyllable c)) (both-left (not (ltb c 0x80) && not (isSyllable c)) (not (isJamo c)) p) in
       single-other t c (not-true (isSyllable c) n) ∙ rw (own-items (t .decompositions) r (r6 .apart) m)
 
   record-splits : (a b h : ℕ) → PairRecord t a b h → Splits t a b h
   record-splits a b h p =
       let e : single t h ≡ a ∷ b ∷ [] = rw (p .of, p .items) at (head-single (p .entry) (p .there)) in
-      record { starter = p .starter; parts = fully-single t fit r6 h ∙ rw e (rounds-cons t a (b ∷ [])) }
+      record { starter = p .starter; parts = fully-single t r6 h ∙ rw e (rounds-cons t a (b ∷ [])) }
 
   -- the result of a pair is a starter, and decomposes to what its two parts decompose to
   pub pair-splits : (a b h : ℕ) → pair t a b ≡ some h → Splits t a b h
@@ -140,3 +132,16 @@ module _ (t : Table) (fit : Shaped t) (r6 : Rule6 t) where
     where
       hangul : hangulPair a b ≡ some h → Splits t a b h
       hangul f = ⊎-elim (two-splits a b h) (three-splits a b h) (hangul-pair a b h f)
+
+  -- the result of a pair is not ASCII
+  pub pair-high : (a b h : ℕ) → pair t a b ≡ some h → 0x80 ≤ h
+  pair-high a b h e = ⊎-elim hangul entry (pair-cases t a b h e)
+    where
+      high : isSyllable h ≡ true → 0x80 ≤ h
+      high k = omega (arith, leb-true 0xAC00 h (both-left (leb 0xAC00 h) (ltb h (0xAC00 + 11172)) k))
+
+      hangul : hangulPair a b ≡ some h → 0x80 ≤ h
+      hangul f = ⊎-elim (λ m. high (m .syllable)) (λ m. high (m .syllable)) (hangul-pair a b h f)
+
+      entry : PairRecord t a b h → 0x80 ≤ h
+      entry p = rw (← p .of) (head-high t r6 (p .entry .head) (head-member (t .decompositions) (p .entry) (p .there)))

@@ -1,16 +1,17 @@
 -- What every table that was read from words keeps to: from 1 to 4 items in a decomposition, classes of at most 255. Assumes nothing.
 use Prim.Native.Nat.{ℕ, zero, suc, _≤_}
 use native.Mathlib.Omega.{arith}
-use mathlib.Core.Path.{_≡_, refl, sym, ap, _∙_}
+use mathlib.Core.Path.{_≡_, refl, sym, _∙_}
 use mathlib.Core.Bool.{Bool, true, false, _&&_}
 use mathlib.Core.List.{List, [], _∷_}
-use mathlib.Core.Option.{Option, none, some, Option·none-ne-some, Option·some-injective}
+use mathlib.Core.Option.{Option, none, some, Option·getD, Option·none-ne-some, Option·some-injective}
 use lib.ListN.{length, take, drop, getD, length-take}
 use lib.Dec.{leb}
 use borrow.Author.Tests.{leb-true, le-leb}
 use Rattle.lists.specs.Lists.{all, andThen}
 use Rattle.lists.specs.Laws.{both, both-left, both-right, then-some}
 use Rattle.table.specs.Table.{Table, Headed, ClassRange}
+use Rattle.table.specs.Laid.{theTable, emptyTable}
 use Rattle.table.specs.Layout.{onlyIf, inFront, mostItems, mostParts, mostGroups, mostWords, mostClass, countFits, ranges, sections, headed, sequences, excluded, groups, wholes, classRanges, tableOf, parse}
 
 -- the record has from 1 to 4 items
@@ -107,3 +108,12 @@ unfolding parse
 parsed-shaped ws t e =
     then-some (sections 12 ws) tableOf t (only-some (leb (length ws) mostWords) (andThen (sections 12 ws) tableOf) t e) λ ss q r.
     sections-shaped ss t r
+
+-- so is the table that stands for any words, faulty or not
+pub theTable-shaped : (ws : List ℕ) → Shaped (theTable ws)
+unfolding theTable emptyTable
+theTable-shaped ws = go (parse ws) refl
+  where
+    go : (o : Option Table) → parse ws ≡ o → Shaped (Option·getD o emptyTable)
+    go none e = record { items = refl; classes = refl }
+    go (some t) e = parsed-shaped ws t e

@@ -1,15 +1,14 @@
 -- On a table that keeps rule 6, decomposing what was composed gives the decomposition back, so that NFC twice is NFC. Assumes nothing.
-use Prim.Native.Nat.{ℕ, zero, suc, _+_, _≤_, _<_}
+use Prim.Native.Nat.{ℕ, _<_}
 use native.Mathlib.Omega.{arith}
 use mathlib.Core.Path.{_≡_, refl, sym, ap, _∙_}
-use mathlib.Core.Bool.{Bool, true, false}
+use mathlib.Core.Bool.{true}
 use mathlib.Core.List.{List, [], _∷_, _++_, append-nil, append-assoc}
-use mathlib.Core.Logic.{_⊎_, inl, inr, ⊎-elim}
-use mathlib.Core.Option.{Option, some}
+use mathlib.Core.Logic.{⊎-elim}
+use mathlib.Core.Option.{some}
 use lib.ListN.{length}
 use lib.Dec.{ltb}
 use borrow.Author.Tests.{ltb-true}
-use Rattle.lists.specs.Lists.{all}
 use Rattle.lists.specs.Laws.{Every, every-append, every-imp, all-every}
 use Rattle.table.specs.Table.{Table}
 use Rattle.text.specs.Decomposition.{classOf, fourRounds}
@@ -18,9 +17,9 @@ use Rattle.text.specs.Composition.{unblocked, composed, composeAfter, compose, 
 use Rattle.text_laws.specs.Parsed.{Shaped}
 use Rattle.text_laws.specs.Rounds.{fully, rounds-append, rounds-cons, rounds-nil}
 use Rattle.text_laws.specs.Insertion.{ordered, Differs, order-behind, order-every, order-length, order-ordered, order-same}
-use Rattle.text_laws.specs.Composing.{Steps, composing, composed-pair, compose-nil, compose-starter, compose-mark, starter-or-mark}
-use Rattle.text_laws.specs.Stable.{Rule6, Stable, rounds-stable, rounds-all-stable}
-use Rattle.text_laws.specs.PairLaws.{Splits, pair-splits, fully-one}
+use Rattle.text_laws.specs.Composing.{composing, composed-pair, compose-nil, compose-starter, compose-mark, starter-or-mark}
+use Rattle.text_laws.specs.Stable.{Rule6, Stable, fully-one, rounds-stable, rounds-all-stable}
+use Rattle.text_laws.specs.PairLaws.{pair-splits}
 
 regroup : (a b c d : List ℕ) → a ++ (b ++ c) ++ d ≡ a ++ (b ++ (c ++ d))
 regroup a b c d = simp append-assoc
@@ -38,7 +37,7 @@ module _ (t : Table) where
       differs [] p q = tt
       differs (x ∷ s) p q = ((p .0, λ e. omega arith), differs s (p .1) (q .1))
 
-module _ (t : Table) (fit : Shaped t) (r6 : Rule6 t) where
+module _ (t : Table) (r6 : Rule6 t) where
   -- what composition behind a starter leaves to be ordered, with any text before it
   abbrev Back : ℕ → List ℕ → List ℕ → List ℕ → Type 0
   Back s ms r out =
@@ -51,7 +50,7 @@ module _ (t : Table) (fit : Shaped t) (r6 : Rule6 t) where
   back-taken : (s : ℕ) (ms : List ℕ) (c : ℕ) (r : List ℕ) (h : ℕ) (out : List ℕ) → composed t s ms c ≡ some h → Back h ms r out → Back s ms (c ∷ r) out
   back-taken s ms c r h out e f hm km hr xs =
       let p = composed-pair t s ms c h e in
-      let split : fully t h ≡ fully t s ++ (c ∷ []) = pair-splits t fit r6 s c h (p .0) .parts ∙ rw (fully-one t fit r6 c (hr .0)) in
+      let split : fully t h ≡ fully t s ++ (c ∷ []) = pair-splits t r6 s c h (p .0) .parts ∙ rw (fully-one t c (hr .0)) in
       let one : order t (xs ++ fourRounds t out) ≡ order t (xs ++ (fully t h ++ (ms ++ r))) = f hm km (hr .1) xs in
       let two : order t (xs ++ (fully t h ++ (ms ++ r))) ≡ order t ((xs ++ fully t s) ++ c ∷ (ms ++ r)) = rw (split, append-assoc (fully t s) (c ∷ []) (ms ++ r), append-assoc xs (fully t s) (c ∷ (ms ++ r))) in
       let three : order t ((xs ++ fully t s) ++ c ∷ (ms ++ r)) ≡ order t ((xs ++ fully t s) ++ (ms ++ c ∷ r)) = past-marks t (xs ++ fully t s) c ms r km (p .1) in
@@ -62,7 +61,7 @@ module _ (t : Table) (fit : Shaped t) (r6 : Rule6 t) where
       let one : order t ((xs ++ (fully t s ++ ms)) ++ fourRounds t out) ≡ order t ((xs ++ (fully t s ++ ms)) ++ (fully t c ++ r)) = f tt tt (hr .1) (xs ++ (fully t s ++ ms)) in
       let out-is : fourRounds t (s ∷ ms ++ out) ≡ fully t s ++ (ms ++ fourRounds t out) = rounds-cons t s (ms ++ out) ∙ rw (rounds-append t ms out, rounds-stable t ms hm) in
       let left : xs ++ fourRounds t (s ∷ ms ++ out) ≡ (xs ++ (fully t s ++ ms)) ++ fourRounds t out = rw out-is (sym (regroup xs (fully t s) ms (fourRounds t out))) in
-      let right : (xs ++ (fully t s ++ ms)) ++ (fully t c ++ r) ≡ xs ++ (fully t s ++ (ms ++ c ∷ r)) = rw (fully-one t fit r6 c (hr .0)) (regroup xs (fully t s) ms (c ∷ r)) in
+      let right : (xs ++ (fully t s ++ ms)) ++ (fully t c ++ r) ≡ xs ++ (fully t s ++ (ms ++ c ∷ r)) = rw (fully-one t c (hr .0)) (regroup xs (fully t s) ms (c ∷ r)) in
       ap (order t) left ∙ one ∙ ap (order t) right
 
   back-stays : (s : ℕ) (ms : List ℕ) (c : ℕ) (r out : List ℕ) → 0 < classOf t c → Back s (ms ++ c ∷ []) r out → Back s ms (c ∷ r) out
@@ -80,7 +79,7 @@ module _ (t : Table) (fit : Shaped t) (r6 : Rule6 t) where
   compose-back (c ∷ r) h xs = ⊎-elim starter (λ z. mark z (compose-back r (h .1) (xs ++ c ∷ []))) (starter-or-mark t c)
     where
       one : fully t c ≡ c ∷ []
-      one = fully-one t fit r6 c (h .0)
+      one = fully-one t c (h .0)
 
       starter : classOf t c ≡ 0 → order t (xs ++ fourRounds t (compose t (c ∷ r))) ≡ order t (xs ++ c ∷ r)
       starter z = rw (compose-starter t c r z) (after-back c [] r tt tt (h .1) xs ∙ rw one)
@@ -94,6 +93,8 @@ module _ (t : Table) (fit : Shaped t) (r6 : Rule6 t) where
   unfolding nfd
   nfd-compose d h = compose-back d h []
 
+-- where each record has an item, too
+module _ (t : Table) (fit : Shaped t) (r6 : Rule6 t) where
   -- a full decomposition is stable and ordered
   pub nfd-stable : (s : List ℕ) → Every (Stable t) (nfd t s)
   unfolding nfd
@@ -106,7 +107,7 @@ module _ (t : Table) (fit : Shaped t) (r6 : Rule6 t) where
   -- NFC has the same full decomposition
   pub nfd-nfc : (s : List ℕ) → nfd t (nfc t s) ≡ nfd t s
   unfolding nfc
-  nfd-nfc s = nfd-compose (nfd t s) (nfd-stable s) ∙ order-same t (nfd t s) (nfd-ordered s)
+  nfd-nfc s = nfd-compose t r6 (nfd t s) (nfd-stable s) ∙ order-same t (nfd t s) (nfd-ordered s)
 
   -- and a full decomposition of the same length
   pub rounds-nfc : (s : List ℕ) → length (fourRounds t (nfc t s)) ≡ length (fourRounds t s)

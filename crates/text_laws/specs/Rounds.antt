@@ -1,16 +1,16 @@
 -- Decomposition before ordering, on any table: rounds go codepoint by codepoint, and how long they make a text. Assumes nothing.
-use Prim.Native.Nat.{ℕ, suc, _+_, _-_, _*_, _%_, _≤_}
+use Prim.Native.Nat.{ℕ, _-_, _*_, _%_, _≤_}
 use native.Mathlib.Omega.{arith}
 use mathlib.Core.Path.{_≡_, refl, sym, ap, _∙_}
-use mathlib.Core.Bool.{Bool, true, false, _&&_, cond}
-use mathlib.Core.List.{List, [], _∷_, _++_, append-nil, append-assoc}
-use mathlib.Core.List.{List·Memᴰ, List·Memᴰ·tail}
+use mathlib.Core.Bool.{Bool, true}
+use mathlib.Core.List.{List, [], _∷_, _++_, append-nil}
+use mathlib.Core.List.{List·Memᴰ}
 use mathlib.Core.Option.{Option, none, some, Option·map, Option·getD}
-use lib.ListN.{length, length-append}
+use lib.ListN.{length}
 use lib.Dec.{leb, eqb}
 use borrow.Author.Tests.{leb-true}
 use Rattle.lists.specs.Lists.{all, firstWith, joinedMap}
-use Rattle.lists.specs.Laws.{of-each, Every, all-every, every-member, both-left, both-right, found-member, joined-append, joined-longer, joined-shorter}
+use Rattle.lists.specs.Laws.{of-each, all-every, every-member, both-left, both-right, found-member, joined-append, joined-longer, joined-shorter}
 use Rattle.table.specs.Table.{Table, Headed}
 use Rattle.table.specs.Layout.{mostParts}
 use Rattle.table.specs.Lookup.{itemsOf}

@@ -1,24 +1,23 @@
 -- Decomposition on a table that keeps rule 6: it ends, in codepoints that decompose no further. Assumes nothing.
-use Prim.Native.Nat.{ℕ, zero, suc, _+_, _-_, _*_, _/_, _%_, _≤_, _<_}
+use Prim.Native.Nat.{ℕ, _+_, _-_, _/_, _%_, _≤_, _<_}
 use native.Mathlib.Omega.{arith}
 use mathlib.Core.Path.{_≡_, refl, sym, ap, _∙_}
 use mathlib.Core.Bool.{Bool, true, false, not, _&&_, _||_, cond, false≢true}
-use mathlib.Core.List.{List, [], _∷_, _++_, map, append-nil, append-assoc}
+use mathlib.Core.List.{List, [], _∷_, map}
 use mathlib.Core.List.{List·Memᴰ, List·Memᴰ·head, List·Memᴰ·tail, List·Memᴰ·cases-cons, List·Memᴰ·not-nil}
 use mathlib.Core.Logic.{_⊎_, inl, inr, ⊎-elim}
-use mathlib.Core.Option.{Option, none, some, Option·map, Option·getD}
-use lib.ListN.{length}
+use mathlib.Core.Option.{Option, none, some, Option·getD}
 use lib.Dec.{leb, ltb, eqb}
-use borrow.Author.Tests.{eqb-true, eqb-false, eq-eqb, ne-eqb, leb-true, ltb-true, le-leb, lt-ltb, le-ltb, lt-leb, not-true}
-use Rattle.lists.specs.Lists.{all, distinct, firstWith, joinedMap, mem, sameList}
-use Rattle.lists.specs.Laws.{Every, all-every, every-member, every-append, every-imp, both, both-left, both-right, either, decided, of-each, found-member, mem-of, joined-every, joined-self, joined-fixed, same-list}
-use Rattle.table.specs.Table.{Table, Headed, ClassRange}
+use borrow.Author.Tests.{eqb-true, eqb-false, leb-true, ltb-true, ltb-false, le-leb, lt-leb, not-true}
+use Rattle.lists.specs.Lists.{all, distinct, firstWith}
+use Rattle.lists.specs.Laws.{Every, all-every, every-member, every-append, both, both-left, both-right, either, found-member, joined-self, joined-fixed, same-list}
+use Rattle.table.specs.Table.{Table, Headed}
 use Rattle.table.specs.Lookup.{itemsOf}
 use Rattle.text.specs.Hangul.{isLeading, isVowel, isTrailing, isJamo, isSyllable, jamoOf}
 use Rattle.text.specs.Decomposition.{single, round, fourRounds}
 use Rattle.soundness.specs.Pairs.{decomposesFully, heads, plainHead, sparesHangul, rule6}
 use Rattle.text_laws.specs.Parsed.{Shaped}
-use Rattle.text_laws.specs.Rounds.{fully, fits, single-fit, round-one, round-append, rounds-are, round-shift, rounds-cons, rounds-each, rounds-append, rounds-nil}
+use Rattle.text_laws.specs.Rounds.{fully, single-fit, round-one, rounds-are, round-shift, rounds-cons, rounds-nil}
 
 -- the codepoint decomposes no further
 abbrev pub Stable : Table → ℕ → Type 0
@@ -98,6 +97,10 @@ module _ (t : Table) where
   fully-settled c s e h =
       rw (rounds-are t (c ∷ []), round-one t c, e, round-stable s h, round-stable s h) (round-stable s h)
 
+  -- a codepoint that decomposes no further
+  pub fully-one : (c : ℕ) → Stable t c → fully t c ≡ c ∷ []
+  fully-one c h = fully-settled c (c ∷ []) h (h, tt)
+
   pub head-same : (c : ℕ) → decomposesFully t c ≡ true → round t (fully t c) ≡ fully t c
   unfolding decomposesFully
   head-same c h = same-list (round t (fully t c)) (fully t c) h
@@ -138,19 +141,36 @@ or-right : (a b : Bool) → b ≡ true → (a || b) ≡ true
 or-right true b h = refl
 or-right false b h = h
 
-module _ (t : Table) (fit : Shaped t) (r6 : Rule6 t) where
+module _ (t : Table) (r6 : Rule6 t) where
+  -- a head is neither ASCII nor a syllable nor a jamo
+  pub head-plain : (c : ℕ) → List·Memᴰ c (heads t) → plainHead c ≡ true
+  head-plain c m = every-member (λ x. plainHead x ≡ true) (heads t) (all-every plainHead (heads t) (r6 .plain)) m
+
+  -- what is no syllable and no head decomposes no further
+  no-head-stable : (c : ℕ) → isSyllable c ≡ false → (List·Memᴰ c (heads t) → ⊥) → Stable t c
+  no-head-stable c h n = single-other t c h ∙ ⊎-elim alone (λ m. absurd (n m)) (no-record-or-head (t .decompositions) c)
+    where
+      alone : itemsOf (t .decompositions) c ≡ none → Option·getD (itemsOf (t .decompositions) c) (c ∷ []) ≡ c ∷ []
+      alone e = rw e
+
   -- a jamo decomposes no further
   pub jamo-stable : (c : ℕ) → isJamo c ≡ true → Stable t c
-  jamo-stable c h = single-other t c (below-syllables c (jamo-low c h)) ∙ ⊎-elim plain (λ m. absurd (head m)) (no-record-or-head (t .decompositions) c)
+  jamo-stable c h = no-head-stable c (below-syllables c (jamo-low c h)) head
     where
-      plain : itemsOf (t .decompositions) c ≡ none → Option·getD (itemsOf (t .decompositions) c) (c ∷ []) ≡ c ∷ []
-      plain e = rw e
-
       head : List·Memᴰ c (heads t) → ⊥
       head m =
-          let k : plainHead c ≡ true = every-member (λ x. plainHead x ≡ true) (heads t) (all-every plainHead (heads t) (r6 .plain)) m in
-          let n : not (isJamo c) ≡ true = both-right (not (ltb c 0x80) && not (isSyllable c)) (not (isJamo c)) k in
+          let n : not (isJamo c) ≡ true = both-right (not (ltb c 0x80) && not (isSyllable c)) (not (isJamo c)) (head-plain c m) in
           false≢true (rw h at n)
+
+  -- heads are not ASCII
+  pub head-high : (c : ℕ) → List·Memᴰ c (heads t) → 0x80 ≤ c
+  head-high c m =
+      let n : not (ltb c 0x80) ≡ true = both-left (not (ltb c 0x80)) (not (isSyllable c)) (both-left (not (ltb c 0x80) && not (isSyllable c)) (not (isJamo c)) (head-plain c m)) in
+      ltb-false c 0x80 (not-true (ltb c 0x80) n)
+
+  -- an ASCII codepoint decomposes no further
+  pub ascii-stable : (c : ℕ) → c < 0x80 → Stable t c
+  ascii-stable c h = no-head-stable c (below-syllables c (omega arith)) (λ m. omega (arith, head-high c m))
 
   pub leading-stable : (c : ℕ) → isLeading c ≡ true → Stable t c
   leading-stable c h = jamo-stable c (or-left (isLeading c || isVowel c) (isTrailing c) (or-left (isLeading c) (isVowel c) h))
@@ -193,10 +213,20 @@ module _ (t : Table) (fit : Shaped t) (r6 : Rule6 t) where
               let k : single t c ≡ c ∷ [] = single-other t c h ∙ rw e in
               settled (c ∷ []) k (k, tt)
 
+  -- a codepoint and its single replacement have the same full decomposition
+  pub fully-single : (c : ℕ) → fully t c ≡ fourRounds t (single t c)
+  fully-single c = rw (← round-one t c, round-shift t (c ∷ [])) (sym (fifth-same c))
+
+  -- a syllable's full decomposition is its jamo
+  pub fully-syllable : (c : ℕ) → isSyllable c ≡ true → fully t c ≡ jamoOf (c - 0xAC00)
+  fully-syllable c h = fully-settled t c (jamoOf (c - 0xAC00)) (single-syllable t c h) (jamos-stable (c - 0xAC00) (syllable-number c h))
+
+-- where each record has an item, too
+module _ (t : Table) (fit : Shaped t) (r6 : Rule6 t) where
   -- every codepoint of a full decomposition decomposes no further
   pub fully-stable : (c : ℕ) → Every (Stable t) (fully t c)
   unfolding round
-  fully-stable c = joined-fixed (single t) (λ x. single-fit t fit x .0) (fully t c) (fifth-same c)
+  fully-stable c = joined-fixed (single t) (λ x. single-fit t fit x .0) (fully t c) (fifth-same t r6 c)
 
   pub rounds-all-stable : (s : List ℕ) → Every (Stable t) (fourRounds t s)
   rounds-all-stable [] = rw (rounds-nil t) tt
@@ -205,7 +235,3 @@ module _ (t : Table) (fit : Shaped t) (r6 : Rule6 t) where
   -- full decomposition twice is full decomposition
   pub rounds-twice : (s : List ℕ) → fourRounds t (fourRounds t s) ≡ fourRounds t s
   rounds-twice s = rounds-stable t (fourRounds t s) (rounds-all-stable s)
-
-  -- a codepoint and its single replacement have the same full decomposition
-  pub fully-single : (c : ℕ) → fully t c ≡ fourRounds t (single t c)
-  fully-single c = rw (← round-one t c, round-shift t (c ∷ [])) (sym (fifth-same c))
