@@ -107,7 +107,7 @@ impl Assembled {
     /// Number and, for 5, the index in the label.
     fn judge(&self, t: &Table, input: &[u32], before: usize) -> Result<Form, (u32, usize)> {
         let limit = if self.is(WorkedLengthOffByOne) { 1025 } else { 1024 };
-        if self.is(SevenBeforeFive) && input.len() > 4 * limit / 2 {
+        if self.is(SevenBeforeFive) && input.len() > 2 * limit {
             return Err((7, 0));
         }
         let walked = self.walk(t, input).map_err(|index| (5, index))?;
