@@ -1,3 +1,4 @@
 pub mod Lists
 pub mod Splits
 pub mod Laws
+pub mod Members

@@ -1,0 +1,3 @@
+pub mod OwnGroup
+pub mod Unique
+pub mod Respelling

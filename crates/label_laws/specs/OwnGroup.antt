@@ -1,0 +1,66 @@
+-- A group that holds all of a text is never one in which the text could be respelled. The extent is used through two laws only: a character
+-- is in its extent, and so is every member of its whole that shares a group with it. Assumes nothing.
+use mathlib.Core.Path.{_≡_, refl, sym, ap, _∙_}
+use mathlib.Core.Bool.{Bool, true, false, not, _&&_, cond, false≢true, true≢false}
+use mathlib.Core.List.{List, [], _∷_, _++_, List·Memᴰ, List·Memᴰ·head, List·Memᴰ·tail}
+use mathlib.Core.Option.{Option, none, some}
+use Prim.Native.Nat.{ℕ}
+use Rattle.lists.specs.Lists.{all, any, isSome, keep, mem, onSome}
+use Rattle.lists.specs.Laws.{both, mem-of, keep-member}
+use Rattle.lists.specs.Members.{Passing, any-passing, passing-any, all-at, keep-keeps}
+use Rattle.table.specs.Table.{Table, Group, Whole}
+use Rattle.table.specs.Lookup.{holds, wholeOf}
+use Rattle.label.specs.Groups.{holdsAll}
+use Rattle.label.specs.Confusable.{isConfused, members, shareGroup, extent, outside, respells, confusable}
+
+-- E1: a character is in its extent
+pub extent-self : (t : Table) (w : Whole) (c : ℕ) → List·Memᴰ c (extent t w c)
+unfolding extent
+extent-self t w c = List·Memᴰ·head refl
+
+-- E2: so is every member that shares a group with it
+pub extent-shared : (t : Table) (w : Whole) (c m : ℕ) → List·Memᴰ m (members w) → shareGroup t c m ≡ true → List·Memᴰ m (extent t w c)
+unfolding extent
+extent-shared t w c m h e = List·Memᴰ·tail (keep-keeps (shareGroup t c) h e)
+
+-- two characters of one group share a group
+pub shares : (t : Table) (g : Group) (a b : ℕ) → List·Memᴰ g (t .groups) → holds g a ≡ true → holds g b ≡ true → shareGroup t a b ≡ true
+shares t g a b m ha hb = passing-any (λ h. holds h a && holds h b) m (both (holds g a) (holds g b) ha hb)
+
+-- a member outside the extent is a member, and not in the extent
+outside-member : (t : Table) (w : Whole) (c m : ℕ) → List·Memᴰ m (outside t w c) → List·Memᴰ m (members w) × (mem m (extent t w c) ≡ false)
+unfolding outside
+outside-member t w c m h =
+    let k = keep-member (λ x. not (mem x (extent t w c))) (members w) m h in
+    (k .0, go (mem m (extent t w c)) (k .1))
+  where
+    go : (b : Bool) → not b ≡ true → b ≡ false
+    go true e = absurd (false≢true e)
+    go false e = refl
+
+-- a group that holds a confused character does not respell it
+pub not-respelled : (t : Table) (g : Group) (c : ℕ) → List·Memᴰ g (t .groups) → holds g c ≡ true → isConfused t c ≡ true → respells t g c ≡ false
+unfolding isConfused respells
+not-respelled t g c m h e = go (wholeOf (t .wholes) c) e
+  where
+    clear : (w : Whole) → (b : Bool) → any (holds g) (outside t w c) ≡ b → b ≡ false
+    clear w false f = refl
+    clear w true f =
+        let p = any-passing (holds g) (outside t w c) f in
+        let o = outside-member t w c (p .element) (p .member) in
+        let inside : mem (p .element) (extent t w c) ≡ true = mem-of (p .element) (extent t w c) (extent-shared t w c (p .element) (o .0) (shares t g c (p .element) m h (p .passes))) in
+        absurd (true≢false (sym inside ∙ o .1))
+
+    go : (o : Option Whole) → isSome o ≡ true → onSome o (λ w. any (holds g) (outside t w c)) (holds g c) ≡ false
+    go none f = absurd (false≢true f)
+    go (some w) f = clear w (any (holds g) (outside t w c)) refl
+
+-- The own group: where the text has a confused character, a group that holds all of it does not respell it.
+pub own-group : (t : Table) (g : Group) (s : List ℕ) → List·Memᴰ g (t .groups) → holdsAll s g ≡ true → any (isConfused t) s ≡ true → all (respells t g) s ≡ false
+own-group t g s m h e =
+    let p = any-passing (isConfused t) s e in
+    go (all (respells t g) s) refl (not-respelled t g (p .element) m (all-at (holds g) (p .member) h) (p .passes)) (p .member)
+  where
+    go : (b : Bool) → all (respells t g) s ≡ b → {c : ℕ} → respells t g c ≡ false → List·Memᴰ c s → b ≡ false
+    go false q r k = refl
+    go true q r k = absurd (true≢false (sym (all-at (respells t g) k q) ∙ r))
