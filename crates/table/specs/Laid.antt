@@ -51,7 +51,6 @@ spanAt ws at =
 
 -- the places of the sections, one behind the other
 unfoldable pub sectionsOf : List ℕ → Sections
-unfolding spanAt
 sectionsOf ws =
     let valid = spanAt ws 0 in
     let ignored = spanAt ws (valid .to) in
@@ -79,6 +78,11 @@ sectionsOf ws =
       groups = groups;
       wholes = wholes;
     }
+
+-- the part lies within the words
+pub record Fits (ws : List ℕ) (s : Span) : Type 0 where
+  pub ordered : s .from ≤ s .to
+  pub inside : s .to ≤ length ws
 
 -- what the layout pass answers
 unfoldable pub layoutOf : List ℕ → Layout
