@@ -37,7 +37,7 @@ use Rattle.table.specs.Layout.{
   confusedPart,
   wholes,
   tableOf,
-  parse
+  parse,
 }
 use Rattle.table.specs.Laid.{emptyTable, theTable, within, spanAt, sectionsOf, Fits, layoutOf, Laid}
 
@@ -109,7 +109,6 @@ wholes-fuel (suc f) (suc g) (n ∷ ws) p q =
   where
     short : (k : ℕ) (c : Tail) → confusedPart (drop n ws) ≡ some c → length ws ≤ k → length (c .rest) ≤ k
     short k c e h = omega (arith, tail-short (drop n ws) c e, length-drop n ws)
-
 
 -- The records of a section, the first one taken off.
 pub headed-next : (most h n : ℕ) (ws : List ℕ) → headed (length (h ∷ n ∷ ws)) most (h ∷ n ∷ ws)
@@ -235,3 +234,193 @@ sections-spans (suc k) ws at h = go (λ n i. sections-spans k ws n i) (ltb at (l
     go ih false e =
         let f : length ws ≤ at = ltb-false _ _ e in
         rw (drop-of-length-le ws f) (no-section k ws at (omega (arith, span-past ws at f)))
+
+-- the words of the twelve sections, in their order
+unfoldable pub partsOf : List ℕ → Sections → List (List ℕ)
+partsOf ws ix =
+    within (ix .valid) ws
+    ∷ within (ix .ignored) ws
+    ∷ within (ix .fenced) ws
+    ∷ within (ix .marks) ws
+    ∷ within (ix .nsm) ws
+    ∷ within (ix .mapped) ws
+    ∷ within (ix .decompositions) ws
+    ∷ within (ix .emoji) ws
+    ∷ within (ix .exclusions) ws
+    ∷ within (ix .classes) ws
+    ∷ within (ix .groups) ws
+    ∷ within (ix .wholes) ws
+    ∷ []
+
+-- the twelve sections, where the last of the places ends with the words
+pub sections-found : (ws : List ℕ) → sections 12 ws ≡ cond (eqb (sectionsOf ws .wholes .to) (length ws)) (some (partsOf ws (sectionsOf ws))) none
+unfolding atSpans endOf spans sectionsOf partsOf
+sections-found ws = sections-spans 12 ws 0 (omega arith)
+
+-- Each section lies within the words.
+pub record AllFit (ws : List ℕ) (ix : Sections) : Type 0 where
+  pub valid : Fits ws (ix .valid)
+  pub ignored : Fits ws (ix .ignored)
+  pub fenced : Fits ws (ix .fenced)
+  pub marks : Fits ws (ix .marks)
+  pub nsm : Fits ws (ix .nsm)
+  pub mapped : Fits ws (ix .mapped)
+  pub decompositions : Fits ws (ix .decompositions)
+  pub emoji : Fits ws (ix .emoji)
+  pub exclusions : Fits ws (ix .exclusions)
+  pub classes : Fits ws (ix .classes)
+  pub groups : Fits ws (ix .groups)
+  pub wholes : Fits ws (ix .wholes)
+
+-- a section that ends within the words lies within them, and so does the end of the one before it
+record Back (ws : List ℕ) (at : ℕ) : Type 0 where
+  fits : Fits ws (spanAt ws at)
+  earlier : at ≤ length ws
+
+back : (ws : List ℕ) (at : ℕ) → spanAt ws at .to ≤ length ws → Back ws at
+back ws at h = go (leb (at + 1 + getD ws at 0) (length ws)) refl
+  where
+    go : (b : Bool) → leb (at + 1 + getD ws at 0) (length ws) ≡ b → Back ws at
+    go true e =
+        let i : at + 1 + getD ws at 0 ≤ length ws = leb-true _ _ e in
+        let g : Good ws at = span-good ws at (omega arith) i in
+        record { fits = record { ordered = omega arith; inside = h }; earlier = omega arith }
+    go false e = absurd (omega (arith, span-bad ws at (leb-false _ _ e)))
+
+-- where the last section ends with the words, each lies within them
+pub sections-fit : (ws : List ℕ) → sectionsOf ws .wholes .to ≡ length ws → AllFit ws (sectionsOf ws)
+unfolding sectionsOf
+sections-fit ws e =
+    let ix = sectionsOf ws in
+    let l = back ws (ix .groups .to) (omega arith) in
+    let k = back ws (ix .classes .to) (l .earlier) in
+    let j = back ws (ix .exclusions .to) (k .earlier) in
+    let i = back ws (ix .emoji .to) (j .earlier) in
+    let h = back ws (ix .decompositions .to) (i .earlier) in
+    let g = back ws (ix .mapped .to) (h .earlier) in
+    let f = back ws (ix .nsm .to) (g .earlier) in
+    let e₁ = back ws (ix .marks .to) (f .earlier) in
+    let d = back ws (ix .fenced .to) (e₁ .earlier) in
+    let c = back ws (ix .ignored .to) (d .earlier) in
+    let b = back ws (ix .valid .to) (c .earlier) in
+    let a = back ws 0 (b .earlier) in
+    record {
+      valid = a .fits;
+      ignored = b .fits;
+      fenced = c .fits;
+      marks = d .fits;
+      nsm = e₁ .fits;
+      mapped = f .fits;
+      decompositions = g .fits;
+      emoji = h .fits;
+      exclusions = i .fits;
+      classes = j .fits;
+      groups = k .fits;
+      wholes = l .fits;
+    }
+
+-- The words of each section spell the table's entries.
+pub record Reads (ws : List ℕ) (ix : Sections) (t : Table) : Type 0 where
+  pub valid : ranges (within (ix .valid) ws) ≡ some (t .valid)
+  pub ignored : ranges (within (ix .ignored) ws) ≡ some (t .ignored)
+  pub fenced : ranges (within (ix .fenced) ws) ≡ some (t .fenced)
+  pub marks : ranges (within (ix .marks) ws) ≡ some (t .marks)
+  pub nsm : ranges (within (ix .nsm) ws) ≡ some (t .nsm)
+  pub mapped : headed (length (within (ix .mapped) ws)) mostItems (within (ix .mapped) ws) ≡ some (t .mapped)
+  pub decompositions : headed (length (within (ix .decompositions) ws)) mostParts (within (ix .decompositions) ws) ≡ some (t .decompositions)
+  pub emoji : sequences (length (within (ix .emoji) ws)) (within (ix .emoji) ws) ≡ some (t .emoji)
+  pub exclusions : excluded (within (ix .exclusions) ws) ≡ some (t .exclusions)
+  pub classes : classRanges (within (ix .classes) ws) ≡ some (t .classes)
+  pub groups : groups (length (within (ix .groups) ws)) (within (ix .groups) ws) ≡ some (t .groups)
+  pub wholes : wholes (length (within (ix .wholes) ws)) (within (ix .wholes) ws) ≡ some (t .wholes)
+  pub few : length (t .groups) ≤ mostGroups
+
+-- what follows where both steps gave something
+both : {A B C : Type 0} (o : Option A) (f : A → Option B) (b : B) → andThen o f ≡ some b → ((a : A) → o ≡ some a → f a ≡ some b → C) → C
+both none f b e k = let z : _≡_ {A = ℕ} 0 1 = cc in absurd (omega arith)
+both (some a) f b e k = k a refl e
+
+only : {A : Type 0} (t : Bool) (a b : A) → onlyIf t (some a) ≡ some b → (t ≡ true) × (a ≡ b)
+only true a b e = (refl, cc)
+only false a b e = let z : _≡_ {A = ℕ} 0 1 = cc in absurd (omega arith)
+
+table-reads : (ws : List ℕ) (ix : Sections) (t : Table) → tableOf (partsOf ws ix) ≡ some t → Reads ws ix t
+unfolding tableOf partsOf
+table-reads ws ix t e =
+    both (ranges (within (ix .valid) ws)) _ t e λ va ea ra.
+    both (ranges (within (ix .ignored) ws)) _ t ra λ vb eb rb.
+    both (ranges (within (ix .fenced) ws)) _ t rb λ vc ec rc.
+    both (ranges (within (ix .marks) ws)) _ t rc λ vd ed rd.
+    both (ranges (within (ix .nsm) ws)) _ t rd λ ve ee re.
+    both (headed (length (within (ix .mapped) ws)) mostItems (within (ix .mapped) ws)) _ t re λ vf ef rf.
+    both (headed (length (within (ix .decompositions) ws)) mostParts (within (ix .decompositions) ws)) _ t rf λ vg eg rg.
+    both (sequences (length (within (ix .emoji) ws)) (within (ix .emoji) ws)) _ t rg λ vh eh rh.
+    both (excluded (within (ix .exclusions) ws)) _ t rh λ vi ei ri.
+    both (classRanges (within (ix .classes) ws)) _ t ri λ vj ej rj.
+    both (groups (length (within (ix .groups) ws)) (within (ix .groups) ws)) _ t rj λ vk ek rk.
+    both (wholes (length (within (ix .wholes) ws)) (within (ix .wholes) ws)) _ t rk λ vl el rl.
+    let h = only (leb (length vk) mostGroups) (record { valid = va; ignored = vb; fenced = vc; marks = vd; nsm = ve; mapped = vf; decompositions = vg; emoji = vh; exclusions = vi; classes = vj; groups = vk; wholes = vl }) t rl in
+    let few : length vk ≤ mostGroups = leb-true _ _ (h .0) in
+    rw (← h .1)
+    (record { valid = ea; ignored = eb; fenced = ec; marks = ed; nsm = ee; mapped = ef; decompositions = eg; emoji = eh; exclusions = ei; classes = ej; groups = ek; wholes = el; few = few })
+
+-- a table is what the words of the sections spell, where there are not too many words and the last section ends with them
+pub parse-parts : (ws : List ℕ) →
+    parse ws ≡ onlyIf (leb (length ws) mostWords) (cond (eqb (sectionsOf ws .wholes .to) (length ws)) (tableOf (partsOf ws (sectionsOf ws))) none)
+unfolding parse
+parse-parts ws = rw sections-found (ap (onlyIf (leb (length ws) mostWords)) (go (eqb (sectionsOf ws .wholes .to) (length ws)) (partsOf ws (sectionsOf ws))))
+  where
+    go : (b : Bool) (ss : List (List ℕ)) → andThen (cond b (some ss) none) tableOf ≡ cond b (tableOf ss) none
+    go true ss = refl
+    go false ss = refl
+
+-- What a parsed table says of its words.
+pub record Parsed (ws : List ℕ) (t : Table) : Type 0 where
+  pub small : length ws ≤ mostWords
+  pub fit : AllFit ws (sectionsOf ws)
+  pub reads : Reads ws (sectionsOf ws) t
+
+pub parse-parsed : (ws : List ℕ) (t : Table) → parse ws ≡ some t → Parsed ws t
+parse-parsed ws t e = go (leb (length ws) mostWords) (eqb (sectionsOf ws .wholes .to) (length ws)) refl refl (sym (parse-parts ws) ∙ e)
+  where
+    go : (a b : Bool) → leb (length ws) mostWords ≡ a → eqb (sectionsOf ws .wholes .to) (length ws) ≡ b →
+        onlyIf a (cond b (tableOf (partsOf ws (sectionsOf ws))) none) ≡ some t → Parsed ws t
+    go true true p q h =
+        record {
+          small = leb-true _ _ p;
+          fit = sections-fit ws (eqb-true _ _ q);
+          reads = table-reads ws (sectionsOf ws) t h;
+        }
+    go true false p q h = let z : _≡_ {A = ℕ} 0 1 = cc in absurd (omega arith)
+    go false b p q h = let z : _≡_ {A = ℕ} 0 1 = cc in absurd (omega arith)
+
+pub parse-table : (ws : List ℕ) (t : Table) → parse ws ≡ some t → theTable ws ≡ t
+unfolding theTable
+parse-table ws t e = rw e
+
+-- What a layout says of its words.
+pub found-laid : (ws : List ℕ) (ix : Sections) → layoutOf ws ≡ Found ix → Laid ws ix
+found-laid ws ix e = record { found = e }
+
+laid-both : (ws : List ℕ) (ix : Sections) → Laid ws ix → (parse ws ≡ some (theTable ws)) × (ix ≡ sectionsOf ws)
+unfolding layoutOf theTable
+laid-both ws ix l = go (parse ws) refl (l .found)
+  where
+    go : (o : Option Table) → parse ws ≡ o → cond (isSome o) (Found (sectionsOf ws)) Fault ≡ Found ix → (parse ws ≡ some (Option·getD (parse ws) emptyTable)) × (ix ≡ sectionsOf ws)
+    go none e h = let z : _≡_ {A = ℕ} 0 1 = cc in absurd (omega arith)
+    go (some t) e h = (rw e, cc)
+
+pub laid-parse : (ws : List ℕ) (ix : Sections) → Laid ws ix → parse ws ≡ some (theTable ws)
+laid-parse ws ix l = laid-both ws ix l .0
+
+pub laid-sections : (ws : List ℕ) (ix : Sections) → Laid ws ix → ix ≡ sectionsOf ws
+laid-sections ws ix l = laid-both ws ix l .1
+
+pub laid-small : (ws : List ℕ) (ix : Sections) → Laid ws ix → length ws ≤ mostWords
+laid-small ws ix l = parse-parsed ws (theTable ws) (laid-parse ws ix l) .small
+
+pub laid-fits : (ws : List ℕ) (ix : Sections) → Laid ws ix → AllFit ws ix
+laid-fits ws ix l = rw (laid-sections ws ix l) (parse-parsed ws (theTable ws) (laid-parse ws ix l) .fit)
+
+pub laid-reads : (ws : List ℕ) (ix : Sections) → Laid ws ix → Reads ws ix (theTable ws)
+laid-reads ws ix l = rw (laid-sections ws ix l) (parse-parsed ws (theTable ws) (laid-parse ws ix l) .reads)
