@@ -3,7 +3,7 @@ use Prim.Native.Nat.{ℕ, zero, suc, _+_, _-_, _≤_, _<_}
 use native.Mathlib.Omega.{arith}
 use native.Mathlib.Numerals.{add-one}
 use mathlib.Core.Path.{_≡_, refl, sym, ap, _∙_}
-use mathlib.Core.Bool.{Bool, true, false, _&&_, cond}
+use mathlib.Core.Bool.{Bool, true, false, _&&_, cond, and-false}
 use mathlib.Core.List.{List, [], _∷_, map}
 use mathlib.Core.Option.{Option, none, some, Option·getD}
 use lib.ListN.{length, getD, take, drop, length-drop, drop-of-length-le}
@@ -150,20 +150,21 @@ record Good (ws : List ℕ) (at : ℕ) : Type 0 where
   to : spanAt ws at .to ≡ at + 1 + getD ws at 0
   inside : at + 1 + getD ws at 0 ≤ length ws
 
-span-good : (ws : List ℕ) (at : ℕ) → at < length ws → at + 1 + getD ws at 0 ≤ length ws → Good ws at
+-- the section whose count stands at `at`
+pub span-there : (ws : List ℕ) (at : ℕ) → at < length ws → at + 1 + getD ws at 0 ≤ length ws → record { from = at + 1; to = at + 1 + getD ws at 0 } ≡ spanAt ws at
 unfolding spanAt
-span-good ws at h i =
-    let a : ltb at (length ws) ≡ true = lt-ltb at (length ws) h in
-    let b : leb (at + 1 + getD ws at 0) (length ws) ≡ true = le-leb _ _ i in
-    record { begins = h; from = rw (a, b); to = rw (a, b); inside = i }
+span-there ws at h i = rw (lt-ltb at (length ws) h, le-leb (at + 1 + getD ws at 0) (length ws) i)
+
+-- no section there
+pub span-none : (ws : List ℕ) (at : ℕ) → length ws < at + 1 + getD ws at 0 → record { from = length ws + 1; to = length ws + 1 } ≡ spanAt ws at
+unfolding spanAt
+span-none ws at h = rw (lt-leb (at + 1 + getD ws at 0) (length ws) h, and-false (ltb at (length ws)))
+
+span-good : (ws : List ℕ) (at : ℕ) → at < length ws → at + 1 + getD ws at 0 ≤ length ws → Good ws at
+span-good ws at h i = let e = span-there ws at h i in record { begins = h; from = rw (← e); to = rw (← e); inside = i }
 
 span-bad : (ws : List ℕ) (at : ℕ) → length ws < at + 1 + getD ws at 0 → spanAt ws at .to ≡ length ws + 1
-unfolding spanAt
-span-bad ws at h = go (ltb at (length ws))
-  where
-    go : (b : Bool) → (cond {A = Span} (b && leb (at + 1 + getD ws at 0) (length ws)) (record { from = at + 1; to = at + 1 + getD ws at 0 }) (record { from = length ws + 1; to = length ws + 1 })) .to ≡ length ws + 1
-    go true = rw (lt-leb (at + 1 + getD ws at 0) (length ws) h)
-    go false = refl
+span-bad ws at h = rw (← span-none ws at h)
 
 span-past : (ws : List ℕ) (at : ℕ) → length ws ≤ at → spanAt ws at .to ≡ length ws + 1
 span-past ws at h = span-bad ws at (omega arith)
@@ -256,6 +257,24 @@ partsOf ws ix =
 pub sections-found : (ws : List ℕ) → sections 12 ws ≡ cond (eqb (sectionsOf ws .wholes .to) (length ws)) (some (partsOf ws (sectionsOf ws))) none
 unfolding atSpans endOf spans sectionsOf partsOf
 sections-found ws = sections-spans 12 ws 0 (omega arith)
+
+-- the sections, found one behind the other
+pub sections-chain : (ws : List ℕ) (a b c d e f g h i j k l : Span) →
+    a ≡ spanAt ws 0 →
+    b ≡ spanAt ws (a .to) →
+    c ≡ spanAt ws (b .to) →
+    d ≡ spanAt ws (c .to) →
+    e ≡ spanAt ws (d .to) →
+    f ≡ spanAt ws (e .to) →
+    g ≡ spanAt ws (f .to) →
+    h ≡ spanAt ws (g .to) →
+    i ≡ spanAt ws (h .to) →
+    j ≡ spanAt ws (i .to) →
+    k ≡ spanAt ws (j .to) →
+    l ≡ spanAt ws (k .to) →
+    record { valid = a; ignored = b; fenced = c; marks = d; nsm = e; mapped = f; decompositions = g; emoji = h; exclusions = i; classes = j; groups = k; wholes = l } ≡ sectionsOf ws
+unfolding sectionsOf
+sections-chain ws a b c d e f g h i j k l a₁ b₁ c₁ d₁ e₁ f₁ g₁ h₁ i₁ j₁ k₁ l₁ = rw (l₁, k₁, j₁, i₁, h₁, g₁, f₁, e₁, d₁, c₁, b₁, a₁)
 
 -- Each section lies within the words.
 pub record AllFit (ws : List ℕ) (ix : Sections) : Type 0 where

@@ -1,5 +1,7 @@
 // The name table: its layout, and lookups in it.
 
+pub mod laid;
+
 // A section or a part of one: the words from `from` up to, not including, `to`.
 pub struct Span {
     pub from: usize,
