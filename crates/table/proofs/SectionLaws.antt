@@ -39,7 +39,8 @@ use Rattle.table.specs.Layout.{
   tableOf,
   parse,
 }
-use Rattle.table.specs.Laid.{emptyTable, theTable, within, spanAt, sectionsOf, Fits, layoutOf, Laid}
+use Rattle.table.specs.Laid.{emptyTable, theTable, within, spanAt, sectionsOf, Fits, AllFit, layoutOf, Laid}
+use Rattle.table.specs.Walk.{partsOf}
 
 -- Any two fuels that are not below the number of words agree.
 pub headed-fuel : (f g most : ℕ) (ws : List ℕ) → length ws ≤ f → length ws ≤ g → headed f most ws ≡ headed g most ws
@@ -236,23 +237,6 @@ sections-spans (suc k) ws at h = go (λ n i. sections-spans k ws n i) (ltb at (l
         let f : length ws ≤ at = ltb-false _ _ e in
         rw (drop-of-length-le ws f) (no-section k ws at (omega (arith, span-past ws at f)))
 
--- the words of the twelve sections, in their order
-unfoldable pub partsOf : List ℕ → Sections → List (List ℕ)
-partsOf ws ix =
-    within (ix .valid) ws
-    ∷ within (ix .ignored) ws
-    ∷ within (ix .fenced) ws
-    ∷ within (ix .marks) ws
-    ∷ within (ix .nsm) ws
-    ∷ within (ix .mapped) ws
-    ∷ within (ix .decompositions) ws
-    ∷ within (ix .emoji) ws
-    ∷ within (ix .exclusions) ws
-    ∷ within (ix .classes) ws
-    ∷ within (ix .groups) ws
-    ∷ within (ix .wholes) ws
-    ∷ []
-
 -- the twelve sections, where the last of the places ends with the words
 pub sections-found : (ws : List ℕ) → sections 12 ws ≡ cond (eqb (sectionsOf ws .wholes .to) (length ws)) (some (partsOf ws (sectionsOf ws))) none
 unfolding atSpans endOf spans sectionsOf partsOf
@@ -275,21 +259,6 @@ pub sections-chain : (ws : List ℕ) (a b c d e f g h i j k l : Span) →
     record { valid = a; ignored = b; fenced = c; marks = d; nsm = e; mapped = f; decompositions = g; emoji = h; exclusions = i; classes = j; groups = k; wholes = l } ≡ sectionsOf ws
 unfolding sectionsOf
 sections-chain ws a b c d e f g h i j k l a₁ b₁ c₁ d₁ e₁ f₁ g₁ h₁ i₁ j₁ k₁ l₁ = rw (l₁, k₁, j₁, i₁, h₁, g₁, f₁, e₁, d₁, c₁, b₁, a₁)
-
--- Each section lies within the words.
-pub record AllFit (ws : List ℕ) (ix : Sections) : Type 0 where
-  pub valid : Fits ws (ix .valid)
-  pub ignored : Fits ws (ix .ignored)
-  pub fenced : Fits ws (ix .fenced)
-  pub marks : Fits ws (ix .marks)
-  pub nsm : Fits ws (ix .nsm)
-  pub mapped : Fits ws (ix .mapped)
-  pub decompositions : Fits ws (ix .decompositions)
-  pub emoji : Fits ws (ix .emoji)
-  pub exclusions : Fits ws (ix .exclusions)
-  pub classes : Fits ws (ix .classes)
-  pub groups : Fits ws (ix .groups)
-  pub wholes : Fits ws (ix .wholes)
 
 -- a section that ends within the words lies within them, and so does the end of the one before it
 record Back (ws : List ℕ) (at : ℕ) : Type 0 where

@@ -84,6 +84,21 @@ pub record Fits (ws : List ℕ) (s : Span) : Type 0 where
   pub ordered : s .from ≤ s .to
   pub inside : s .to ≤ length ws
 
+-- Each section lies within the words.
+pub record AllFit (ws : List ℕ) (ix : Sections) : Type 0 where
+  pub valid : Fits ws (ix .valid)
+  pub ignored : Fits ws (ix .ignored)
+  pub fenced : Fits ws (ix .fenced)
+  pub marks : Fits ws (ix .marks)
+  pub nsm : Fits ws (ix .nsm)
+  pub mapped : Fits ws (ix .mapped)
+  pub decompositions : Fits ws (ix .decompositions)
+  pub emoji : Fits ws (ix .emoji)
+  pub exclusions : Fits ws (ix .exclusions)
+  pub classes : Fits ws (ix .classes)
+  pub groups : Fits ws (ix .groups)
+  pub wholes : Fits ws (ix .wholes)
+
 -- what the layout pass answers
 unfoldable pub layoutOf : List ℕ → Layout
 unfolding parse sectionsOf

@@ -2,3 +2,4 @@ pub mod Table
 pub mod Layout
 pub mod Lookup
 pub mod Laid
+pub mod Walk

@@ -52,3 +52,12 @@ fn places(words: &[u32]) -> Sections
         wholes: wholes,
     }
 }
+
+// The shape of a section's records. Head, count, items: with at most so many items.
+enum Shape {
+    Pairs,
+    Triples,
+    Headed(usize),
+    Sequences,
+    Wholes,
+}
