@@ -9,7 +9,7 @@ use mathlib.Core.List.{List, [], _∷_}
 use mathlib.Core.Option.{Option, none, some}
 use lib.ListN.{length, getD, take, drop, length-drop, drop-of-length-le}
 use lib.Seq.{drop-cons, drop-drop}
-use lib.Dec.{leb, ltb, eqb, leb·suc-suc}
+use lib.Dec.{leb, ltb, eqb, leb·suc-suc, leb·suc-zero}
 use borrow.Author.Tests.{ltb-true, ltb-false, leb-true, leb-false, eqb-true, le-leb, lt-leb, ne-eqb}
 use Rattle.lists.specs.Lists.{isSome, given, andThen}
 use Rattle.table.specs.declared.laid.Shape.{Shape}
@@ -52,7 +52,8 @@ use Rattle.table.proofs.SectionLaws.{headed-next, sequences-next, group
 abbrev pub Steps : (List ℕ → Bool) → ℕ → List ℕ → Type 0
 Steps f n ws = f ws ≡ (not (eqb n 0) && f (drop n ws))
 
-steps-if : (f : List ℕ → Bool) (b : Bool) (k : ℕ) (ws : List ℕ) → 0 < k → f ws ≡ (b && f (drop k ws)) → Steps f (sizeIf b k) ws
+steps-if : {x : Bool} (f : List ℕ → Bool) (b : Bool) (k : ℕ) (ws : List ℕ) → 0 < k → x ≡ (b && f (drop k ws)) →
+    x ≡ (not (eqb (sizeIf b k) 0) && f (drop (sizeIf b k) ws))
 steps-if f true k ws h e = rw (ne-eqb k 0 (λ q. omega arith)) e
 steps-if f false k ws h e = e
 
@@ -141,3 +142,156 @@ wholes-step n ws = go (ltb n (length ws)) refl
     go false e =
         let h : length ws ≤ n = ltb-false _ _ e in
         rw (lt-leb (n + 2 + getD (n ∷ ws) (n + 1) 0) (length (n ∷ ws)) (omega arith), drop-of-length-le ws h) (no-tail (List Whole) (leb n (length ws)))
+
+step : (s : Shape) (w : ℕ) (ws : List ℕ) → Steps (fitsAs s) (recordSize s (w ∷ ws)) (w ∷ ws)
+step Pairs w ws = pairs-step w ws
+step Triples w ws = triples-step w ws
+step (Headed most) w ws = headed-step most w ws
+step Sequences w ws = sequences-step w ws
+step Wholes w ws = wholes-step w ws
+
+-- A record lies within the words.
+size-le : (b : Bool) (k m : ℕ) → (b ≡ true → k ≤ m) → sizeIf b k ≤ m
+size-le true k m h = h refl
+size-le false k m h = omega arith
+
+last-true : (a b : Bool) → (a && b) ≡ true → b ≡ true
+last-true true b e = e
+last-true false b e = let z : _≡_ {A = ℕ} 0 1 = cc in absurd (omega arith)
+
+first-true : (a b : Bool) → (a && b) ≡ true → a ≡ true
+first-true true b e = refl
+first-true false b e = e
+
+counted-fits : (lead n most : ℕ) (ws : List ℕ) → countedSize lead n most ws ≤ length ws
+unfolding countedSize
+counted-fits lead n most ws =
+    size-le (leb 1 n && leb n most && leb (n + lead) (length ws)) (n + lead) (length ws) (λ e. leb-true _ _ (last-true (leb 1 n && leb n most) (leb (n + lead) (length ws)) e))
+
+pub size-fits : (s : Shape) (ws : List ℕ) → recordSize s ws ≤ length ws
+unfolding recordSize
+size-fits Pairs ws =
+    let b = leb (getD ws 0 0) (getD ws 1 0) in
+    size-le (leb 2 (length ws) && b) 2 (length ws) (λ e. leb-true _ _ (first-true (leb 2 (length ws)) b e))
+size-fits Triples ws =
+    let b = leb (getD ws 0 0) (getD ws 1 0) in
+    let k = leb (getD ws 2 0) mostClass in
+    size-le (leb 3 (length ws) && b && k) 3 (length ws) (λ e. leb-true _ _ (first-true (leb 3 (length ws)) b (first-true (leb 3 (length ws) && b) k e)))
+size-fits (Headed most) ws = counted-fits 2 (getD ws 1 0) most ws
+size-fits Sequences ws = counted-fits 1 (getD ws 0 0) mostItems ws
+size-fits Wholes ws =
+    let n = getD ws 0 0 + 2 + getD ws (getD ws 0 0 + 1) 0 in
+    size-le (leb n (length ws)) n (length ws) (λ e. leb-true _ _ e)
+
+group-fits : (ws : List ℕ) → groupSize ws ≤ length ws
+unfolding groupSize
+group-fits ws =
+    let n = getD ws 1 0 in
+    let f = leb (getD ws 0 0) mostFlags in
+    let r = leb (n + 2) (length ws) in
+    let p = isSome (ranges (take n (drop 2 ws))) in
+    size-le (f && r && p) (n + 2) (length ws) (λ e. leb-true _ _ (last-true f r (first-true (f && r) p e)))
+
+-- The walk at `at`: nothing is left, no record comes next, or one does and the rest behind it decides.
+pub walk-end : (s : Shape) (ws : List ℕ) (at : ℕ) → length ws ≤ at → fitsAs s (drop at ws) ≡ true
+unfolding fitsAs
+walk-end Pairs ws at h = rw (drop-of-length-le ws h)
+walk-end Triples ws at h = rw (drop-of-length-le ws h)
+walk-end (Headed most) ws at h = rw (drop-of-length-le ws h)
+walk-end Sequences ws at h = rw (drop-of-length-le ws h)
+walk-end Wholes ws at h = rw (drop-of-length-le ws h)
+
+-- a step at `at`, for a test f of the words that comes to a test g of the rest
+at-step : (f g : List ℕ → Bool) (size : List ℕ → ℕ) →
+    ((w : ℕ) (ws : List ℕ) → f (w ∷ ws) ≡ (not (eqb (size (w ∷ ws)) 0) && g (drop (size (w ∷ ws)) (w ∷ ws)))) →
+    (ws : List ℕ) (at : ℕ) → at < length ws → f (drop at ws) ≡ (not (eqb (size (drop at ws)) 0) && g (drop (at + size (drop at ws)) ws))
+at-step f g size h ws at i =
+    let e : drop at ws ≡ getD ws at 0 ∷ drop (suc at) ws = drop-cons ws at 0 i in
+    let d : drop (size (drop at ws)) (drop at ws) ≡ drop (at + size (drop at ws)) ws = drop-drop (size (drop at ws)) at ws in
+    let s : f (drop at ws) ≡ (not (eqb (size (drop at ws)) 0) && g (drop (size (drop at ws)) (drop at ws))) = rw e (h (getD ws at 0) (drop (suc at) ws)) in
+    rw d at s
+
+at-more : (f g : List ℕ → Bool) (size : List ℕ → ℕ) →
+    ((w : ℕ) (ws : List ℕ) → f (w ∷ ws) ≡ (not (eqb (size (w ∷ ws)) 0) && g (drop (size (w ∷ ws)) (w ∷ ws)))) →
+    (ws : List ℕ) (at n : ℕ) → at < length ws → n ≡ size (drop at ws) → 0 < n → f (drop at ws) ≡ g (drop (at + n) ws)
+at-more f g size h ws at n i e p =
+    let q : eqb (size (drop at ws)) 0 ≡ false = ne-eqb (size (drop at ws)) 0 (λ z. omega arith) in
+    rw e (rw q at (at-step f g size h ws at i))
+
+at-none : (f g : List ℕ → Bool) (size : List ℕ → ℕ) →
+    ((w : ℕ) (ws : List ℕ) → f (w ∷ ws) ≡ (not (eqb (size (w ∷ ws)) 0) && g (drop (size (w ∷ ws)) (w ∷ ws)))) →
+    (ws : List ℕ) (at : ℕ) → at < length ws → 0 ≡ size (drop at ws) → f (drop at ws) ≡ false
+at-none f g size h ws at i e = rw (← e) at (at-step f g size h ws at i)
+
+pub walk-more : (s : Shape) (ws : List ℕ) (at n : ℕ) → at < length ws → n ≡ recordSize s (drop at ws) → 0 < n → fitsAs s (drop at ws) ≡ fitsAs s (drop (at + n) ws)
+walk-more s = at-more (fitsAs s) (fitsAs s) (recordSize s) (step s)
+
+pub walk-none : (s : Shape) (ws : List ℕ) (at : ℕ) → at < length ws → 0 ≡ recordSize s (drop at ws) → fitsAs s (drop at ws) ≡ false
+walk-none s = at-none (fitsAs s) (fitsAs s) (recordSize s) (step s)
+
+-- The groups, of which there may be at most so many.
+given-group : {A B : Type 0} (b : Bool) (o : Option A) (g : A → B) (r : Option (List B)) (most : ℕ) →
+    given (λ gs. leb (length gs) most) (onlyIf b (andThen o (λ a. inFront (g a) r))) ≡ (b && isSome o && given (λ gs. leb (suc (length gs)) most) r)
+given-group true none g r most = refl
+given-group true (some a) g none most = refl
+given-group true (some a) g (some gs) most = refl
+given-group false o g r most = refl
+
+given-less : {B : Type 0} (r : Option (List B)) (most : ℕ) → given (λ gs. leb (suc (length gs)) (suc most)) r ≡ given (λ gs. leb (length gs) most) r
+given-less none most = refl
+given-less (some gs) most = leb·suc-suc (length gs) most
+
+given-full : {B : Type 0} (r : Option (List B)) → given (λ gs. leb (suc (length gs)) 0) r ≡ false
+given-full none = refl
+given-full (some gs) = leb·suc-zero (length gs)
+
+-- what is left of the number of groups, and the rest of the words
+groupsLeft : ℕ → List ℕ → Bool
+groupsLeft zero ws = false
+groupsLeft (suc most) ws = groupsWithin most ws
+
+given-left : (most : ℕ) (ws : List ℕ) → given (λ gs. leb (suc (length gs)) most) (groups (length ws) ws) ≡ groupsLeft most ws
+unfolding groupsLeft groupsWithin
+given-left zero ws = given-full (groups (length ws) ws)
+given-left (suc most) ws = given-less (groups (length ws) ws) most
+
+group-front : (most f n : ℕ) (ws : List ℕ) →
+    groupsWithin most (f ∷ n ∷ ws) ≡ (leb f mostFlags && leb n (length ws) && isSome (ranges (take n ws)) && groupsLeft most (drop n ws))
+unfolding groupsWithin
+group-front most f n ws =
+    let head : Bool = leb f mostFlags && leb n (length ws) in
+    let rest = groups (length (drop n ws)) (drop n ws) in
+    ap (given (λ gs. leb (length gs) most)) (groups-next f n ws) ∙
+    given-group head (ranges (take n ws)) (group f) rest most ∙
+    ap (λ (b : Bool). head && isSome (ranges (take n ws)) && b) (given-left most (drop n ws))
+
+group-step : (most w : ℕ) (ws : List ℕ) → groupsWithin most (w ∷ ws) ≡ (not (eqb (groupSize (w ∷ ws)) 0) && groupsLeft most (drop (groupSize (w ∷ ws)) (w ∷ ws)))
+unfolding groupsWithin groupSize
+group-step most f [] = rw (and-false (leb f mostFlags))
+group-step most f (n ∷ ws) =
+    let room : leb (n + 2) (length (f ∷ n ∷ ws)) ≡ leb n (length ws) = leb-same (n + 2) (length (f ∷ n ∷ ws)) n (length ws) (λ i. omega arith) (λ i. omega arith) in
+    let rest : drop (n + 2) (f ∷ n ∷ ws) ≡ drop n ws = rw add-two in
+    rw room
+    (steps-if (groupsLeft most) (leb f mostFlags && leb n (length ws) && isSome (ranges (take n ws))) (n + 2) (f ∷ n ∷ ws) (omega arith)
+    (rw rest (group-front most f n ws)))
+
+-- The walk over the groups at `at`.
+pub groups-end : (most : ℕ) (ws : List ℕ) (at : ℕ) → length ws ≤ at → groupsWithin most (drop at ws) ≡ true
+unfolding groupsWithin
+groups-end most ws at h = rw (drop-of-length-le ws h) (le-leb 0 most (omega arith))
+
+pub groups-more : (most : ℕ) (ws : List ℕ) (at n : ℕ) → at < length ws → n ≡ groupSize (drop at ws) → 0 < n → 0 < most →
+    groupsWithin most (drop at ws) ≡ groupsWithin (most - 1) (drop (at + n) ws)
+unfolding groupsLeft
+groups-more zero ws at n h e i j = absurd (omega arith)
+groups-more (suc most) ws at n h e i j =
+    let m : suc most - 1 ≡ most = omega arith in
+    rw m (at-more (groupsWithin (suc most)) (groupsLeft (suc most)) groupSize (group-step (suc most)) ws at n h e i)
+
+pub groups-none : (most : ℕ) (ws : List ℕ) (at : ℕ) → at < length ws → 0 ≡ groupSize (drop at ws) → groupsWithin most (drop at ws) ≡ false
+groups-none most = at-none (groupsWithin most) (groupsLeft most) groupSize (group-step most)
+
+pub groups-full : (ws : List ℕ) (at : ℕ) → at < length ws → groupsWithin 0 (drop at ws) ≡ false
+unfolding groupsLeft
+groups-full ws at h =
+    at-step (groupsWithin 0) (groupsLeft 0) groupSize (group-step 0) ws at h ∙ and-false (not (eqb (groupSize (drop at ws)) 0))
