@@ -295,3 +295,66 @@ pub groups-full : (ws : List ℕ) (at : ℕ) → at < length ws → groupsWithin
 unfolding groupsLeft
 groups-full ws at h =
     at-step (groupsWithin 0) (groupsLeft 0) groupSize (group-step 0) ws at h ∙ and-false (not (eqb (groupSize (drop at ws)) 0))
+
+-- The sizes, test by test.
+module _ (lead n most : ℕ) (ws : List ℕ) where
+  pub counted-few : n < 1 → 0 ≡ countedSize lead n most ws
+  unfolding countedSize
+  counted-few h = rw (lt-leb 1 n h)
+
+  pub counted-many : most < n → 0 ≡ countedSize lead n most ws
+  unfolding countedSize
+  counted-many h = rw (lt-leb n most h, and-false (leb 1 n))
+
+  pub counted-short : length ws < n + lead → 0 ≡ countedSize lead n most ws
+  unfolding countedSize
+  counted-short h = rw (lt-leb (n + lead) (length ws) h, and-false (leb 1 n && leb n most))
+
+  pub counted-there : 1 ≤ n → n ≤ most → n + lead ≤ length ws → n + lead ≡ countedSize lead n most ws
+  unfolding countedSize
+  counted-there h i j = rw (le-leb 1 n h, le-leb n most i, le-leb (n + lead) (length ws) j)
+
+module _ (ws : List ℕ) where
+  pub pair-short : length ws < 2 → 0 ≡ pairSize ws
+  unfolding pairSize
+  pair-short h = rw (lt-leb 2 (length ws) h)
+
+  pub pair-back : getD ws 1 0 < getD ws 0 0 → 0 ≡ pairSize ws
+  unfolding pairSize
+  pair-back h = rw (lt-leb (getD ws 0 0) (getD ws 1 0) h, and-false (leb 2 (length ws)))
+
+  pub pair-there : 2 ≤ length ws → getD ws 0 0 ≤ getD ws 1 0 → 2 ≡ pairSize ws
+  unfolding pairSize
+  pair-there h i = rw (le-leb 2 (length ws) h, le-leb (getD ws 0 0) (getD ws 1 0) i)
+
+  pub triple-short : length ws < 3 → 0 ≡ tripleSize ws
+  unfolding tripleSize
+  triple-short h = rw (lt-leb 3 (length ws) h)
+
+  pub triple-back : getD ws 1 0 < getD ws 0 0 → 0 ≡ tripleSize ws
+  unfolding tripleSize
+  triple-back h = rw (lt-leb (getD ws 0 0) (getD ws 1 0) h, and-false (leb 3 (length ws)))
+
+  pub triple-over : mostClass < getD ws 2 0 → 0 ≡ tripleSize ws
+  unfolding tripleSize
+  triple-over h = rw (lt-leb (getD ws 2 0) mostClass h, and-false (leb 3 (length ws) && leb (getD ws 0 0) (getD ws 1 0)))
+
+  pub triple-there : 3 ≤ length ws → getD ws 0 0 ≤ getD ws 1 0 → getD ws 2 0 ≤ mostClass → 3 ≡ tripleSize ws
+  unfolding tripleSize
+  triple-there h i j = rw (le-leb 3 (length ws) h, le-leb (getD ws 0 0) (getD ws 1 0) i, le-leb (getD ws 2 0) mostClass j)
+
+  pub whole-short : length ws < getD ws 0 0 + 2 + getD ws (getD ws 0 0 + 1) 0 → 0 ≡ wholeSize ws
+  unfolding wholeSize
+  whole-short h = rw (lt-leb (getD ws 0 0 + 2 + getD ws (getD ws 0 0 + 1) 0) (length ws) h)
+
+  pub whole-there : getD ws 0 0 + 2 + getD ws (getD ws 0 0 + 1) 0 ≤ length ws → getD ws 0 0 + 2 + getD ws (getD ws 0 0 + 1) 0 ≡ wholeSize ws
+  unfolding wholeSize
+  whole-there h = rw (le-leb (getD ws 0 0 + 2 + getD ws (getD ws 0 0 + 1) 0) (length ws) h)
+
+  pub sequence-short : length ws < 1 → 0 ≡ sequenceSize ws
+  unfolding sequenceSize
+  sequence-short h = counted-short 1 (getD ws 0 0) mostItems ws (omega arith)
+
+pub headed-short : (most : ℕ) (ws : List ℕ) → length ws < 2 → 0 ≡ headedSize most ws
+unfolding headedSize
+headed-short most ws h = counted-short 2 (getD ws 1 0) most ws (omega arith)

@@ -2,7 +2,17 @@
 
 use crate::{Layout, Sections, Span};
 
+// "Items per record: mapped and emoji 1 to 32", "a class at most 255"
+const MOST_ITEMS: usize = 32;
+const MOST_CLASS: u32 = 255;
+const MOST_FLAGS: u32 = 3;
+const MOST_GROUPS: usize = 256;
+
+ghost use Prim.Native.Nat.{_≤_};
 ghost use mathlib.Core.Path.{_≡_};
+ghost use Rattle.table.specs.Walk.{countedSize, pairSize, tripleSize, headedSize, sequenceSize, wholeSize, recordSize, fitsAs, groupSize, groupsWithin};
+ghost use Rattle.lists.specs.Lists.{isSome};
+ghost use Rattle.table.specs.Layout.{mostGroups, excluded};
 
 ghost use Rattle.table.specs.Laid.{spanAt, sectionsOf, layoutOf};
 
@@ -53,11 +63,174 @@ fn places(words: &[u32]) -> Sections
     }
 }
 
-// The shape of a section's records. Head, count, items: with at most so many items.
+// The shape of a section's records; records with a head hold at most so many items.
 enum Shape {
     Pairs,
     Triples,
     Headed(usize),
     Sequences,
     Wholes,
+}
+
+// The number of words of a record with n items behind `lead` words, or 0 where n is not from 1 to `most` or the words end before.
+fn counted_size(rest: &[u32], lead: usize, n: usize, most: usize) -> usize
+    requires { ⌜ lead ≤ 2 ⌝ }
+    ensures { λ r. ⌜ r ≡ countedSize lead n most (now (rest .entry)) ⌝ }
+{
+    if n < 1 {
+        return 0;
+    }
+    if n > most {
+        return 0;
+    }
+    if n > rest.len() {
+        return 0;
+    }
+    let size = n + lead;
+    if size > rest.len() {
+        return 0;
+    }
+    size
+}
+
+// The number of words of the record that `rest` begins with, or 0 where none does.
+fn pair_size(rest: &[u32]) -> usize
+    ensures { λ r. ⌜ r ≡ pairSize (now (rest .entry)) ⌝ }
+{
+    if rest.len() < 2 {
+        return 0;
+    }
+    if rest[0] > rest[1] {
+        return 0;
+    }
+    2
+}
+
+fn triple_size(rest: &[u32]) -> usize
+    ensures { λ r. ⌜ r ≡ tripleSize (now (rest .entry)) ⌝ }
+{
+    if rest.len() < 3 {
+        return 0;
+    }
+    if rest[0] > rest[1] {
+        return 0;
+    }
+    if rest[2] > MOST_CLASS {
+        return 0;
+    }
+    3
+}
+
+fn headed_size(rest: &[u32], most: usize) -> usize
+    ensures { λ r. ⌜ r ≡ headedSize most (now (rest .entry)) ⌝ }
+{
+    if rest.len() < 2 {
+        return 0;
+    }
+    let n = rest[1] as usize;
+    counted_size(rest, 2, n, most)
+}
+
+fn sequence_size(rest: &[u32]) -> usize
+    ensures { λ r. ⌜ r ≡ sequenceSize (now (rest .entry)) ⌝ }
+{
+    if rest.len() < 1 {
+        return 0;
+    }
+    let n = rest[0] as usize;
+    counted_size(rest, 1, n, MOST_ITEMS)
+}
+
+fn whole_size(rest: &[u32]) -> usize
+    ensures { λ r. ⌜ r ≡ wholeSize (now (rest .entry)) ⌝ }
+{
+    if rest.len() < 2 {
+        return 0;
+    }
+    let n = rest[0] as usize;
+    if n > rest.len() - 2 {
+        return 0;
+    }
+    let m = rest[n + 1] as usize;
+    if m > rest.len() - 2 - n {
+        return 0;
+    }
+    n + 2 + m
+}
+
+fn record_size(rest: &[u32], shape: Shape) -> usize
+    ensures { λ r. ⌜ r ≡ recordSize shape (now (rest .entry)) ⌝ }
+{
+    match shape {
+        Shape::Pairs => pair_size(rest),
+        Shape::Triples => triple_size(rest),
+        Shape::Headed(most) => headed_size(rest, most),
+        Shape::Sequences => sequence_size(rest),
+        Shape::Wholes => whole_size(rest),
+    }
+}
+
+// Whether the words are records of the shape, one behind the other.
+fn records_fit(part: &[u32], shape: Shape) -> bool
+    ensures { λ r. ⌜ r ≡ fitsAs shape (now (part .entry)) ⌝ }
+{
+    let mut at: usize = 0;
+    while at < part.len() {
+        let size = record_size(&part[at..], shape);
+        if size == 0 {
+            return false;
+        }
+        at += size;
+    }
+    true
+}
+
+fn group_size(rest: &[u32]) -> usize
+    ensures { λ r. ⌜ r ≡ groupSize (now (rest .entry)) ⌝ }
+{
+    if rest.len() < 2 {
+        return 0;
+    }
+    if rest[0] > MOST_FLAGS {
+        return 0;
+    }
+    let n = rest[1] as usize;
+    if n > rest.len() - 2 {
+        return 0;
+    }
+    let to = n + 2;
+    if records_fit(&rest[2..to], Shape::Pairs) {
+        return to;
+    }
+    0
+}
+
+// Whether the words are groups, one behind the other, and not too many.
+fn groups_fit(part: &[u32]) -> bool
+    ensures { λ r. ⌜ r ≡ groupsWithin mostGroups (now (part .entry)) ⌝ }
+{
+    let mut at: usize = 0;
+    let mut left: usize = MOST_GROUPS;
+    while at < part.len() {
+        if left == 0 {
+            return false;
+        }
+        let size = group_size(&part[at..]);
+        if size == 0 {
+            return false;
+        }
+        left -= 1;
+        at += size;
+    }
+    true
+}
+
+// Whether the words are a single record: count, items.
+fn excluded_fit(part: &[u32]) -> bool
+    ensures { λ r. ⌜ r ≡ isSome (excluded (now (part .entry))) ⌝ }
+{
+    if part.len() == 0 {
+        return false;
+    }
+    part[0] as usize == part.len() - 1
 }

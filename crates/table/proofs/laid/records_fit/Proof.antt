@@ -1,0 +1,73 @@
+use Rattle.table.proofs.laid.records_fit.Statement.{statement}
+use Rattle.table.proofs.laid.records_fit.Tie as tie
+use Rattle.table.proofs.laid.records_fit.Reads as reads
+use Rattle.table.proofs.laid.records_fit.Lts as lts
+use Rattle.table.proofs.laid.record_size.Reads as record-size-reads
+
+abbrev Inv-loop : tie.InvT-loop
+Inv-loop part shape at₀ at = ?
+
+abbrev μ-loop : tie.MeasureT-loop
+μ-loop part shape at₀ at = ?
+
+-- src/laid.rt:178:5
+loop-holds : tie.Need-loop-holds Inv-loop μ-loop
+loop-holds c = ?
+
+-- src/laid.rt:179:32
+mul-record-size : tie.Need-mul-record-size Inv-loop μ-loop
+mul-record-size c = ?
+
+-- src/laid.rt:179:32
+sub-record-size : tie.Need-sub-record-size Inv-loop μ-loop
+sub-record-size c = ?
+
+-- src/laid.rt:179:32
+part-record-size-start : tie.Need-part-record-size-start Inv-loop μ-loop
+part-record-size-start c = ?
+
+-- src/laid.rt:179:32
+part-record-size-end : tie.Need-part-record-size-end Inv-loop μ-loop
+part-record-size-end c = ?
+
+-- src/laid.rt:179:13
+record-size-requires : tie.Need-record-size-requires Inv-loop μ-loop
+record-size-requires c κs = ?
+
+-- src/laid.rt:181:13
+returns : tie.Need-returns Inv-loop μ-loop
+returns c = ?
+
+-- src/laid.rt:183:9
+add-at : tie.Need-add-at Inv-loop μ-loop
+add-at c = ?
+
+-- src/laid.rt:178:5
+loop-less : tie.Need-loop-less Inv-loop μ-loop
+loop-less c = ?
+
+-- src/laid.rt:178:5
+loop-again : tie.Need-loop-again Inv-loop μ-loop
+loop-again c = ?
+
+-- src/laid.rt:174:1
+returns-2 : tie.Need-returns-2 Inv-loop μ-loop
+returns-2 c = ?
+
+pub records-fit-spec : {M : Type 1} → statement M
+records-fit-spec =
+    tie.close
+    (tie.spec
+    Inv-loop
+    μ-loop
+    loop-holds
+    mul-record-size
+    sub-record-size
+    part-record-size-start
+    part-record-size-end
+    record-size-requires
+    returns
+    add-at
+    loop-less
+    loop-again
+    returns-2)
