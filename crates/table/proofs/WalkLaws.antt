@@ -8,7 +8,7 @@ use mathlib.Core.Bool.{Bool, true, false, not, _&&_, cond, and-false}
 use mathlib.Core.List.{List, [], _∷_}
 use mathlib.Core.Option.{Option, none, some}
 use lib.ListN.{length, getD, take, drop, length-drop, drop-of-length-le}
-use lib.Seq.{drop-cons, drop-drop}
+use lib.Seq.{drop-cons, drop-drop, take-all}
 use lib.Dec.{leb, ltb, eqb, leb·suc-suc, leb·suc-zero}
 use borrow.Author.Tests.{ltb-true, ltb-false, leb-true, leb-false, eqb-true, le-leb, lt-leb, ne-eqb}
 use Rattle.lists.specs.Lists.{isSome, given, andThen}
@@ -27,6 +27,7 @@ use Rattle.table.specs.Layout.{
   classRanges,
   headed,
   sequences,
+  excluded,
   group,
   groups,
   Tail,
@@ -192,6 +193,10 @@ group-fits ws =
     let p = isSome (ranges (take n (drop 2 ws))) in
     size-le (f && r && p) (n + 2) (length ws) (λ e. leb-true _ _ (last-true f r (first-true (f && r) p e)))
 
+-- the part of the words from `at` on
+pub part-tail : (ws : List ℕ) (at : ℕ) → take (length ws - at) (drop at ws) ≡ drop at ws
+part-tail ws at = take-all (length ws - at) (drop at ws) (simp length-drop (omega arith))
+
 -- The walk at `at`: nothing is left, no record comes next, or one does and the rest behind it decides.
 pub walk-end : (s : Shape) (ws : List ℕ) (at : ℕ) → length ws ≤ at → fitsAs s (drop at ws) ≡ true
 unfolding fitsAs
@@ -351,6 +356,22 @@ module _ (ws : List ℕ) where
   unfolding wholeSize
   whole-there h = rw (le-leb (getD ws 0 0 + 2 + getD ws (getD ws 0 0 + 1) 0) (length ws) h)
 
+  pub group-short : length ws < getD ws 1 0 + 2 → 0 ≡ groupSize ws
+  unfolding groupSize
+  group-short h = rw (lt-leb (getD ws 1 0 + 2) (length ws) h, and-false (leb (getD ws 0 0) mostFlags))
+
+  pub group-over : mostFlags < getD ws 0 0 → 0 ≡ groupSize ws
+  unfolding groupSize
+  group-over h = rw (lt-leb (getD ws 0 0) mostFlags h)
+
+  pub group-broken : false ≡ fitsAs Pairs (take (getD ws 1 0) (drop 2 ws)) → 0 ≡ groupSize ws
+  unfolding groupSize fitsAs
+  group-broken h = rw (← h, and-false (leb (getD ws 0 0) mostFlags && leb (getD ws 1 0 + 2) (length ws)))
+
+  pub group-there : getD ws 0 0 ≤ mostFlags → getD ws 1 0 + 2 ≤ length ws → true ≡ fitsAs Pairs (take (getD ws 1 0) (drop 2 ws)) → getD ws 1 0 + 2 ≡ groupSize ws
+  unfolding groupSize fitsAs
+  group-there h i j = rw (le-leb (getD ws 0 0) mostFlags h, le-leb (getD ws 1 0 + 2) (length ws) i, ← j)
+
   pub sequence-short : length ws < 1 → 0 ≡ sequenceSize ws
   unfolding sequenceSize
   sequence-short h = counted-short 1 (getD ws 0 0) mostItems ws (omega arith)
@@ -358,3 +379,18 @@ module _ (ws : List ℕ) where
 pub headed-short : (most : ℕ) (ws : List ℕ) → length ws < 2 → 0 ≡ headedSize most ws
 unfolding headedSize
 headed-short most ws h = counted-short 2 (getD ws 1 0) most ws (omega arith)
+
+-- The single record of the exclusions.
+pub excluded-none : (ws : List ℕ) → length ws ≡ 0 → false ≡ isSome (excluded ws)
+unfolding excluded
+excluded-none [] h = refl
+excluded-none (n ∷ ws) h = absurd (omega arith)
+
+pub excluded-one : (ws : List ℕ) → 0 < length ws → eqb (getD ws 0 0) (length ws - 1) ≡ isSome (excluded ws)
+unfolding excluded
+excluded-one [] h = absurd (omega arith)
+excluded-one (n ∷ ws) h = let e : suc (length ws) - 1 ≡ length ws = omega arith in rw e (go (eqb n (length ws)))
+  where
+    go : (b : Bool) → b ≡ isSome (onlyIf b (some ws))
+    go true = refl
+    go false = refl

@@ -1,0 +1,81 @@
+use borrow.Author.Needs.{needs}
+use Rattle.table.proofs.laid.group_size.Statement.{statement}
+use Rattle.table.proofs.laid.group_size.Tie as tie
+use Rattle.table.proofs.laid.group_size.Reads as reads
+use Rattle.table.proofs.laid.group_size.Lts as lts
+use Rattle.table.proofs.laid.records_fit.Reads as records-fit-reads
+
+-- src/laid.rt:192:9
+returns : tie.Need-returns
+returns c = ?
+
+-- src/laid.rt:194:8
+shared-slice-read-if2 : tie.Need-shared-slice-read-if2
+shared-slice-read-if2 c = search needs
+
+-- src/laid.rt:195:9
+returns-2 : tie.Need-returns-2
+returns-2 c = ?
+
+-- src/laid.rt:197:13
+shared-slice-read-n : tie.Need-shared-slice-read-n
+shared-slice-read-n c = search needs
+
+-- src/laid.rt:197:13
+cast-n : tie.Need-cast-n
+cast-n c = ?
+
+-- src/laid.rt:198:12
+sub-if3 : tie.Need-sub-if3
+sub-if3 c = search needs
+
+-- src/laid.rt:199:9
+returns-3 : tie.Need-returns-3
+returns-3 c = ?
+
+-- src/laid.rt:201:14
+add-to : tie.Need-add-to
+add-to c = search needs
+
+-- src/laid.rt:202:20
+sub-records-fit : tie.Need-sub-records-fit
+sub-records-fit c = search needs
+
+-- src/laid.rt:202:20
+part-records-fit-start : tie.Need-part-records-fit-start
+part-records-fit-start c = search needs
+
+-- src/laid.rt:202:20
+part-records-fit-end : tie.Need-part-records-fit-end
+part-records-fit-end c = search needs
+
+-- src/laid.rt:202:8
+records-fit-requires : tie.Need-records-fit-requires
+records-fit-requires c κs = search needs
+
+-- src/laid.rt:203:9
+returns-4 : tie.Need-returns-4
+returns-4 c = ?
+
+-- src/laid.rt:188:1
+returns-5 : tie.Need-returns-5
+returns-5 c = ?
+
+pub group-size-spec : {M : Type 1} → statement M
+group-size-spec =
+    tie.close
+    (tie.spec
+    returns
+    shared-slice-read-if2
+    returns-2
+    shared-slice-read-n
+    cast-n
+    sub-if3
+    returns-3
+    add-to
+    sub-records-fit
+    part-records-fit-start
+    part-records-fit-end
+    records-fit-requires
+    returns-4
+    returns-5)
