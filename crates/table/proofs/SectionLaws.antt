@@ -412,3 +412,23 @@ laid-fits ws ix l = rw (laid-sections ws ix l) (parse-parsed ws (theTable ws) (l
 
 pub laid-reads : (ws : List ℕ) (ix : Sections) → Laid ws ix → Reads ws ix (theTable ws)
 laid-reads ws ix l = rw (laid-sections ws ix l) (parse-parsed ws (theTable ws) (laid-parse ws ix l) .reads)
+
+-- What the layout pass answers, test by test.
+layout-parts : (ws : List ℕ) →
+    layoutOf ws
+    ≡ cond (isSome (onlyIf (leb (length ws) mostWords) (cond (eqb (sectionsOf ws .wholes .to) (length ws)) (tableOf (partsOf ws (sectionsOf ws))) none))) (Found (sectionsOf ws)) Fault
+unfolding layoutOf
+layout-parts ws = ap (λ (o : Option Table). cond (isSome o) (Found (sectionsOf ws)) Fault) (parse-parts ws)
+
+pub layout-long : (ws : List ℕ) → mostWords < length ws → Fault ≡ layoutOf ws
+layout-long ws h = sym (rw (lt-leb (length ws) mostWords h) at (layout-parts ws))
+
+module _ (ws : List ℕ) (small : length ws ≤ mostWords) where
+  layout-small : layoutOf ws ≡ cond (isSome (cond (eqb (sectionsOf ws .wholes .to) (length ws)) (tableOf (partsOf ws (sectionsOf ws))) none)) (Found (sectionsOf ws)) Fault
+  layout-small = rw (le-leb (length ws) mostWords small) at (layout-parts ws)
+
+  pub layout-open : (sectionsOf ws .wholes .to ≡ length ws → ⊥) → Fault ≡ layoutOf ws
+  layout-open h = sym (rw (ne-eqb (sectionsOf ws .wholes .to) (length ws) h) at layout-small)
+
+  pub layout-tells : (b : Bool) → sectionsOf ws .wholes .to ≡ length ws → b ≡ isSome (tableOf (partsOf ws (sectionsOf ws))) → cond b (Found (sectionsOf ws)) Fault ≡ layoutOf ws
+  layout-tells b h e = sym (rw (eq-eqb (sectionsOf ws .wholes .to) (length ws) h, ← e) at layout-small)

@@ -4,7 +4,7 @@ use Prim.Native.Nat.{ℕ, zero, suc, _+_, _-_, _≤_, _<_}
 use native.Mathlib.Omega.{arith}
 use native.Mathlib.Numerals.{add-one, add-two}
 use mathlib.Core.Path.{_≡_, refl, sym, ap, _∙_}
-use mathlib.Core.Bool.{Bool, true, false, not, _&&_, cond, and-false}
+use mathlib.Core.Bool.{Bool, true, false, not, _&&_, cond, and-false, and-comm, and-assoc}
 use mathlib.Core.List.{List, [], _∷_}
 use mathlib.Core.Option.{Option, none, some}
 use lib.ListN.{length, getD, take, drop, length-drop, drop-of-length-le}
@@ -12,11 +12,13 @@ use lib.Seq.{drop-cons, drop-drop, take-all}
 use lib.Dec.{leb, ltb, eqb, leb·suc-suc, leb·suc-zero}
 use borrow.Author.Tests.{ltb-true, ltb-false, leb-true, leb-false, eqb-true, le-leb, lt-leb, ne-eqb}
 use Rattle.lists.specs.Lists.{isSome, given, andThen}
+use Rattle.table.specs.declared.Sections.{Sections}
 use Rattle.table.specs.declared.laid.Shape.{Shape}
 use Rattle.table.specs.declared.laid.Shape.the-variants.{Pairs, Triples, Headed, Sequences, Wholes}
 use Rattle.table.specs.Table.{Whole}
 use Rattle.table.specs.Layout.{
   mostItems,
+  mostParts,
   mostFlags,
   mostClass,
   mostGroups,
@@ -32,8 +34,10 @@ use Rattle.table.specs.Layout.{
   groups,
   Tail,
   confusedPart,
-  wholes
+  wholes,
+  tableOf
 }
+use Rattle.table.specs.Laid.{within}
 use Rattle.table.specs.Walk.{
   sizeIf,
   countedSize,
@@ -45,7 +49,8 @@ use Rattle.table.specs.Walk.{
   groupSize,
   recordSize,
   fitsAs,
-  groupsWithin
+  groupsWithin,
+  partsOf
 }
 use Rattle.table.proofs.SectionLaws.{headed-next, sequences-next, groups-next, wholes-next}
 
@@ -184,7 +189,7 @@ size-fits Wholes ws =
     let n = getD ws 0 0 + 2 + getD ws (getD ws 0 0 + 1) 0 in
     size-le (leb n (length ws)) n (length ws) (λ e. leb-true _ _ e)
 
-group-fits : (ws : List ℕ) → groupSize ws ≤ length ws
+pub group-fits : (ws : List ℕ) → groupSize ws ≤ length ws
 unfolding groupSize
 group-fits ws =
     let n = getD ws 1 0 in
@@ -394,3 +399,51 @@ excluded-one (n ∷ ws) h = let e : suc (length ws) - 1 ≡ length ws = omega ar
     go : (b : Bool) → b ≡ isSome (onlyIf b (some ws))
     go true = refl
     go false = refl
+
+-- All sections are well formed.
+some-only : {A : Type 0} (b : Bool) (a : A) → isSome (onlyIf b (some a)) ≡ b
+some-only true a = refl
+some-only false a = refl
+
+module _ {A B : Type 0} where
+  some-then : (o : Option A) (f : A → Option B) (b : Bool) → ((a : A) → isSome (f a) ≡ b) → isSome (andThen o f) ≡ (isSome o && b)
+  some-then none f b h = refl
+  some-then (some a) f b h = h a
+
+  given-then : (p : A → Bool) (o : Option A) (f : A → Option B) (b : Bool) → ((a : A) → isSome (f a) ≡ (b && p a)) → isSome (andThen o f) ≡ (given p o && b)
+  given-then p none f b h = refl
+  given-then p (some a) f b h = h a ∙ and-comm b (p a)
+
+table-some : (ws : List ℕ) (ix : Sections) → isSome (tableOf (partsOf ws ix)) ≡ (fitsAs Pairs (within (ix .valid) ws) && (fitsAs Pairs (within (ix .ignored) ws) && (fitsAs Pairs (within (ix .fenced) ws) && (fitsAs Pairs (within (ix .marks) ws) && (fitsAs Pairs (within (ix .nsm) ws) && (fitsAs (Headed mostItems) (within (ix .mapped) ws) && (fitsAs (Headed mostParts) (within (ix .decompositions) ws) && (fitsAs Sequences (within (ix .emoji) ws) && (isSome (excluded (within (ix .exclusions) ws)) && (fitsAs Triples (within (ix .classes) ws) && (groupsWithin mostGroups (within (ix .groups) ws) && fitsAs Wholes (within (ix .wholes) ws))))))))))))
+unfolding tableOf partsOf fitsAs groupsWithin
+table-some ws ix =
+    some-then (ranges (within (ix .valid) ws)) _ _ λ a.
+    some-then (ranges (within (ix .ignored) ws)) _ _ λ b.
+    some-then (ranges (within (ix .fenced) ws)) _ _ λ c.
+    some-then (ranges (within (ix .marks) ws)) _ _ λ d.
+    some-then (ranges (within (ix .nsm) ws)) _ _ λ e.
+    some-then (headed (length (within (ix .mapped) ws)) mostItems (within (ix .mapped) ws)) _ _ λ f.
+    some-then (headed (length (within (ix .decompositions) ws)) mostParts (within (ix .decompositions) ws)) _ _ λ g.
+    some-then (sequences (length (within (ix .emoji) ws)) (within (ix .emoji) ws)) _ _ λ h.
+    some-then (excluded (within (ix .exclusions) ws)) _ _ λ i.
+    some-then (classRanges (within (ix .classes) ws)) _ _ λ j.
+    given-then (λ gs. leb (length gs) mostGroups) (groups (length (within (ix .groups) ws)) (within (ix .groups) ws)) _ _ λ k.
+    some-then (wholes (length (within (ix .wholes) ws)) (within (ix .wholes) ws)) _ _ λ l.
+    some-only (leb (length k) mostGroups) _
+
+pub all-fit-chain : (ws : List ℕ) (ix : Sections) (a b c d e f g h i j k l : Bool) →
+    a ≡ (true && fitsAs Pairs (within (ix .valid) ws)) →
+    b ≡ (a && fitsAs Pairs (within (ix .ignored) ws)) →
+    c ≡ (b && fitsAs Pairs (within (ix .fenced) ws)) →
+    d ≡ (c && fitsAs Pairs (within (ix .marks) ws)) →
+    e ≡ (d && fitsAs Pairs (within (ix .nsm) ws)) →
+    f ≡ (e && fitsAs (Headed mostItems) (within (ix .mapped) ws)) →
+    g ≡ (f && fitsAs (Headed mostParts) (within (ix .decompositions) ws)) →
+    h ≡ (g && fitsAs Sequences (within (ix .emoji) ws)) →
+    i ≡ (h && isSome (excluded (within (ix .exclusions) ws))) →
+    j ≡ (i && fitsAs Triples (within (ix .classes) ws)) →
+    k ≡ (j && groupsWithin mostGroups (within (ix .groups) ws)) →
+    l ≡ (k && fitsAs Wholes (within (ix .wholes) ws)) →
+    l ≡ isSome (tableOf (partsOf ws ix))
+all-fit-chain ws ix a b c d e f g h i j k l a₁ b₁ c₁ d₁ e₁ f₁ g₁ h₁ i₁ j₁ k₁ l₁ =
+    rw (table-some ws ix, l₁, k₁, j₁, i₁, h₁, g₁, f₁, e₁, d₁, c₁, b₁, a₁) (simp and-assoc)

@@ -3,18 +3,21 @@
 use crate::{Layout, Sections, Span};
 
 // "Items per record: mapped and emoji 1 to 32", "a class at most 255"
+const MOST_WORDS: usize = 131072;
 const MOST_ITEMS: usize = 32;
+const MOST_PARTS: usize = 4;
 const MOST_CLASS: u32 = 255;
 const MOST_FLAGS: u32 = 3;
 const MOST_GROUPS: usize = 256;
 
 ghost use Prim.Native.Nat.{_≤_};
 ghost use mathlib.Core.Path.{_≡_};
-ghost use Rattle.table.specs.Walk.{countedSize, pairSize, tripleSize, headedSize, sequenceSize, wholeSize, recordSize, fitsAs, groupSize, groupsWithin};
+ghost use Rattle.table.specs.Walk.{countedSize, pairSize, tripleSize, headedSize, sequenceSize, wholeSize, recordSize, fitsAs, groupSize, groupsWithin, partsOf};
+ghost use mathlib.Core.Bool.{_&&_};
 ghost use Rattle.lists.specs.Lists.{isSome};
-ghost use Rattle.table.specs.Layout.{mostGroups, excluded};
+ghost use Rattle.table.specs.Layout.{mostGroups, excluded, tableOf};
 
-ghost use Rattle.table.specs.Laid.{spanAt, sectionsOf, layoutOf};
+ghost use Rattle.table.specs.Laid.{within, spanAt, sectionsOf, Fits, AllFit, layoutOf};
 
 // The section whose count stands at `at`; where there is none, an empty one past the end of the words.
 fn span_at(words: &[u32], at: usize) -> Span
@@ -233,4 +236,78 @@ fn excluded_fit(part: &[u32]) -> bool
         return false;
     }
     part[0] as usize == part.len() - 1
+}
+
+// Whether what was seen so far is well formed, and the section is records of the shape.
+fn records_in(words: &[u32], s: Span, shape: Shape, good: bool) -> bool
+    requires { ⌜ Fits (now words) s ⌝ }
+    ensures { λ r. ⌜ r ≡ (good && fitsAs shape (within s (now (words .entry)))) ⌝ }
+{
+    if good {
+        let from = s.from;
+        let to = s.to;
+        return records_fit(&words[from..to], shape);
+    }
+    false
+}
+
+fn groups_in(words: &[u32], s: Span, good: bool) -> bool
+    requires { ⌜ Fits (now words) s ⌝ }
+    ensures { λ r. ⌜ r ≡ (good && groupsWithin mostGroups (within s (now (words .entry)))) ⌝ }
+{
+    if good {
+        let from = s.from;
+        let to = s.to;
+        return groups_fit(&words[from..to]);
+    }
+    false
+}
+
+fn excluded_in(words: &[u32], s: Span, good: bool) -> bool
+    requires { ⌜ Fits (now words) s ⌝ }
+    ensures { λ r. ⌜ r ≡ (good && isSome (excluded (within s (now (words .entry))))) ⌝ }
+{
+    if good {
+        let from = s.from;
+        let to = s.to;
+        return excluded_fit(&words[from..to]);
+    }
+    false
+}
+
+// Whether every section is well formed.
+fn all_fit(words: &[u32], ix: Sections) -> bool
+    requires { ⌜ AllFit (now words) ix ⌝ }
+    ensures { λ r. ⌜ r ≡ isSome (tableOf (partsOf (now (words .entry)) ix)) ⌝ }
+{
+    let valid = records_in(words, ix.valid, Shape::Pairs, true);
+    let ignored = records_in(words, ix.ignored, Shape::Pairs, valid);
+    let fenced = records_in(words, ix.fenced, Shape::Pairs, ignored);
+    let marks = records_in(words, ix.marks, Shape::Pairs, fenced);
+    let nsm = records_in(words, ix.nsm, Shape::Pairs, marks);
+    let mapped = records_in(words, ix.mapped, Shape::Headed(MOST_ITEMS), nsm);
+    let decompositions = records_in(words, ix.decompositions, Shape::Headed(MOST_PARTS), mapped);
+    let emoji = records_in(words, ix.emoji, Shape::Sequences, decompositions);
+    let exclusions = excluded_in(words, ix.exclusions, emoji);
+    let classes = records_in(words, ix.classes, Shape::Triples, exclusions);
+    let groups = groups_in(words, ix.groups, classes);
+    records_in(words, ix.wholes, Shape::Wholes, groups)
+}
+
+// The places of the sections, or a fault where the words are not a table.
+pub fn layout(words: &[u32]) -> Layout
+    ensures { λ r. ⌜ r ≡ layoutOf (now (words .entry)) ⌝ }
+{
+    if words.len() > MOST_WORDS {
+        return Layout::Fault;
+    }
+    let ix = places(words);
+    let end = ix.wholes.to;
+    if end != words.len() {
+        return Layout::Fault;
+    }
+    if all_fit(words, ix) {
+        return Layout::Found(ix);
+    }
+    Layout::Fault
 }

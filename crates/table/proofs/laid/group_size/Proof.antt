@@ -1,3 +1,8 @@
+use Prim.Native.Nat.{_+_, _-_}
+use native.Mathlib.Omega.{arith}
+use mathlib.Core.Path.{_≡_}
+use lib.ListN.{getD}
+use Rattle.table.proofs.WalkLaws.{group-short, group-over, group-broken, group-there}
 use borrow.Author.Needs.{needs}
 use Rattle.table.proofs.laid.group_size.Statement.{statement}
 use Rattle.table.proofs.laid.group_size.Tie as tie
@@ -7,7 +12,7 @@ use Rattle.table.proofs.laid.records_fit.Reads as records-fit-reads
 
 -- src/laid.rt:192:9
 returns : tie.Need-returns
-returns c = ?
+returns c = group-short _ (omega arith)
 
 -- src/laid.rt:194:8
 shared-slice-read-if2 : tie.Need-shared-slice-read-if2
@@ -15,7 +20,7 @@ shared-slice-read-if2 c = search needs
 
 -- src/laid.rt:195:9
 returns-2 : tie.Need-returns-2
-returns-2 c = ?
+returns-2 c = group-over _ (omega arith)
 
 -- src/laid.rt:197:13
 shared-slice-read-n : tie.Need-shared-slice-read-n
@@ -23,7 +28,7 @@ shared-slice-read-n c = search needs
 
 -- src/laid.rt:197:13
 cast-n : tie.Need-cast-n
-cast-n c = ?
+cast-n c = omega (arith, c .shared-slice-known3 .given 1)
 
 -- src/laid.rt:198:12
 sub-if3 : tie.Need-sub-if3
@@ -31,7 +36,7 @@ sub-if3 c = search needs
 
 -- src/laid.rt:199:9
 returns-3 : tie.Need-returns-3
-returns-3 c = ?
+returns-3 c = group-short _ (omega arith)
 
 -- src/laid.rt:201:14
 add-to : tie.Need-add-to
@@ -55,11 +60,17 @@ records-fit-requires c κs = search needs
 
 -- src/laid.rt:203:9
 returns-4 : tie.Need-returns-4
-returns-4 c = ?
+returns-4 c =
+    let ws = c .before .before .before .before .before .before .before .before .before .args .rest .now in
+    let n : getD ws 1 0 + 2 - 2 ≡ getD ws 1 0 = omega arith in
+    group-there ws (omega arith) (omega arith) rw (c .if4 .taken, n) at (c .before .records-fit .ensures)
 
 -- src/laid.rt:188:1
 returns-5 : tie.Need-returns-5
-returns-5 c = ?
+returns-5 c =
+    let ws = c .before .before .before .before .before .before .before .before .before .args .rest .now in
+    let n : getD ws 1 0 + 2 - 2 ≡ getD ws 1 0 = omega arith in
+    group-broken ws rw (c .if4 .left, n) at (c .before .records-fit .ensures)
 
 pub group-size-spec : {M : Type 1} → statement M
 group-size-spec =
