@@ -3,30 +3,22 @@ use Rattle.table.proofs.WalkLaws.{counted-few, counted-many, counted-sh
 use borrow.Author.Needs.{needs}
 use Rattle.table.proofs.laid.counted_size.Statement.{statement}
 use Rattle.table.proofs.laid.counted_size.Tie as tie
-use Rattle.table.proofs.laid.counted_size.Reads as reads
-use Rattle.table.proofs.laid.counted_size.Lts as lts
 
--- src/laid.rt:77:9
 returns : tie.Need-returns
 returns c = counted-few _ _ _ _ (omega arith)
 
--- src/laid.rt:80:9
 returns-2 : tie.Need-returns-2
 returns-2 c = counted-many _ _ _ _ (omega arith)
 
--- src/laid.rt:83:9
 returns-3 : tie.Need-returns-3
 returns-3 c = counted-short _ _ _ _ (omega arith)
 
--- src/laid.rt:85:16
 add-size : tie.Need-add-size
 add-size c = search needs
 
--- src/laid.rt:87:9
 returns-4 : tie.Need-returns-4
 returns-4 c = counted-short _ _ _ _ (omega arith)
 
--- src/laid.rt:72:1
 returns-5 : tie.Need-returns-5
 returns-5 c = counted-there _ _ _ _ (omega arith) (omega arith) (omega arith)
 

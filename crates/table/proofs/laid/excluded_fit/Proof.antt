@@ -3,26 +3,19 @@ use Rattle.table.proofs.WalkLaws.{excluded-none, excluded-one}
 use borrow.Author.Needs.{needs}
 use Rattle.table.proofs.laid.excluded_fit.Statement.{statement}
 use Rattle.table.proofs.laid.excluded_fit.Tie as tie
-use Rattle.table.proofs.laid.excluded_fit.Reads as reads
-use Rattle.table.proofs.laid.excluded_fit.Lts as lts
 
--- src/laid.rt:233:9
 returns : tie.Need-returns
 returns c = excluded-none _ (omega arith)
 
--- src/laid.rt:235:5
 shared-slice-read-result : tie.Need-shared-slice-read-result
 shared-slice-read-result c = search needs
 
--- src/laid.rt:235:5
 cast-result : tie.Need-cast-result
 cast-result c = omega (arith, c .shared-slice-known .given 0)
 
--- src/laid.rt:235:25
 sub-result : tie.Need-sub-result
 sub-result c = search needs
 
--- src/laid.rt:229:1
 returns-2 : tie.Need-returns-2
 returns-2 c = excluded-one _ (omega arith)
 

@@ -6,66 +6,49 @@ use Rattle.table.proofs.WalkLaws.{group-short, group-over, group-broken
 use borrow.Author.Needs.{needs}
 use Rattle.table.proofs.laid.group_size.Statement.{statement}
 use Rattle.table.proofs.laid.group_size.Tie as tie
-use Rattle.table.proofs.laid.group_size.Reads as reads
-use Rattle.table.proofs.laid.group_size.Lts as lts
-use Rattle.table.proofs.laid.records_fit.Reads as records-fit-reads
 
--- src/laid.rt:192:9
 returns : tie.Need-returns
 returns c = group-short _ (omega arith)
 
--- src/laid.rt:194:8
 shared-slice-read-if2 : tie.Need-shared-slice-read-if2
 shared-slice-read-if2 c = search needs
 
--- src/laid.rt:195:9
 returns-2 : tie.Need-returns-2
 returns-2 c = group-over _ (omega arith)
 
--- src/laid.rt:197:13
 shared-slice-read-n : tie.Need-shared-slice-read-n
 shared-slice-read-n c = search needs
 
--- src/laid.rt:197:13
 cast-n : tie.Need-cast-n
 cast-n c = omega (arith, c .shared-slice-known3 .given 1)
 
--- src/laid.rt:198:12
 sub-if3 : tie.Need-sub-if3
 sub-if3 c = search needs
 
--- src/laid.rt:199:9
 returns-3 : tie.Need-returns-3
 returns-3 c = group-short _ (omega arith)
 
--- src/laid.rt:201:14
 add-to : tie.Need-add-to
 add-to c = search needs
 
--- src/laid.rt:202:20
 sub-records-fit : tie.Need-sub-records-fit
 sub-records-fit c = search needs
 
--- src/laid.rt:202:20
 part-records-fit-start : tie.Need-part-records-fit-start
 part-records-fit-start c = search needs
 
--- src/laid.rt:202:20
 part-records-fit-end : tie.Need-part-records-fit-end
 part-records-fit-end c = search needs
 
--- src/laid.rt:202:8
 records-fit-requires : tie.Need-records-fit-requires
 records-fit-requires c κs = search needs
 
--- src/laid.rt:203:9
 returns-4 : tie.Need-returns-4
 returns-4 c =
     let ws = c .before .before .before .before .before .before .before .before .before .args .rest .now in
     let n : getD ws 1 0 + 2 - 2 ≡ getD ws 1 0 = omega arith in
     group-there ws (omega arith) (omega arith) rw (c .if4 .taken, n) at (c .before .records-fit .ensures)
 
--- src/laid.rt:188:1
 returns-5 : tie.Need-returns-5
 returns-5 c =
     let ws = c .before .before .before .before .before .before .before .before .before .args .rest .now in

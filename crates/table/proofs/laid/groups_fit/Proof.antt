@@ -8,9 +8,6 @@ use Rattle.table.specs.Walk.{groupsWithin, groupSize}
 use Rattle.table.proofs.WalkLaws.{groups-end, groups-more, groups-none, groups-full, group-fits, part-tail}
 use Rattle.table.proofs.laid.groups_fit.Statement.{statement}
 use Rattle.table.proofs.laid.groups_fit.Tie as tie
-use Rattle.table.proofs.laid.groups_fit.Reads as reads
-use Rattle.table.proofs.laid.groups_fit.Lts as lts
-use Rattle.table.proofs.laid.group_size.Reads as group-size-reads
 
 abbrev Inv-loop : tie.InvT-loop
 Inv-loop part at₀ left₀ at left = (at ≤ length part) × (groupsWithin mostGroups part ≡ groupsWithin left (drop at part))
@@ -18,11 +15,9 @@ Inv-loop part at₀ left₀ at left = (at ≤ length part) × (groupsWithin most
 abbrev μ-loop : tie.MeasureT-loop
 μ-loop part at₀ left₀ at left = length part - at
 
--- src/laid.rt:214:5
 loop-holds : tie.Need-loop-holds Inv-loop μ-loop
 loop-holds c = search needs
 
--- src/laid.rt:216:13
 returns : tie.Need-returns Inv-loop μ-loop
 returns c =
     let l = c .before .before in
@@ -30,27 +25,21 @@ returns c =
     let none-left : l .loop .left ≡ 0 = omega arith in
     sym (l .loop .inv .1 ∙ rw none-left (groups-full ws (l .loop .at) (omega arith)))
 
--- src/laid.rt:218:31
 mul-group-size : tie.Need-mul-group-size Inv-loop μ-loop
 mul-group-size c = search needs
 
--- src/laid.rt:218:31
 sub-group-size : tie.Need-sub-group-size Inv-loop μ-loop
 sub-group-size c = search needs
 
--- src/laid.rt:218:31
 part-group-size-start : tie.Need-part-group-size-start Inv-loop μ-loop
 part-group-size-start c = search needs
 
--- src/laid.rt:218:31
 part-group-size-end : tie.Need-part-group-size-end Inv-loop μ-loop
 part-group-size-end c = search needs
 
--- src/laid.rt:218:13
 group-size-requires : tie.Need-group-size-requires Inv-loop μ-loop
 group-size-requires c κs = search needs
 
--- src/laid.rt:220:13
 returns-2 : tie.Need-returns-2 Inv-loop μ-loop
 returns-2 c =
     let l = c .before .before .before .before .before in
@@ -58,11 +47,9 @@ returns-2 c =
     let sized : c .before .group-size .result ≡ groupSize (drop (l .loop .at) ws) = rw (part-tail ws (l .loop .at)) at (c .before .group-size .ensures) in
     sym (l .loop .inv .1 ∙ groups-none (l .loop .left) ws (l .loop .at) (omega arith) (omega arith))
 
--- src/laid.rt:222:9
 sub-left : tie.Need-sub-left Inv-loop μ-loop
 sub-left c = search needs
 
--- src/laid.rt:214:5
 loop-again : tie.Need-loop-again Inv-loop μ-loop
 loop-again c =
     let l = c .before .before .before .before .before in
@@ -70,15 +57,12 @@ loop-again c =
     let sized : c .before .group-size .result ≡ groupSize (drop (l .loop .at) ws) = rw (part-tail ws (l .loop .at)) at (c .before .group-size .ensures) in
     (omega (arith, group-fits (drop (l .loop .at) ws), length-drop (l .loop .at) ws), l .loop .inv .1 ∙ groups-more (l .loop .left) ws (l .loop .at) _ (omega arith) sized (omega arith) (omega arith))
 
--- src/laid.rt:223:9
 add-at : tie.Need-add-at Inv-loop μ-loop
 add-at c = omega (arith, loop-again c .0)
 
--- src/laid.rt:214:5
 loop-less : tie.Need-loop-less Inv-loop μ-loop
 loop-less c = omega (arith, loop-again c .0)
 
--- src/laid.rt:209:1
 returns-3 : tie.Need-returns-3 Inv-loop μ-loop
 returns-3 c =
     let l = c .before in

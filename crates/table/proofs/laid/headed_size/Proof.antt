@@ -4,27 +4,19 @@ use Rattle.table.proofs.WalkLaws.{headed-short}
 use borrow.Author.Needs.{needs}
 use Rattle.table.proofs.laid.headed_size.Statement.{statement}
 use Rattle.table.proofs.laid.headed_size.Tie as tie
-use Rattle.table.proofs.laid.headed_size.Reads as reads
-use Rattle.table.proofs.laid.headed_size.Lts as lts
-use Rattle.table.proofs.laid.counted_size.Reads as counted-size-reads
 
--- src/laid.rt:124:9
 returns : tie.Need-returns
 returns c = headed-short _ _ (omega arith)
 
--- src/laid.rt:126:13
 shared-slice-read-n : tie.Need-shared-slice-read-n
 shared-slice-read-n c = search needs
 
--- src/laid.rt:126:13
 cast-n : tie.Need-cast-n
 cast-n c = omega (arith, c .shared-slice-known2 .given 1)
 
--- src/laid.rt:127:5
 counted-size-requires : tie.Need-counted-size-requires
 counted-size-requires c κs = search needs
 
--- src/laid.rt:120:1
 returns-2 : tie.Need-returns-2
 unfolding headedSize
 returns-2 c = c .counted-size .ensures

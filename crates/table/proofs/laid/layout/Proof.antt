@@ -1,34 +1,43 @@
+use native.Mathlib.Omega.{arith}
+use mathlib.Core.Path.{_≡_}
+use mathlib.Core.Bool.{true, false}
+use Rattle.table.specs.Laid.{sectionsOf}
+use Rattle.table.proofs.SectionLaws.{layout-long, layout-open, layout-tells, sections-fit}
 use borrow.Author.Needs.{needs}
 use Rattle.table.proofs.laid.layout.Statement.{statement}
 use Rattle.table.proofs.laid.layout.Tie as tie
-use Rattle.table.proofs.laid.layout.Reads as reads
-use Rattle.table.proofs.laid.layout.Lts as lts
-use Rattle.table.proofs.laid.all_fit.Reads as all-fit-reads
-use Rattle.table.proofs.laid.places.Reads as places-reads
 
--- src/laid.rt:302:9
 returns : tie.Need-returns
-returns c = ?
+returns c = layout-long _ (omega arith)
 
--- src/laid.rt:304:9
 places-requires : tie.Need-places-requires
 places-requires c κs = search needs
 
--- src/laid.rt:307:9
 returns-2 : tie.Need-returns-2
-returns-2 c = ?
+returns-2 c =
+    let ws = c .before .before .before .before .args .words .now in
+    let end : c .before .places .result .wholes .to ≡ sectionsOf ws .wholes .to = rw (← c .before .places .ensures) in
+    layout-open ws (omega arith) (λ q. omega arith)
 
--- src/laid.rt:309:8
 all-fit-requires : tie.Need-all-fit-requires
-all-fit-requires c κs = ?
+all-fit-requires c κs =
+    let ws = c .before .before .before .before .args .words .now in
+    let end : c .before .places .result .wholes .to ≡ sectionsOf ws .wholes .to = rw (← c .before .places .ensures) in
+    rw (c .before .places .ensures) (sections-fit ws (omega arith))
 
--- src/laid.rt:310:9
 returns-3 : tie.Need-returns-3
-returns-3 c = ?
+returns-3 c =
+    let p = c .before .before .before in
+    let ws = p .before .before .before .args .words .now in
+    let end : p .places .result .wholes .to ≡ sectionsOf ws .wholes .to = rw (← p .places .ensures) in
+    rw (p .places .ensures) (layout-tells ws (omega arith) true (omega arith) (rw (c .if3 .taken, p .places .ensures) at (c .before .all-fit .ensures)))
 
--- src/laid.rt:298:1
 returns-4 : tie.Need-returns-4
-returns-4 c = ?
+returns-4 c =
+    let p = c .before .before .before in
+    let ws = p .before .before .before .args .words .now in
+    let end : p .places .result .wholes .to ≡ sectionsOf ws .wholes .to = rw (← p .places .ensures) in
+    layout-tells ws (omega arith) false (omega arith) (rw (c .if3 .left, p .places .ensures) at (c .before .all-fit .ensures))
 
 pub layout-spec : {M : Type 1} → statement M
 layout-spec =

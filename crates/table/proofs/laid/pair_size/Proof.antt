@@ -3,26 +3,19 @@ use Rattle.table.proofs.WalkLaws.{pair-short, pair-back, pair-there}
 use borrow.Author.Needs.{needs}
 use Rattle.table.proofs.laid.pair_size.Statement.{statement}
 use Rattle.table.proofs.laid.pair_size.Tie as tie
-use Rattle.table.proofs.laid.pair_size.Reads as reads
-use Rattle.table.proofs.laid.pair_size.Lts as lts
 
--- src/laid.rt:97:9
 returns : tie.Need-returns
 returns c = pair-short _ (omega arith)
 
--- src/laid.rt:99:8
 shared-slice-read-if2 : tie.Need-shared-slice-read-if2
 shared-slice-read-if2 c = search needs
 
--- src/laid.rt:99:18
 shared-slice-read-if2-2 : tie.Need-shared-slice-read-if2-2
 shared-slice-read-if2-2 c = search needs
 
--- src/laid.rt:100:9
 returns-2 : tie.Need-returns-2
 returns-2 c = pair-back _ (omega arith)
 
--- src/laid.rt:93:1
 returns-3 : tie.Need-returns-3
 returns-3 c = pair-there _ (omega arith) (omega arith)
 

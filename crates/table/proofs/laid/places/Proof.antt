@@ -2,59 +2,43 @@ use Rattle.table.proofs.SectionLaws.{sections-chain}
 use borrow.Author.Needs.{needs}
 use Rattle.table.proofs.laid.places.Statement.{statement}
 use Rattle.table.proofs.laid.places.Tie as tie
-use Rattle.table.proofs.laid.places.Reads as reads
-use Rattle.table.proofs.laid.places.Lts as lts
-use Rattle.table.proofs.laid.span_at.Reads as span-at-reads
 
--- src/laid.rt:28:9
 span-at-requires : tie.Need-span-at-requires
 span-at-requires c κs = search needs
 
--- src/laid.rt:29:9
 span-at-requires-2 : tie.Need-span-at-requires-2
 span-at-requires-2 c κs = search needs
 
--- src/laid.rt:30:9
 span-at-requires-3 : tie.Need-span-at-requires-3
 span-at-requires-3 c κs = search needs
 
--- src/laid.rt:31:9
 span-at-requires-4 : tie.Need-span-at-requires-4
 span-at-requires-4 c κs = search needs
 
--- src/laid.rt:32:9
 span-at-requires-5 : tie.Need-span-at-requires-5
 span-at-requires-5 c κs = search needs
 
--- src/laid.rt:33:9
 span-at-requires-6 : tie.Need-span-at-requires-6
 span-at-requires-6 c κs = search needs
 
--- src/laid.rt:34:9
 span-at-requires-7 : tie.Need-span-at-requires-7
 span-at-requires-7 c κs = search needs
 
--- src/laid.rt:35:9
 span-at-requires-8 : tie.Need-span-at-requires-8
 span-at-requires-8 c κs = search needs
 
--- src/laid.rt:36:9
 span-at-requires-9 : tie.Need-span-at-requires-9
 span-at-requires-9 c κs = search needs
 
--- src/laid.rt:37:9
 span-at-requires-10 : tie.Need-span-at-requires-10
 span-at-requires-10 c κs = search needs
 
--- src/laid.rt:38:9
 span-at-requires-11 : tie.Need-span-at-requires-11
 span-at-requires-11 c κs = search needs
 
--- src/laid.rt:39:9
 span-at-requires-12 : tie.Need-span-at-requires-12
 span-at-requires-12 c κs = search needs
 
--- src/laid.rt:25:1
 returns : tie.Need-returns
 returns c =
     let c11 = c .before in

@@ -2,75 +2,53 @@ use Rattle.table.specs.Walk.{recordSize}
 use borrow.Author.Needs.{needs}
 use Rattle.table.proofs.laid.record_size.Statement.{statement}
 use Rattle.table.proofs.laid.record_size.Tie as tie
-use Rattle.table.proofs.laid.record_size.Reads as reads
-use Rattle.table.proofs.laid.record_size.Lts as lts
-use Rattle.table.proofs.laid.headed_size.Reads as headed-size-reads
-use Rattle.table.proofs.laid.pair_size.Reads as pair-size-reads
-use Rattle.table.proofs.laid.sequence_size.Reads as sequence-size-reads
-use Rattle.table.proofs.laid.triple_size.Reads as triple-size-reads
-use Rattle.table.proofs.laid.whole_size.Reads as whole-size-reads
 
--- src/laid.rt:161:25
 enum-told : tie.Need-enum-told
 enum-told c = search needs
 
--- src/laid.rt:161:25
 pair-size-requires : tie.Need-pair-size-requires
 pair-size-requires c κs = search needs
 
--- src/laid.rt:162:27
 enum-told-2 : tie.Need-enum-told-2
 enum-told-2 c = search needs
 
--- src/laid.rt:162:27
 triple-size-requires : tie.Need-triple-size-requires
 triple-size-requires c κs = search needs
 
--- src/laid.rt:163:23
 enum-known-shape : tie.Need-enum-known-shape
 enum-known-shape c = search needs
 
--- src/laid.rt:163:32
 headed-size-requires : tie.Need-headed-size-requires
 headed-size-requires c κs = search needs
 
--- src/laid.rt:164:29
 enum-told-3 : tie.Need-enum-told-3
 enum-told-3 c = search needs
 
--- src/laid.rt:164:29
 sequence-size-requires : tie.Need-sequence-size-requires
 sequence-size-requires c κs = search needs
 
--- src/laid.rt:165:26
 enum-told-4 : tie.Need-enum-told-4
 enum-told-4 c = search needs
 
--- src/laid.rt:165:26
 whole-size-requires : tie.Need-whole-size-requires
 whole-size-requires c κs = search needs
 
--- src/laid.rt:157:1
 returns : tie.Need-returns
 unfolding recordSize
 returns c = rw (c .before .enum-told .given .1) (c .pair-size .ensures)
 
--- src/laid.rt:157:1
 returns-2 : tie.Need-returns-2
 unfolding recordSize
 returns-2 c = rw (c .before .enum-told2 .given .1) (c .triple-size .ensures)
 
--- src/laid.rt:157:1
 returns-3 : tie.Need-returns-3
 unfolding recordSize
 returns-3 c = rw (c .before .before .shape .given .1) (c .headed-size .ensures)
 
--- src/laid.rt:157:1
 returns-4 : tie.Need-returns-4
 unfolding recordSize
 returns-4 c = rw (c .before .enum-told3 .given .1) (c .sequence-size .ensures)
 
--- src/laid.rt:157:1
 returns-5 : tie.Need-returns-5
 unfolding recordSize
 returns-5 c = rw (c .before .enum-told4 .given .1) (c .whole-size .ensures)

@@ -7,9 +7,6 @@ use Rattle.table.specs.Walk.{fitsAs, recordSize}
 use Rattle.table.proofs.WalkLaws.{walk-end, walk-more, walk-none, size-fits, part-tail}
 use Rattle.table.proofs.laid.records_fit.Statement.{statement}
 use Rattle.table.proofs.laid.records_fit.Tie as tie
-use Rattle.table.proofs.laid.records_fit.Reads as reads
-use Rattle.table.proofs.laid.records_fit.Lts as lts
-use Rattle.table.proofs.laid.record_size.Reads as record-size-reads
 
 abbrev Inv-loop : tie.InvT-loop
 Inv-loop part shape at₀ at = (at ≤ length part) × (fitsAs shape part ≡ fitsAs shape (drop at part))
@@ -17,31 +14,24 @@ Inv-loop part shape at₀ at = (at ≤ length part) × (fitsAs shape part ≡ fi
 abbrev μ-loop : tie.MeasureT-loop
 μ-loop part shape at₀ at = length part - at
 
--- src/laid.rt:178:5
 loop-holds : tie.Need-loop-holds Inv-loop μ-loop
 loop-holds c = search needs
 
--- src/laid.rt:179:32
 mul-record-size : tie.Need-mul-record-size Inv-loop μ-loop
 mul-record-size c = search needs
 
--- src/laid.rt:179:32
 sub-record-size : tie.Need-sub-record-size Inv-loop μ-loop
 sub-record-size c = search needs
 
--- src/laid.rt:179:32
 part-record-size-start : tie.Need-part-record-size-start Inv-loop μ-loop
 part-record-size-start c = search needs
 
--- src/laid.rt:179:32
 part-record-size-end : tie.Need-part-record-size-end Inv-loop μ-loop
 part-record-size-end c = search needs
 
--- src/laid.rt:179:13
 record-size-requires : tie.Need-record-size-requires Inv-loop μ-loop
 record-size-requires c κs = search needs
 
--- src/laid.rt:181:13
 returns : tie.Need-returns Inv-loop μ-loop
 returns c =
     let l = c .before .before .before .before in
@@ -49,7 +39,6 @@ returns c =
     let sized : c .before .record-size .result ≡ recordSize (s .shape) (drop (l .loop .at) (s .part .now)) = rw (part-tail (s .part .now) (l .loop .at)) at (c .before .record-size .ensures) in
     sym (l .loop .inv .1 ∙ walk-none (s .shape) (s .part .now) (l .loop .at) (omega arith) (omega arith))
 
--- src/laid.rt:178:5
 loop-again : tie.Need-loop-again Inv-loop μ-loop
 loop-again c =
     let l = c .before .before .before .before in
@@ -57,15 +46,12 @@ loop-again c =
     let sized : c .before .record-size .result ≡ recordSize (s .shape) (drop (l .loop .at) (s .part .now)) = rw (part-tail (s .part .now) (l .loop .at)) at (c .before .record-size .ensures) in
     (omega (arith, size-fits (s .shape) (drop (l .loop .at) (s .part .now)), length-drop (l .loop .at) (s .part .now)), l .loop .inv .1 ∙ walk-more (s .shape) (s .part .now) (l .loop .at) _ (omega arith) sized (omega arith))
 
--- src/laid.rt:183:9
 add-at : tie.Need-add-at Inv-loop μ-loop
 add-at c = omega (arith, loop-again c .0)
 
--- src/laid.rt:178:5
 loop-less : tie.Need-loop-less Inv-loop μ-loop
 loop-less c = omega (arith, loop-again c .0)
 
--- src/laid.rt:174:1
 returns-2 : tie.Need-returns-2 Inv-loop μ-loop
 returns-2 c =
     let l = c .before in

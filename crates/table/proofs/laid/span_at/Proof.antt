@@ -4,42 +4,31 @@ use Rattle.table.proofs.SectionLaws.{span-there, span-none}
 use borrow.Author.Needs.{needs}
 use Rattle.table.proofs.laid.span_at.Statement.{statement}
 use Rattle.table.proofs.laid.span_at.Tie as tie
-use Rattle.table.proofs.laid.span_at.Reads as reads
-use Rattle.table.proofs.laid.span_at.Lts as lts
 
--- src/laid.rt:14:17
 mul-n : tie.Need-mul-n
 mul-n c = search needs
 
--- src/laid.rt:14:17
 shared-slice-read-n : tie.Need-shared-slice-read-n
 shared-slice-read-n c = search needs
 
--- src/laid.rt:14:17
 cast-n : tie.Need-cast-n
 cast-n c = omega (arith, c .shared-slice-known .given (c .before .before .args .at))
 
--- src/laid.rt:15:16
 sub-if2 : tie.Need-sub-if2
 sub-if2 c = search needs
 
--- src/laid.rt:16:24
 add-from : tie.Need-add-from
 add-from c = search needs
 
--- src/laid.rt:17:43
 add-t13 : tie.Need-add-t13
 add-t13 c = search needs
 
--- src/laid.rt:17:13
 returns : tie.Need-returns
 returns c = span-there _ _ (omega arith) (omega arith)
 
--- src/laid.rt:20:16
 add-past : tie.Need-add-past
 add-past c = search needs
 
--- src/laid.rt:10:1
 returns-2 : tie.Need-returns-2
 returns-2 c = ⊎-elim (λ w. span-none _ _ (omega arith)) (λ w. span-none _ _ (omega arith)) (c .if1 .came)
 

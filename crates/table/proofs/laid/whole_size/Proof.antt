@@ -5,66 +5,49 @@ use Rattle.table.proofs.WalkLaws.{whole-short, whole-there}
 use borrow.Author.Needs.{needs}
 use Rattle.table.proofs.laid.whole_size.Statement.{statement}
 use Rattle.table.proofs.laid.whole_size.Tie as tie
-use Rattle.table.proofs.laid.whole_size.Reads as reads
-use Rattle.table.proofs.laid.whole_size.Lts as lts
 
--- src/laid.rt:144:9
 returns : tie.Need-returns
 returns c = whole-short _ (omega arith)
 
--- src/laid.rt:146:13
 shared-slice-read-n : tie.Need-shared-slice-read-n
 shared-slice-read-n c = search needs
 
--- src/laid.rt:146:13
 cast-n : tie.Need-cast-n
 cast-n c = omega (arith, c .shared-slice-known .given 0)
 
--- src/laid.rt:147:12
 sub-if2 : tie.Need-sub-if2
 sub-if2 c = search needs
 
--- src/laid.rt:148:9
 returns-2 : tie.Need-returns-2
 returns-2 c = whole-short _ (omega arith)
 
--- src/laid.rt:150:18
 add-m : tie.Need-add-m
 add-m c = search needs
 
--- src/laid.rt:150:13
 mul-m : tie.Need-mul-m
 mul-m c = search needs
 
--- src/laid.rt:150:13
 shared-slice-read-m : tie.Need-shared-slice-read-m
 shared-slice-read-m c = search needs
 
--- src/laid.rt:150:13
 cast-m : tie.Need-cast-m
 cast-m c = let ws = c .before .before .before .before .args .rest .now in omega (arith, c .shared-slice-known2 .given (getD ws 0 0 + 1))
 
--- src/laid.rt:151:12
 sub-if3 : tie.Need-sub-if3
 sub-if3 c = search needs
 
--- src/laid.rt:151:12
 sub-if3-2 : tie.Need-sub-if3-2
 sub-if3-2 c = search needs
 
--- src/laid.rt:152:9
 returns-3 : tie.Need-returns-3
 returns-3 c = whole-short _ (omega arith)
 
--- src/laid.rt:154:5
 add-result : tie.Need-add-result
 add-result c = search needs
 
--- src/laid.rt:154:5
 add-result-2 : tie.Need-add-result-2
 add-result-2 c = search needs
 
--- src/laid.rt:140:1
 returns-4 : tie.Need-returns-4
 returns-4 c = whole-there _ (omega arith)
 
