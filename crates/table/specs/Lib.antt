@@ -3,3 +3,4 @@ pub mod Layout
 pub mod Lookup
 pub mod Laid
 pub mod Walk
+pub mod Part

@@ -1,4 +1,5 @@
 // The name table: its layout, and lookups in it.
+pub mod lookup;
 
 pub mod laid;
 
