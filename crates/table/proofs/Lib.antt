@@ -1,3 +1,4 @@
 pub mod SectionLaws
 pub mod WalkLaws
 pub mod Lookups
+pub mod Records

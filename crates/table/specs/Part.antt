@@ -1,8 +1,13 @@
--- Lookups over the words of one section, without a table in between. Assumes nothing.
-use Prim.Native.Nat.{ℕ}
+-- Lookups over the words of one section, without a table in between, and how a walk over its records stands. Assumes nothing.
+use Prim.Native.Nat.{ℕ, _+_, _≤_}
+use mathlib.Core.Path.{_≡_}
 use mathlib.Core.Bool.{Bool, true, false, _&&_, _||_, cond}
 use mathlib.Core.List.{List, [], _∷_}
+use mathlib.Core.Option.{Option, some}
+use lib.ListN.{length, getD, take, drop}
 use lib.Dec.{leb}
+use Rattle.table.specs.Table.{Range, Headed, Group, Whole}
+use Rattle.table.specs.Layout.{mostItems, mostFlags, ranges, headed, sequences, group, groups, wholes}
 
 -- c lies in one of the pairs
 unfoldable pub inPairs : ℕ → List ℕ → Bool
@@ -16,3 +21,70 @@ classAmong c [] = 0
 classAmong c (a ∷ []) = 0
 classAmong c (a ∷ b ∷ []) = 0
 classAmong c (a ∷ b ∷ k ∷ ws) = let rest = classAmong c ws in cond (leb a c && leb c b) k rest
+
+-- The words of a part from `at` on are the records xs, as `reader` reads them: headed, sequences, groups or wholes. How often a reader may
+-- step is left open: any bound that is enough serves.
+pub record RecordsAt {X : Type 0} (reader : ℕ → List ℕ → Option (List X)) (part : List ℕ) (at : ℕ) (xs : List X) : Type 0 where
+  pub inside : at ≤ length part
+  pub steps : ℕ
+  pub parses : reader steps (drop at part) ≡ some xs
+
+-- records head, count, items
+abbrev pub HeadedAt : ℕ → List ℕ → ℕ → List Headed → Type 0
+HeadedAt most = RecordsAt (λ steps. headed steps most)
+
+-- records count, items
+abbrev pub SequencesAt : List ℕ → ℕ → List (List ℕ) → Type 0
+SequencesAt = RecordsAt sequences
+
+-- records flags, word count, pairs
+abbrev pub GroupsAt : List ℕ → ℕ → List Group → Type 0
+GroupsAt = RecordsAt groups
+
+-- records valid count, items, confused count, items
+abbrev pub WholesAt : List ℕ → ℕ → List Whole → Type 0
+WholesAt = RecordsAt wholes
+
+-- What stands at a place where records are left: the first of them, and behind it the rest.
+pub record HeadedHere (most : ℕ) (part : List ℕ) (at : ℕ) (xs : List Headed) : Type 0 where
+  pub first : Headed
+  pub rest : List Headed
+  pub split : xs ≡ first ∷ rest
+  pub head : first .head ≡ getD part at 0
+  pub items : first .items ≡ take (getD part (at + 1) 0) (drop (at + 2) part)
+  pub low : 1 ≤ getD part (at + 1) 0
+  pub high : getD part (at + 1) 0 ≤ most
+  pub fits : at + 2 + getD part (at + 1) 0 ≤ length part
+  pub next : HeadedAt most part (at + 2 + getD part (at + 1) 0) rest
+
+pub record SequenceHere (part : List ℕ) (at : ℕ) (xs : List (List ℕ)) : Type 0 where
+  pub first : List ℕ
+  pub rest : List (List ℕ)
+  pub split : xs ≡ first ∷ rest
+  pub items : first ≡ take (getD part at 0) (drop (at + 1) part)
+  pub low : 1 ≤ getD part at 0
+  pub high : getD part at 0 ≤ mostItems
+  pub fits : at + 1 + getD part at 0 ≤ length part
+  pub next : SequencesAt part (at + 1 + getD part at 0) rest
+
+pub record GroupHere (part : List ℕ) (at : ℕ) (xs : List Group) : Type 0 where
+  pub pairs : List Range
+  pub rest : List Group
+  pub split : xs ≡ group (getD part at 0) pairs ∷ rest
+  pub flags : getD part at 0 ≤ mostFlags
+  pub parses : ranges (take (getD part (at + 1) 0) (drop (at + 2) part)) ≡ some pairs
+  pub fits : at + 2 + getD part (at + 1) 0 ≤ length part
+  pub next : GroupsAt part (at + 2 + getD part (at + 1) 0) rest
+
+-- the place of the confused count of the whole at `at`
+abbrev pub confusedAt : List ℕ → ℕ → ℕ
+confusedAt part at = at + 1 + getD part at 0
+
+pub record WholeHere (part : List ℕ) (at : ℕ) (xs : List Whole) : Type 0 where
+  pub first : Whole
+  pub rest : List Whole
+  pub split : xs ≡ first ∷ rest
+  pub valid : first .valid ≡ take (getD part at 0) (drop (at + 1) part)
+  pub confused : first .confused ≡ take (getD part (confusedAt part at) 0) (drop (confusedAt part at + 1) part)
+  pub fits : confusedAt part at + 1 + getD part (confusedAt part at) 0 ≤ length part
+  pub next : WholesAt part (confusedAt part at + 1 + getD part (confusedAt part at) 0) rest

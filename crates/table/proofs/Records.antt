@@ -1,0 +1,249 @@
+-- A walk over the records of a section: what stands at a place where words are left, and that none are left where no record is. Assumes nothing.
+use Prim.Native.Nat.{ℕ, zero, suc, _+_, _-_, _<_, _≤_}
+use native.Mathlib.Omega.{arith}
+use mathlib.Core.Path.{_≡_, refl, sym, _∙_, ap}
+use mathlib.Core.Bool.{Bool, true, false, _&&_}
+use mathlib.Core.List.{List, [], _∷_}
+use mathlib.Core.Option.{Option, none, some}
+use lib.ListN.{length, getD, take, drop, length-drop, drop-of-length-le}
+use lib.Seq.{drop-drop}
+use lib.Dec.{leb}
+use borrow.Author.Tests.{leb-true, leb-false}
+use Rattle.lists.specs.Lists.{andThen}
+use Rattle.table.specs.Table.{Range, Headed, Group, Whole}
+use Rattle.table.specs.Layout.{mostItems, mostFlags, onlyIf, inFront, ranges, countFits, headed, sequences, group, groups, Tail, confusedPart, wholes}
+use Rattle.table.specs.Part.{RecordsAt, HeadedAt, SequencesAt, GroupsAt, WholesAt, HeadedHere, SequenceHere, GroupHere, confusedAt, WholeHere}
+use Rattle.table.proofs.Lookups.{drop-next, drop-two}
+
+-- both tests passed
+pub both : (a b : Bool) → a && b ≡ true → (a ≡ true) × (b ≡ true)
+both true b e = (refl, e)
+both false b e = absurd (let z : _≡_ {A = ℕ} 0 1 = cc in omega arith)
+
+module _ {A : Type 0} where
+  -- what made a result out of a test, and out of an entry in front
+  pub onlyIf-some : (b : Bool) (o : Option A) (x : A) → onlyIf b o ≡ some x → (b ≡ true) × (o ≡ some x)
+  onlyIf-some true o x e = (refl, e)
+  onlyIf-some false o x e = absurd (let z : _≡_ {A = ℕ} 0 1 = cc in omega arith)
+
+  pub inFront-some : (x : A) (o : Option (List A)) (xs : List A) → inFront x o ≡ some xs → (rest : List A) × (o ≡ some rest) × (xs ≡ x ∷ rest)
+  inFront-some x none xs e = absurd (let z : _≡_ {A = ℕ} 0 1 = cc in omega arith)
+  inFront-some x (some rest) xs e = (rest, refl, cc)
+
+module _ {A B : Type 0} where
+  pub andThen-some : (o : Option A) (f : A → Option B) (y : B) → andThen o f ≡ some y → (a : A) × (o ≡ some a) × (f a ≡ some y)
+  andThen-some none f y e = absurd (let z : _≡_ {A = ℕ} 0 1 = cc in omega arith)
+  andThen-some (some a) f y e = (a, refl, e)
+
+-- where the count of a record is in its range
+record CountFits (most n : ℕ) (ws : List ℕ) : Type 0 where
+  low : 1 ≤ n
+  high : n ≤ most
+  room : n ≤ length ws
+
+count-fits : (most n : ℕ) (ws : List ℕ) → countFits most n ws ≡ true → CountFits most n ws
+count-fits most n ws e =
+    let p = both (leb 1 n && leb n most) (leb n (length ws)) e in
+    let q = both (leb 1 n) (leb n most) (p .0) in
+    record { low = leb-true _ _ (q .0); high = leb-true _ _ (q .1); room = leb-true _ _ (p .1) }
+
+module _ {X : Type 0} (reader : ℕ → List ℕ → Option (List X)) (part : List ℕ) where
+  -- a section that parses, at its start
+  pub records-start : (xs : List X) → reader (length part) part ≡ some xs → RecordsAt reader part 0 xs
+  records-start xs e = record { inside = omega arith; steps = length part; parses = e }
+
+  -- at the end no record is left
+  pub records-end : (at : ℕ) (xs : List X) → ((k : ℕ) → reader k [] ≡ some []) → RecordsAt reader part at xs → length part ≤ at → xs ≡ []
+  records-end at xs none-left w h =
+      let e : reader (w .steps) [] ≡ some xs = rw (drop-of-length-le part h) at (w .parses) in
+      cc (none-left (w .steps))
+
+  -- where one word alone is no record, a record has two
+  two-left : (at : ℕ) (xs : List X) → ((k a : ℕ) → reader k (a ∷ []) ≡ none) → RecordsAt reader part at xs → at < length part → at + 2 ≤ length part
+  two-left at xs lone w h = go (leb (at + 2) (length part)) refl
+    where
+      go : (b : Bool) → leb (at + 2) (length part) ≡ b → at + 2 ≤ length part
+      go true e = leb-true _ _ e
+      go false e =
+          let i : length part < at + 2 = leb-false _ _ e in
+          let j : length part ≤ at + 1 = omega arith in
+          let l : reader (w .steps) (getD part at 0 ∷ []) ≡ some xs = rw (drop-next part at h, drop-of-length-le part j) at (w .parses) in
+          let z : _≡_ {A = ℕ} 0 1 = cc (lone (w .steps) (getD part at 0)) in
+          omega arith
+
+module _ (part : List ℕ) (at : ℕ) (xs : List (List ℕ)) where
+  pub sequences-end : SequencesAt part at xs → length part ≤ at → xs ≡ []
+  unfolding sequences
+  sequences-end = records-end sequences part at xs ends
+    where
+      ends : (k : ℕ) → sequences k [] ≡ some []
+      ends zero = refl
+      ends (suc k) = refl
+
+  pub sequences-step : SequencesAt part at xs → at < length part → SequenceHere part at xs
+  unfolding sequences
+  sequences-step w h = go (w .steps) (rw (drop-next part at h) at (w .parses))
+    where
+      go : (k : ℕ) → sequences k (getD part at 0 ∷ drop (at + 1) part) ≡ some xs → SequenceHere part at xs
+      go zero e = absurd (let z : _≡_ {A = ℕ} 0 1 = cc in omega arith)
+      go (suc k) e =
+          let n : ℕ = getD part at 0 in
+          let ws : List ℕ = drop (at + 1) part in
+          let p = onlyIf-some (countFits mostItems n ws) (inFront (take n ws) (sequences k (drop n ws))) xs e in
+          let q = inFront-some (take n ws) (sequences k (drop n ws)) xs (p .1) in
+          let f = count-fits mostItems n ws (p .0) in
+          let room : n ≤ length part - (at + 1) = simp length-drop at (f .room) in
+          record {
+            first = take n ws;
+            rest = q .0;
+            split = q .2;
+            items = refl;
+            low = f .low;
+            high = f .high;
+            fits = omega arith;
+            next = record { inside = omega arith; steps = k; parses = rw (← drop-drop n (at + 1) part) (q .1) };
+          }
+
+module _ (most : ℕ) (part : List ℕ) (at : ℕ) (xs : List Headed) where
+  pub headed-end : HeadedAt most part at xs → length part ≤ at → xs ≡ []
+  unfolding headed
+  headed-end = records-end (λ k. headed k most) part at xs ends
+    where
+      ends : (k : ℕ) → headed k most [] ≡ some []
+      ends zero = refl
+      ends (suc k) = refl
+
+  pub headed-step : HeadedAt most part at xs → at < length part → HeadedHere most part at xs
+  unfolding headed
+  headed-step w h =
+      let i : at + 2 ≤ length part = two-left (λ k. headed k most) part at xs lone w h in
+      go i (w .steps) (rw (drop-two part at (omega arith)) at (w .parses))
+    where
+      lone : (k a : ℕ) → headed k most (a ∷ []) ≡ none
+      lone zero a = refl
+      lone (suc k) a = refl
+
+      go : at + 2 ≤ length part → (k : ℕ) → headed k most (getD part at 0 ∷ getD part (at + 1) 0 ∷ drop (at + 2) part) ≡ some xs → HeadedHere most part at xs
+      go i zero e = absurd (let z : _≡_ {A = ℕ} 0 1 = cc in omega arith)
+      go i (suc k) e =
+          let n : ℕ = getD part (at + 1) 0 in
+          let ws : List ℕ = drop (at + 2) part in
+          let r : Headed = record { head = getD part at 0; items = take n ws } in
+          let p = onlyIf-some (countFits most n ws) (inFront r (headed k most (drop n ws))) xs e in
+          let q = inFront-some r (headed k most (drop n ws)) xs (p .1) in
+          let f = count-fits most n ws (p .0) in
+          let room : n ≤ length part - (at + 2) = simp length-drop at (f .room) in
+          record {
+            first = r;
+            rest = q .0;
+            split = q .2;
+            head = refl;
+            items = refl;
+            low = f .low;
+            high = f .high;
+            fits = omega arith;
+            next = record { inside = omega arith; steps = k; parses = rw (← drop-drop n (at + 2) part) (q .1) };
+          }
+
+module _ (part : List ℕ) (at : ℕ) (xs : List Group) where
+  pub groups-end : GroupsAt part at xs → length part ≤ at → xs ≡ []
+  unfolding groups
+  groups-end = records-end groups part at xs ends
+    where
+      ends : (k : ℕ) → groups k [] ≡ some []
+      ends zero = refl
+      ends (suc k) = refl
+
+  pub groups-step : GroupsAt part at xs → at < length part → GroupHere part at xs
+  unfolding groups
+  groups-step w h =
+      let i : at + 2 ≤ length part = two-left groups part at xs lone w h in
+      go i (w .steps) (rw (drop-two part at (omega arith)) at (w .parses))
+    where
+      lone : (k a : ℕ) → groups k (a ∷ []) ≡ none
+      lone zero a = refl
+      lone (suc k) a = refl
+
+      go : at + 2 ≤ length part → (k : ℕ) → groups k (getD part at 0 ∷ getD part (at + 1) 0 ∷ drop (at + 2) part) ≡ some xs → GroupHere part at xs
+      go i zero e = absurd (let z : _≡_ {A = ℕ} 0 1 = cc in omega arith)
+      go i (suc k) e =
+          let f : ℕ = getD part at 0 in
+          let n : ℕ = getD part (at + 1) 0 in
+          let ws : List ℕ = drop (at + 2) part in
+          let then : List Range → Option (List Group) = λ rs. inFront (group f rs) (groups k (drop n ws)) in
+          let p = onlyIf-some (leb f mostFlags && leb n (length ws)) (andThen (ranges (take n ws)) then) xs e in
+          let t = both (leb f mostFlags) (leb n (length ws)) (p .0) in
+          let q = andThen-some (ranges (take n ws)) then xs (p .1) in
+          let r = inFront-some (group f (q .0)) (groups k (drop n ws)) xs (q .2) in
+          let room : n ≤ length part - (at + 2) = simp length-drop at (leb-true n (length ws) (t .1)) in
+          record {
+            pairs = q .0;
+            rest = r .0;
+            split = r .2;
+            flags = leb-true _ _ (t .0);
+            parses = q .1;
+            fits = omega arith;
+            next = record { inside = omega arith; steps = k; parses = rw (← drop-drop n (at + 2) part) (r .1) };
+          }
+
+-- the confused items whose count stands at `at`, and what is behind them
+record TailHere (part : List ℕ) (at : ℕ) (t : Tail) : Type 0 where
+  confused : t .confused ≡ take (getD part at 0) (drop (at + 1) part)
+  rest : t .rest ≡ drop (at + 1 + getD part at 0) part
+  fits : at + 1 + getD part at 0 ≤ length part
+
+tail-here : (part : List ℕ) (at : ℕ) (t : Tail) → confusedPart (drop at part) ≡ some t → TailHere part at t
+unfolding confusedPart
+tail-here part at t e = go (leb (at + 1) (length part)) refl
+  where
+    go : (b : Bool) → leb (at + 1) (length part) ≡ b → TailHere part at t
+    go false f =
+        let i : length part < at + 1 = leb-false _ _ f in
+        let j : length part ≤ at = omega arith in
+        let l : confusedPart [] ≡ some t = rw (drop-of-length-le part j) at e in
+        absurd (let z : _≡_ {A = ℕ} 0 1 = cc in omega arith)
+    go true f =
+        let i : at + 1 ≤ length part = leb-true _ _ f in
+        let j : at < length part = omega arith in
+        let n : ℕ = getD part at 0 in
+        let ws : List ℕ = drop (at + 1) part in
+        let l : confusedPart (n ∷ ws) ≡ some t = rw (drop-next part at j) at e in
+        let p = onlyIf-some (leb n (length ws)) (some (record { confused = take n ws; rest = drop n ws })) t l in
+        let same : t ≡ record { confused = take n ws; rest = drop n ws } = cc (p .1) in
+        let room : n ≤ length part - (at + 1) = simp length-drop at (leb-true n (length ws) (p .0)) in
+        record { confused = rw same; rest = rw same (drop-drop n (at + 1) part); fits = omega arith }
+
+module _ (part : List ℕ) (at : ℕ) (xs : List Whole) where
+  pub wholes-end : WholesAt part at xs → length part ≤ at → xs ≡ []
+  unfolding wholes
+  wholes-end = records-end wholes part at xs ends
+    where
+      ends : (k : ℕ) → wholes k [] ≡ some []
+      ends zero = refl
+      ends (suc k) = refl
+
+  pub wholes-step : WholesAt part at xs → at < length part → WholeHere part at xs
+  unfolding wholes confusedPart
+  wholes-step w h = go (w .steps) (rw (drop-next part at h) at (w .parses))
+    where
+      go : (k : ℕ) → wholes k (getD part at 0 ∷ drop (at + 1) part) ≡ some xs → WholeHere part at xs
+      go zero e = absurd (let z : _≡_ {A = ℕ} 0 1 = cc in omega arith)
+      go (suc k) e =
+          let n : ℕ = getD part at 0 in
+          let ws : List ℕ = drop (at + 1) part in
+          let then : Tail → Option (List Whole) = λ c. inFront (record { valid = take n ws; confused = c .confused }) (wholes k (c .rest)) in
+          let p = onlyIf-some (leb n (length ws)) (andThen (confusedPart (drop n ws)) then) xs e in
+          let q = andThen-some (confusedPart (drop n ws)) then xs (p .1) in
+          let t : Tail = q .0 in
+          let r = inFront-some (record { valid = take n ws; confused = t .confused }) (wholes k (t .rest)) xs (q .2) in
+          let here : confusedPart (drop (confusedAt part at) part) ≡ some t = rw (← drop-drop n (at + 1) part) (q .1) in
+          let v = tail-here part (confusedAt part at) t here in
+          record {
+            first = record { valid = take n ws; confused = t .confused };
+            rest = r .0;
+            split = r .2;
+            valid = refl;
+            confused = v .confused;
+            fits = v .fits;
+            next = record { inside = v .fits; steps = k; parses = rw (← v .rest) (r .1) };
+          }
