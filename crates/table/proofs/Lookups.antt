@@ -6,51 +6,81 @@ use mathlib.Core.Path.{_≡_, refl, sym, _∙_, ap}
 use mathlib.Core.Bool.{Bool, true, false, _&&_, _||_, cond}
 use mathlib.Core.List.{List, [], _∷_}
 use mathlib.Core.Option.{Option, none, some}
-use lib.ListN.{length, getD, take, drop, length-drop, drop-of-length-le}
+use lib.ListN.{length, getD, take, drop, length-take, length-drop, drop-of-length-le}
 use lib.Seq.{drop-cons}
-use lib.Dec.{leb}
-use borrow.Author.Tests.{le-leb, lt-leb}
+use lib.Dec.{leb, ltb, eqb}
+use borrow.Author.Tests.{ltb-true, ltb-false, leb-true, le-leb, lt-leb, eq-eqb, ne-eqb}
+use Rattle.lists.specs.Lists.{andThen, mem}
+use Rattle.table.specs.declared.Span.{Span}
+use Rattle.table.specs.declared.Sections.{Sections}
+use Rattle.table.specs.Laid.{within, Fits, Laid, theTable}
+use Rattle.table.proofs.SectionLaws.{laid-fits, laid-reads}
 use Rattle.table.specs.Table.{Range, ClassRange}
-use Rattle.table.specs.Layout.{onlyIf, inFront, ranges, classRanges, mostClass}
+use Rattle.table.specs.Layout.{onlyIf, inFront, ranges, classRanges, excluded, mostClass}
 use Rattle.table.specs.Lookup.{inRange, inRanges, inClassRange, tableClass}
-use Rattle.table.specs.Part.{inPairs, classAmong}
+use Rattle.table.specs.Part.{inPairs, classAmong, ClassFound}
+
+-- both tests passed
+pub both : (a b : Bool) → a && b ≡ true → (a ≡ true) × (b ≡ true)
+both true b e = (refl, e)
+both false b e = absurd (let z : _≡_ {A = ℕ} 0 1 = cc in omega arith)
+
+module _ {A : Type 0} where
+  -- what made a result out of a test, and out of an entry in front
+  pub onlyIf-some : (b : Bool) (o : Option A) (x : A) → onlyIf b o ≡ some x → (b ≡ true) × (o ≡ some x)
+  onlyIf-some true o x e = (refl, e)
+  onlyIf-some false o x e = absurd (let z : _≡_ {A = ℕ} 0 1 = cc in omega arith)
+
+  pub inFront-some : (x : A) (o : Option (List A)) (xs : List A) → inFront x o ≡ some xs → (rest : List A) × (o ≡ some rest) × (xs ≡ x ∷ rest)
+  inFront-some x none xs e = absurd (let z : _≡_ {A = ℕ} 0 1 = cc in omega arith)
+  inFront-some x (some rest) xs e = (rest, refl, cc)
+
+module _ {A B : Type 0} where
+  pub andThen-some : (o : Option A) (f : A → Option B) (y : B) → andThen o f ≡ some y → (a : A) × (o ≡ some a) × (f a ≡ some y)
+  andThen-some none f y e = absurd (let z : _≡_ {A = ℕ} 0 1 = cc in omega arith)
+  andThen-some (some a) f y e = (a, refl, e)
 
 pub pairs-ranges : (c : ℕ) (ws : List ℕ) (rs : List Range) → ranges ws ≡ some rs → inPairs c ws ≡ inRanges c rs
 unfolding ranges inPairs
 pairs-ranges c [] rs h = cc
 pairs-ranges c (a ∷ []) rs h = cc
-pairs-ranges c (a ∷ b ∷ ws) rs h = go (leb a b) (ranges ws) h (pairs-ranges c ws)
-  where
-    go : (t : Bool) (o : Option (List Range)) → onlyIf t (inFront (record { first = a; last = b }) o) ≡ some rs
-        → ((rs′ : List Range) → o ≡ some rs′ → inPairs c ws ≡ inRanges c rs′)
-        → inPairs c (a ∷ b ∷ ws) ≡ inRanges c rs
-    go false o e ih = cc
-    go true none e ih = cc
-    go true (some rs′) e ih =
-        let same : rs ≡ record { first = a; last = b } ∷ rs′ = cc in
-        rw (same, ih rs′ refl)
+pairs-ranges c (a ∷ b ∷ ws) rs h =
+    let p = onlyIf-some (leb a b) (inFront (record { first = a; last = b }) (ranges ws)) rs h in
+    let q = inFront-some (record { first = a; last = b }) (ranges ws) rs (p .1) in
+    rw (q .2, pairs-ranges c ws (q .0) (q .1))
 
 pub class-ranges : (c : ℕ) (ws : List ℕ) (rs : List ClassRange) → classRanges ws ≡ some rs → classAmong c ws ≡ tableClass rs c
 unfolding classRanges classAmong tableClass
 class-ranges c [] rs h = let same : rs ≡ [] = cc in rw same
 class-ranges c (a ∷ []) rs h = cc
 class-ranges c (a ∷ b ∷ []) rs h = cc
-class-ranges c (a ∷ b ∷ k ∷ ws) rs h = go (leb a b && leb k mostClass) (classRanges ws) h (class-ranges c ws)
+class-ranges c (a ∷ b ∷ k ∷ ws) rs h =
+    let p = onlyIf-some (leb a b && leb k mostClass) (inFront (record { first = a; last = b; class = k }) (classRanges ws)) rs h in
+    let q = inFront-some (record { first = a; last = b; class = k }) (classRanges ws) rs (p .1) in
+    rw (q .2) (pick (leb a c && leb c b) (q .0) refl (class-ranges c ws (q .0) (q .1)))
   where
-    pick : (t : Bool) (rs′ : List ClassRange) → classAmong c ws ≡ tableClass rs′ c
-        → leb a c && leb c b ≡ t
+    pick : (t : Bool) (rs′ : List ClassRange) → leb a c && leb c b ≡ t → classAmong c ws ≡ tableClass rs′ c
         → classAmong c (a ∷ b ∷ k ∷ ws) ≡ tableClass (record { first = a; last = b; class = k } ∷ rs′) c
-    pick true rs′ e f = rw f
-    pick false rs′ e f = rw (f, e)
+    pick true rs′ f e = rw f
+    pick false rs′ f e = rw (f, e)
 
-    go : (t : Bool) (o : Option (List ClassRange)) → onlyIf t (inFront (record { first = a; last = b; class = k }) o) ≡ some rs
-        → ((rs′ : List ClassRange) → o ≡ some rs′ → classAmong c ws ≡ tableClass rs′ c)
-        → classAmong c (a ∷ b ∷ k ∷ ws) ≡ tableClass rs c
-    go false o e ih = cc
-    go true none e ih = cc
-    go true (some rs′) e ih =
-        let same : rs ≡ record { first = a; last = b; class = k } ∷ rs′ = cc in
-        rw same (pick (leb a c && leb c b) rs′ (ih rs′ refl) refl)
+pub class-small : (c : ℕ) (ws : List ℕ) (rs : List ClassRange) → classRanges ws ≡ some rs → classAmong c ws ≤ mostClass
+unfolding classRanges classAmong
+class-small c [] rs h = omega arith
+class-small c (a ∷ []) rs h = omega arith
+class-small c (a ∷ b ∷ []) rs h = omega arith
+class-small c (a ∷ b ∷ k ∷ ws) rs h =
+    let p = onlyIf-some (leb a b && leb k mostClass) (inFront (record { first = a; last = b; class = k }) (classRanges ws)) rs h in
+    let q = inFront-some (record { first = a; last = b; class = k }) (classRanges ws) rs (p .1) in
+    pick (leb a c && leb c b) (leb-true _ _ (both (leb a b) (leb k mostClass) (p .0) .1)) (class-small c ws (q .0) (q .1))
+  where
+    pick : (t : Bool) → k ≤ mostClass → classAmong c ws ≤ mostClass → cond t k (classAmong c ws) ≤ mostClass
+    pick true i j = i
+    pick false i j = j
+
+-- the answer of a class lookup
+pub class-found : (c r : ℕ) (ws : List ℕ) (rs : List ClassRange) → classRanges ws ≡ some rs → r ≡ classAmong c ws → ClassFound rs c r
+class-found c r ws rs h e = record { same = e ∙ class-ranges c ws rs h; small = rw e (class-small c ws rs h) }
 
 -- the words from a place on are the word there and those from the next place on
 pub drop-next : (ws : List ℕ) (i : ℕ) → i < length ws → drop i ws ≡ getD ws i 0 ∷ drop (i + 1) ws
@@ -129,3 +159,52 @@ class-stop c ws i w h = rw (w .same) (go (drop i ws) (simp length-drop h))
     go (a ∷ []) k = refl
     go (a ∷ b ∷ []) k = refl
     go (a ∷ b ∷ d ∷ vs) k = absurd (omega arith)
+
+-- over items
+module _ (c : ℕ) (ws : List ℕ) (i : ℕ) (w : Walk (mem c) ws i) where
+  pub mem-hit : i < length ws → getD ws i 0 ≡ c → true ≡ mem c ws
+  mem-hit h e = rw (w .same, drop-next ws i h, eq-eqb c (getD ws i 0) (sym e))
+
+  pub mem-on : i < length ws → (getD ws i 0 ≡ c → ⊥) → Walk (mem c) ws (i + 1)
+  mem-on h e = walk-on _ _ i 1 w (omega arith) (rw (drop-next ws i h, ne-eqb c (getD ws i 0) (λ f. e (sym f))))
+
+  pub mem-stop : length ws ≤ i → false ≡ mem c ws
+  mem-stop h = rw (w .same, drop-of-length-le ws h)
+
+-- the words of a part are its first word and those behind it
+pub within-next : (ws : List ℕ) (s : Span) → Fits ws s → s .from < s .to
+    → within s ws ≡ getD ws (s .from) 0 ∷ within (record { from = s .from + 1; to = s .to }) ws
+within-next ws s f h =
+    let n : ℕ = s .to - (s .from + 1) in
+    let more : s .to - s .from ≡ suc n = omega (arith, add-one n) in
+    rw (drop-next ws (s .from) (omega arith), more)
+
+-- a part has as many words as its places say
+pub within-length : (ws : List ℕ) (s : Span) → Fits ws s → length (within s ws) ≡ s .to - s .from
+within-length ws s f = simp (length-take, length-drop) (omega arith)
+
+-- where the excluded items stand
+pub record ExcludedHere (ws : List ℕ) (s : Span) (xs : List ℕ) : Type 0 where
+  pub some-left : s .from < s .to
+  pub fits : Fits ws (record { from = s .from + 1; to = s .to })
+  pub same : within (record { from = s .from + 1; to = s .to }) ws ≡ xs
+
+pub excluded-here : (ws : List ℕ) (s : Span) (xs : List ℕ) → Fits ws s → excluded (within s ws) ≡ some xs → ExcludedHere ws s xs
+unfolding excluded
+excluded-here ws s xs f e = go (ltb (s .from) (s .to)) refl
+  where
+    go : (b : Bool) → ltb (s .from) (s .to) ≡ b → ExcludedHere ws s xs
+    go true t =
+        let h : s .from < s .to = ltb-true _ _ t in
+        let items : List ℕ = within (record { from = s .from + 1; to = s .to }) ws in
+        let n : ℕ = getD ws (s .from) 0 in
+        let p = onlyIf-some (eqb n (length items)) (some items) xs (rw (within-next ws s f h) at e) in
+        record { some-left = h; fits = record { ordered = omega arith; inside = f .inside }; same = cc (p .1) }
+    go false t =
+        let h : s .to ≤ s .from = ltb-false _ _ t in
+        let none-left : s .to - s .from ≡ 0 = omega arith in
+        let l : excluded [] ≡ some xs = rw none-left at e in
+        absurd (let z : _≡_ {A = ℕ} 0 1 = cc in omega arith)
+
+pub laid-excluded : (ws : List ℕ) (ix : Sections) → Laid ws ix → ExcludedHere ws (ix .exclusions) (theTable ws .exclusions)
+laid-excluded ws ix l = excluded-here ws (ix .exclusions) _ (laid-fits ws ix l .exclusions) (laid-reads ws ix l .exclusions)

@@ -13,27 +13,7 @@ use Rattle.lists.specs.Lists.{andThen}
 use Rattle.table.specs.Table.{Range, Headed, Group, Whole}
 use Rattle.table.specs.Layout.{mostItems, mostFlags, onlyIf, inFront, ranges, countFits, headed, sequences, group, groups, Tail, confusedPart, wholes}
 use Rattle.table.specs.Part.{RecordsAt, HeadedAt, SequencesAt, GroupsAt, WholesAt, HeadedHere, SequenceHere, GroupHere, confusedAt, WholeHere}
-use Rattle.table.proofs.Lookups.{drop-next, drop-two}
-
--- both tests passed
-pub both : (a b : Bool) → a && b ≡ true → (a ≡ true) × (b ≡ true)
-both true b e = (refl, e)
-both false b e = absurd (let z : _≡_ {A = ℕ} 0 1 = cc in omega arith)
-
-module _ {A : Type 0} where
-  -- what made a result out of a test, and out of an entry in front
-  pub onlyIf-some : (b : Bool) (o : Option A) (x : A) → onlyIf b o ≡ some x → (b ≡ true) × (o ≡ some x)
-  onlyIf-some true o x e = (refl, e)
-  onlyIf-some false o x e = absurd (let z : _≡_ {A = ℕ} 0 1 = cc in omega arith)
-
-  pub inFront-some : (x : A) (o : Option (List A)) (xs : List A) → inFront x o ≡ some xs → (rest : List A) × (o ≡ some rest) × (xs ≡ x ∷ rest)
-  inFront-some x none xs e = absurd (let z : _≡_ {A = ℕ} 0 1 = cc in omega arith)
-  inFront-some x (some rest) xs e = (rest, refl, cc)
-
-module _ {A B : Type 0} where
-  pub andThen-some : (o : Option A) (f : A → Option B) (y : B) → andThen o f ≡ some y → (a : A) × (o ≡ some a) × (f a ≡ some y)
-  andThen-some none f y e = absurd (let z : _≡_ {A = ℕ} 0 1 = cc in omega arith)
-  andThen-some (some a) f y e = (a, refl, e)
+use Rattle.table.proofs.Lookups.{both, onlyIf-some, inFront-some, andThen-some, drop-next, drop-two}
 
 -- where the count of a record is in its range
 record CountFits (most n : ℕ) (ws : List ℕ) : Type 0 where

@@ -6,8 +6,9 @@ use mathlib.Core.List.{List, [], _∷_}
 use mathlib.Core.Option.{Option, some}
 use lib.ListN.{length, getD, take, drop}
 use lib.Dec.{leb}
-use Rattle.table.specs.Table.{Range, Headed, Group, Whole}
-use Rattle.table.specs.Layout.{mostItems, mostFlags, ranges, headed, sequences, group, groups, wholes}
+use Rattle.table.specs.Table.{Range, ClassRange, Headed, Group, Whole}
+use Rattle.table.specs.Layout.{mostItems, mostClass, mostFlags, ranges, headed, sequences, group, groups, wholes}
+use Rattle.table.specs.Lookup.{tableClass}
 
 -- c lies in one of the pairs
 unfoldable pub inPairs : ℕ → List ℕ → Bool
@@ -21,6 +22,11 @@ classAmong c [] = 0
 classAmong c (a ∷ []) = 0
 classAmong c (a ∷ b ∷ []) = 0
 classAmong c (a ∷ b ∷ k ∷ ws) = let rest = classAmong c ws in cond (leb a c && leb c b) k rest
+
+-- a class found for c
+pub record ClassFound (rs : List ClassRange) (c r : ℕ) : Type 0 where
+  pub same : r ≡ tableClass rs c
+  pub small : r ≤ mostClass
 
 -- The words of a part from `at` on are the records xs, as `reader` reads them: headed, sequences, groups or wholes. How often a reader may
 -- step is left open: any bound that is enough serves.
