@@ -1,13 +1,13 @@
 -- What the lookups over a section's words have to do with those in a table. Assumes nothing.
-use Prim.Native.Nat.{ℕ, suc, _+_, _-_, _<_, _≤_}
-use native.Mathlib.Numerals.{add-one}
+use Prim.Native.Nat.{ℕ, zero, suc, _+_, _-_, _<_, _≤_}
+use native.Mathlib.Numerals.{add-one, unary-clauses}
 use native.Mathlib.Omega.{arith}
 use mathlib.Core.Path.{_≡_, refl, sym, _∙_, ap}
 use mathlib.Core.Bool.{Bool, true, false, _&&_, _||_, cond}
 use mathlib.Core.List.{List, [], _∷_}
 use mathlib.Core.Option.{Option, none, some}
 use lib.ListN.{length, getD, take, drop, length-take, length-drop, drop-of-length-le}
-use lib.Seq.{drop-cons}
+use lib.Seq.{drop-cons, drop-drop, take-nil, take-take}
 use lib.Dec.{leb, ltb, eqb}
 use borrow.Author.Tests.{ltb-true, ltb-false, leb-true, le-leb, lt-leb, eq-eqb, ne-eqb}
 use Rattle.lists.specs.Lists.{andThen, mem}
@@ -182,6 +182,30 @@ within-next ws s f h =
 -- a part has as many words as its places say
 pub within-length : (ws : List ℕ) (s : Span) → Fits ws s → length (within s ws) ≡ s .to - s .from
 within-length ws s f = simp (length-take, length-drop) (omega arith)
+
+-- what is left of the first n words without the first a
+pub drop-take : (a n : ℕ) (ws : List ℕ) → drop a (take n ws) ≡ take (n - a) (drop a ws)
+drop-take zero n ws = simp unary-clauses
+drop-take (suc a) zero ws = let e : 0 - suc a ≡ 0 = omega arith in rw e
+drop-take (suc a) (suc n) [] = rw take-nil
+drop-take (suc a) (suc n) (w ∷ ws) = simp unary-clauses (drop-take a n ws)
+
+-- a part of a part is a part
+abbrev pub behind : ℕ → Span → Span
+behind n t = record { from = n + t .from; to = n + t .to }
+
+module _ (ws : List ℕ) (s t : Span) (f : Fits ws s) (g : Fits (within s ws) t) where
+  pub within-within : within t (within s ws) ≡ within (behind (s .from) t) ws
+  within-within =
+      let l : length (within s ws) ≡ s .to - s .from = within-length ws s f in
+      let n : s .from + t .to - (s .from + t .from) ≡ t .to - t .from = omega arith in
+      let h : t .to - t .from ≤ s .to - s .from - t .from = omega arith in
+      rw (n, drop-take (t .from) (s .to - s .from) (drop (s .from) ws), take-take (t .to - t .from) (s .to - s .from - t .from) (drop (t .from) (drop (s .from) ws)) h, drop-drop (t .from) (s .from) ws)
+
+  pub behind-fits : Fits ws (behind (s .from) t)
+  behind-fits =
+      let l : length (within s ws) ≡ s .to - s .from = within-length ws s f in
+      record { ordered = omega arith; inside = omega arith }
 
 -- where the excluded items stand
 pub record ExcludedHere (ws : List ℕ) (s : Span) (xs : List ℕ) : Type 0 where

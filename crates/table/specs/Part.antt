@@ -1,11 +1,18 @@
 -- Lookups over the words of one section, without a table in between, and how a walk over its records stands. Assumes nothing.
-use Prim.Native.Nat.{ℕ, _+_, _≤_}
+use Prim.Native.Nat.{ℕ, _+_, _≤_, _<_}
 use mathlib.Core.Path.{_≡_}
 use mathlib.Core.Bool.{Bool, true, false, _&&_, _||_, cond}
 use mathlib.Core.List.{List, [], _∷_}
-use mathlib.Core.Option.{Option, some}
+use mathlib.Core.Option.{Option, none, some, Option·getD}
 use lib.ListN.{length, getD, take, drop}
 use lib.Dec.{leb}
+use Rattle.lists.specs.Lists.{isSome}
+use Rattle.table.specs.declared.Span.{Span}
+use Rattle.table.specs.declared.Items.{Items}
+use Rattle.table.specs.declared.Items.the-variants.{At, Nothing}
+use Rattle.table.specs.declared.WholeAt.{WholeAt}
+use Rattle.table.specs.declared.WholeAt.the-variants.{Lists, Unconfused}
+use Rattle.table.specs.Laid.{within, Fits, itemsAt, ItemsFit}
 use Rattle.table.specs.Table.{Range, ClassRange, Headed, Group, Whole}
 use Rattle.table.specs.Layout.{mostItems, mostClass, mostFlags, ranges, headed, sequences, group, groups, wholes}
 use Rattle.table.specs.Lookup.{tableClass}
@@ -27,6 +34,53 @@ classAmong c (a ∷ b ∷ k ∷ ws) = let rest = classAmong c ws in cond (leb a 
 pub record ClassFound (rs : List ClassRange) (c r : ℕ) : Type 0 where
   pub same : r ≡ tableClass rs c
   pub small : r ≤ mostClass
+
+-- the items whose count stands at `at`
+abbrev pub countedAt : List ℕ → ℕ → Span
+countedAt ws at = record { from = at + 1; to = at + 1 + getD ws at 0 }
+
+-- the records of a part whose items are at most 32 each
+unfoldable pub headsIn : List ℕ → List Headed
+headsIn part = Option·getD (headed (length part) mostItems part) []
+
+-- the wholes of a part
+unfoldable pub wholesIn : List ℕ → List Whole
+wholesIn part = Option·getD (wholes (length part) part) []
+
+-- at least one item
+abbrev pub Filled : Items → Type 0
+Filled (At s) = s .from < s .to
+Filled Nothing = Unit {0}
+
+-- what a lookup of items answers: their places within the words, at least one and at most `most`
+pub record ItemsFound (ws : List ℕ) (most : ℕ) (items : Option (List ℕ)) (r : Items) : Type 0 where
+  pub same : itemsAt ws r ≡ items
+  pub fit : ItemsFit ws most r
+  pub filled : Filled r
+
+-- the whole that an answer of a lookup stands for
+abbrev pub wholeAt : List ℕ → WholeAt → Option Whole
+wholeAt ws (Lists v k) = some (record { valid = within v ws; confused = within k ws })
+wholeAt ws Unconfused = none
+
+-- both of its lists lie within the words
+abbrev pub WholeFits : List ℕ → WholeAt → Type 0
+WholeFits ws (Lists v k) = Fits ws v × Fits ws k
+WholeFits ws Unconfused = Unit {0}
+
+-- what a lookup of a whole answers
+pub record WholeFound (ws : List ℕ) (whole : Option Whole) (r : WholeAt) : Type 0 where
+  pub same : wholeAt ws r ≡ whole
+  pub fits : WholeFits ws r
+
+-- a part that lies within the words and parses as records, and as wholes
+pub record HeadedPart (ws : List ℕ) (s : Span) : Type 0 where
+  pub fits : Fits ws s
+  pub parses : isSome (headed (length (within s ws)) mostItems (within s ws)) ≡ true
+
+pub record WholesPart (ws : List ℕ) (s : Span) : Type 0 where
+  pub fits : Fits ws s
+  pub parses : isSome (wholes (length (within s ws)) (within s ws)) ≡ true
 
 -- The words of a part from `at` on are the records xs, as `reader` reads them: headed, sequences, groups or wholes. How often a reader may
 -- step is left open: any bound that is enough serves.

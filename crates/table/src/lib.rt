@@ -36,3 +36,9 @@ pub enum Items {
     At(Span),
     Nothing,
 }
+
+// Where the lists of the first whole that confuses a codepoint stand among the words of a table.
+pub enum WholeAt {
+    Lists { valid: Span, confused: Span },
+    Unconfused,
+}

@@ -1,11 +1,17 @@
 // Lookups in a table: first over the words of one section, then over the words of a table and the places of its sections.
+use crate::Items;
 use crate::Sections;
 use crate::Span;
+use crate::WholeAt;
 ghost use mathlib.Core.Path.{_≡_};
-ghost use Rattle.lists.specs.Lists.{mem};
-ghost use Rattle.table.specs.Lookup.{inRanges, tableClass};
+ghost use Prim.Native.Nat.{_+_, _≤_};
+ghost use lib.ListN.{length, getD};
+ghost use mathlib.Core.Bool.{true};
+ghost use Rattle.lists.specs.Lists.{mem, isSome};
+ghost use Rattle.table.specs.Layout.{mostItems, mostParts, headed, wholes};
+ghost use Rattle.table.specs.Lookup.{inRanges, tableClass, itemsOf, wholeOf};
 ghost use Rattle.table.specs.Laid.{Laid, Fits, within, theTable};
-ghost use Rattle.table.specs.Part.{inPairs, classAmong, ClassFound};
+ghost use Rattle.table.specs.Part.{inPairs, classAmong, ClassFound, countedAt, headsIn, wholesIn, HeadedPart, WholesPart, ItemsFound, WholeFound};
 
 // Whether c lies in one of the pairs first, last.
 pub fn in_pairs(part: &[u32], c: u32) -> bool
@@ -59,6 +65,60 @@ pub fn mem_in_of(words: &[u32], s: Span, c: u32) -> bool
     mem_in(&words[from..to], c)
 }
 
+// Where the items of the first record head, count, items with head c stand in the part.
+pub fn head_in(part: &[u32], c: u32) -> Items
+    requires { ⌜ isSome (headed (length (now part)) mostItems (now part)) ≡ true ⌝ }
+    ensures { λ r. ⌜ ItemsFound (now (part .entry)) mostItems (itemsOf (headsIn (now (part .entry))) c) r ⌝ }
+{
+    let mut i: usize = 0;
+    while i < part.len() {
+        let n = part[i + 1] as usize;
+        let from = i + 2;
+        if part[i] == c {
+            return Items::At(Span {
+                from: from,
+                to: from + n,
+            });
+        }
+        i = from + n;
+    }
+    Items::Nothing
+}
+
+// The items whose count stands at a place.
+pub fn counted(words: &[u32], at: usize) -> Span
+    requires { ⌜ at + 1 + getD (now words) at 0 ≤ length (now words) ⌝ }
+    ensures { λ r. ⌜ r ≡ countedAt (now (words .entry)) at ⌝ }
+{
+    let from = at + 1;
+    let n = words[at] as usize;
+    Span {
+        from: from,
+        to: from + n,
+    }
+}
+
+// Where the lists of the first whole whose confused list has c stand in the part.
+pub fn whole_in(part: &[u32], c: u32) -> WholeAt
+    requires { ⌜ isSome (wholes (length (now part)) (now part)) ≡ true ⌝ }
+    ensures { λ r. ⌜ WholeFound (now (part .entry)) (wholeOf (wholesIn (now (part .entry))) c) r ⌝ }
+{
+    let mut i: usize = 0;
+    while i < part.len() {
+        let valid = counted(part, i);
+        let at = valid.to;
+        let confused = counted(part, at);
+        if mem_in_of(part, confused, c) {
+            return WholeAt::Lists {
+                valid: valid,
+                confused: confused,
+            };
+        }
+        i = confused.to;
+    }
+    WholeAt::Unconfused
+}
+
 // Whether c lies in one of the pairs of a section.
 pub fn in_pairs_of(words: &[u32], s: Span, c: u32) -> bool
     requires { ⌜ Fits (now words) s ⌝ }
@@ -67,6 +127,46 @@ pub fn in_pairs_of(words: &[u32], s: Span, c: u32) -> bool
     let from = s.from;
     let to = s.to;
     in_pairs(&words[from..to], c)
+}
+
+// Where the items of the first record of a section with head c stand among the words.
+pub fn head_in_of(words: &[u32], s: Span, c: u32) -> Items
+    requires { ⌜ HeadedPart (now words) s ⌝ }
+    ensures { λ r. ⌜ ItemsFound (now (words .entry)) mostItems (itemsOf (headsIn (within s (now (words .entry)))) c) r ⌝ }
+{
+    let from = s.from;
+    let to = s.to;
+    let found = head_in(&words[from..to], c);
+    match found {
+        Items::At(t) => Items::At(Span {
+            from: from + t.from,
+            to: from + t.to,
+        }),
+        Items::Nothing => Items::Nothing,
+    }
+}
+
+// Where the lists of the first whole of a section whose confused list has c stand among the words.
+pub fn whole_in_of(words: &[u32], s: Span, c: u32) -> WholeAt
+    requires { ⌜ WholesPart (now words) s ⌝ }
+    ensures { λ r. ⌜ WholeFound (now (words .entry)) (wholeOf (wholesIn (within s (now (words .entry)))) c) r ⌝ }
+{
+    let from = s.from;
+    let to = s.to;
+    let found = whole_in(&words[from..to], c);
+    match found {
+        WholeAt::Lists { valid, confused } => WholeAt::Lists {
+            valid: Span {
+                from: from + valid.from,
+                to: from + valid.to,
+            },
+            confused: Span {
+                from: from + confused.from,
+                to: from + confused.to,
+            },
+        },
+        WholeAt::Unconfused => WholeAt::Unconfused,
+    }
 }
 
 // Whether c is valid.
@@ -138,4 +238,28 @@ pub fn is_excluded(words: &[u32], ix: Sections, c: u32) -> bool
         to: s.to,
     };
     mem_in_of(words, items, c)
+}
+
+// Where the items that c is mapped to stand.
+pub fn mapped_items(words: &[u32], ix: Sections, c: u32) -> Items
+    requires { ⌜ Laid (now words) ix ⌝ }
+    ensures { λ r. ⌜ ItemsFound (now (words .entry)) mostItems (itemsOf (theTable (now (words .entry)) .mapped) c) r ⌝ }
+{
+    head_in_of(words, ix.mapped, c)
+}
+
+// Where the items of the decomposition of c stand.
+pub fn decomposition_items(words: &[u32], ix: Sections, c: u32) -> Items
+    requires { ⌜ Laid (now words) ix ⌝ }
+    ensures { λ r. ⌜ ItemsFound (now (words .entry)) mostParts (itemsOf (theTable (now (words .entry)) .decompositions) c) r ⌝ }
+{
+    head_in_of(words, ix.decompositions, c)
+}
+
+// Where the lists of the whole of c stand, if c is confused.
+pub fn whole_of(words: &[u32], ix: Sections, c: u32) -> WholeAt
+    requires { ⌜ Laid (now words) ix ⌝ }
+    ensures { λ r. ⌜ WholeFound (now (words .entry)) (wholeOf (theTable (now (words .entry)) .wholes) c) r ⌝ }
+{
+    whole_in_of(words, ix.wholes, c)
 }
