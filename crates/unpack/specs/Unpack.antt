@@ -1,9 +1,9 @@
 -- Unpacking a table file. 01, "The table", first paragraph. Assumes nothing.
 use Prim.Native.Nat.{ℕ, _+_, _-_, _*_}
-use mathlib.Core.Bool.{Bool, not, cond}
+use mathlib.Core.Bool.{cond}
 use mathlib.Core.List.{List, [], _∷_, _++_}
 use lib.ListN.{length, replicate}
-use lib.Dec.{leb, ltb, eqb}
+use lib.Dec.{leb, eqb}
 use Rattle.answers.specs.Verdict.{Verdict, accepted, refused}
 use Rattle.answers.specs.Values.{UnpackValues}
 
@@ -50,6 +50,6 @@ unpacking room (accepted ws) = record { values = record { number = 0; count = le
 unpacking room (refused n p) = record { values = record { number = n; count = 0 }; answer = replicate room 0 }
 
 -- the unpack call on a file's bytes, with an answer buffer of `room` words
-unfoldable pub unpack : List ℕ → ℕ → Unpacking
+unfoldable pub unpackCall : List ℕ → ℕ → Unpacking
 unfolding fileWords
-unpack file room = unpacking room (withRoom room (fileWords file))
+unpackCall file room = unpacking room (withRoom room (fileWords file))
