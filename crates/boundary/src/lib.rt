@@ -1,0 +1,42 @@
+// The calls for C and Rust, each with the promise of the call that it hands on. include/wanlopheng.h declares them.
+// A slice crosses as a pointer and a number of elements, an answer as a struct of plain numbers.
+use answers::Unpacked;
+ghost use mathlib.Core.Path.{_≡_};
+ghost use Rattle.answers.specs.Values.{unpackValues};
+ghost use Rattle.boundary.specs.Crossing.{unpackFields, UnpackCrosses};
+
+// The refusal number, 0 where the file is unpacked, and the number of words.
+#[repr(C)]
+pub struct WanlophengUnpack {
+    pub number: u32,
+    pub count: usize,
+}
+
+fn unpack_fields(answer: Unpacked) -> WanlophengUnpack
+    ensures { λ r. ⌜ unpackFields r ≡ unpackValues answer ⌝ }
+{
+    match answer {
+        Unpacked::Words(count) => WanlophengUnpack { number: 0, count },
+        Unpacked::WrongVersion => WanlophengUnpack {
+            number: 20,
+            count: 0,
+        },
+        Unpacked::WrongLength => WanlophengUnpack {
+            number: 21,
+            count: 0,
+        },
+        Unpacked::TooLittleRoom => WanlophengUnpack {
+            number: 22,
+            count: 0,
+        },
+    }
+}
+
+// Unpacks a table file.
+#[no_mangle]
+pub extern "C" fn wanlopheng_unpack(file: &[u8], answer: &mut [u32]) -> WanlophengUnpack
+    ensures { λ r. ⌜ UnpackCrosses (now (file .entry)) (now (answer .entry)) (now (answer .exit)) r ⌝ }
+{
+    let found = unpack::unpack(file, answer);
+    unpack_fields(found)
+}

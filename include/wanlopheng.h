@@ -1,0 +1,30 @@
+/* The calls of Wanlopheng for C. Link libboundary.a, which `rt staticlib boundary` writes (x86-64).
+ *
+ * A slice crosses as a pointer and a number of elements. The pointer is not null and is aligned, also where there are no
+ * elements; the elements can be read, those of the answer also written, and the answer overlaps nothing else that is
+ * handed over. That is all that a caller owes. No call keeps a pointer.
+ */
+#ifndef WANLOPHENG_H
+#define WANLOPHENG_H
+
+#include <stddef.h>
+#include <stdint.h>
+
+#ifdef __cplusplus
+extern "C" {
+#endif
+
+/* What unpacking answers. */
+struct wanlopheng_unpack {
+    uint32_t number; /* 0: unpacked. 20: the version is not 1. 21: a wrong length. 22: the answer is too small. */
+    size_t count;    /* the number of words; 0 beside a refusal */
+};
+
+/* Unpacks a table file. After success the answer holds the file's words and then zeros, after a refusal zeros alone. */
+struct wanlopheng_unpack wanlopheng_unpack(const uint8_t *file, size_t file_length, uint32_t *answer, size_t answer_length);
+
+#ifdef __cplusplus
+}
+#endif
+
+#endif
