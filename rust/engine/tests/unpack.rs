@@ -1,0 +1,172 @@
+//! The unpack call on the proved code: every word of the buffer is compared,
+//! and the words around the part that is lent stay as they were.
+
+use engine::{unpack, Unpacked};
+use gen::Rng;
+
+const GUARD: usize = 3;
+
+/// The mark at this place, never 0.
+fn mark(place: usize) -> u32 {
+    0x8000_0001 | (place as u32) << 8
+}
+
+/// Unpacks into a part of `room` words of a marked buffer.
+fn run(file: &[u8], room: usize) -> (Unpacked, Vec<u32>) {
+    let mut buffer: Vec<u32> = (0..room + 2 * GUARD).map(mark).collect();
+    let answer = unpack(file, &mut buffer[GUARD..GUARD + room]);
+    for place in (0..GUARD).chain(GUARD + room..room + 2 * GUARD) {
+        assert_eq!(buffer[place], mark(place), "a word outside the part");
+    }
+    (answer, buffer[GUARD..GUARD + room].to_vec())
+}
+
+/// The file is refused with this number, whatever the room.
+fn refused(number: u32, file: &[u8]) {
+    for room in [0, 1, 2, 5, 40] {
+        assert_eq!(
+            run(file, room),
+            (Unpacked { number, count: 0 }, vec![0; room]),
+            "{file:?}, room {room}"
+        );
+    }
+}
+
+/// The file unpacks to these words, and zeros follow.
+fn given(words: &[u32], file: &[u8], room: usize) {
+    let mut answer = words.to_vec();
+    answer.resize(room, 0);
+    assert_eq!(
+        run(file, room),
+        (
+            Unpacked {
+                number: 0,
+                count: words.len()
+            },
+            answer
+        ),
+        "{file:?}, room {room}"
+    );
+}
+
+/// A file with this version and this count, and these bytes behind them.
+fn file(version: u8, count: u32, rest: &[u8]) -> Vec<u8> {
+    let mut file = vec![version];
+    file.extend(count.to_be_bytes());
+    file.extend(rest);
+    file
+}
+
+#[test]
+fn an_empty_file_has_a_wrong_length() {
+    refused(21, &[]);
+}
+
+#[test]
+fn one_byte() {
+    refused(21, &[1]);
+    for version in (0..=255).filter(|&v| v != 1) {
+        refused(20, &[version]);
+    }
+}
+
+#[test]
+fn a_part_of_the_head_has_a_wrong_length() {
+    for length in 1..5 {
+        refused(21, &file(1, 0, &[])[..length]);
+    }
+}
+
+#[test]
+fn a_wrong_version_comes_before_a_wrong_length() {
+    refused(20, &file(2, 0, &[]));
+    refused(20, &file(2, 7, &[1, 2]));
+    refused(20, &[0, 0]);
+}
+
+#[test]
+fn a_wrong_length_comes_before_too_little_room() {
+    refused(21, &file(1, 1000, &[0; 3]));
+    refused(21, &file(1, 1, &[0; 3]));
+    refused(21, &file(1, 1, &[0; 5]));
+    refused(21, &file(1, 0, &[0; 4]));
+}
+
+/// Four times the count is a multiple of 2^32, or a little more.
+#[test]
+fn the_count_is_not_cut_to_32_bits() {
+    for count in [0x4000_0000, 0x8000_0000, 0xC000_0000] {
+        refused(21, &file(1, count, &[]));
+        refused(21, &file(1, count + 1, &[0, 0, 0, 9]));
+        refused(21, &file(1, count + 2, &[0; 8]));
+    }
+    refused(21, &file(1, u32::MAX, &[]));
+}
+
+#[test]
+fn no_words() {
+    for room in [0, 1, 9] {
+        given(&[], &file(1, 0, &[]), room);
+    }
+}
+
+#[test]
+fn the_first_byte_of_a_word_is_the_highest() {
+    let bytes = [0x12, 0x34, 0x56, 0x78, 0xFF, 0, 0, 1];
+    given(&[0x1234_5678, 0xFF00_0001], &file(1, 2, &bytes), 2);
+}
+
+#[test]
+fn a_buffer_too_small_by_one() {
+    for words in [1, 2, 30] {
+        let file = plain::pack(&vec![5; words]);
+        assert_eq!(
+            run(&file, words - 1),
+            (
+                Unpacked {
+                    number: 22,
+                    count: 0
+                },
+                vec![0; words - 1]
+            )
+        );
+    }
+}
+
+#[test]
+fn an_exact_fit_and_larger_buffers() {
+    for length in [1, 2, 30] {
+        let words: Vec<u32> = (0..length).map(|i| 0x0102_0304 * i).collect();
+        for more in [0, 1, 2, 100] {
+            given(&words, &plain::pack(&words), length as usize + more);
+        }
+    }
+}
+
+#[test]
+fn random_files_as_the_plain_version() {
+    let mut rng = Rng::new(0x756E_7061_636B);
+    let mut seen = [0; 4];
+    for _ in 0..100_000 {
+        let words: Vec<u32> = (0..rng.below(40)).map(|_| rng.word()).collect();
+        let (file, room) = gen::file(&mut rng, &words);
+        let mut answer: Vec<u32> = (0..room).map(mark).collect();
+        let expected = match plain::unpack(&file, &mut answer) {
+            plain::Unpacked::Count(count) => Unpacked { number: 0, count },
+            plain::Unpacked::Refused(number) => Unpacked { number, count: 0 },
+        };
+        assert_eq!(
+            run(&file, room),
+            (expected, answer),
+            "{file:?}, room {room}"
+        );
+        seen[[0, 20, 21, 22]
+            .iter()
+            .position(|&n| n == expected.number)
+            .unwrap()] += 1;
+    }
+    assert!(
+        seen.iter().all(|&n| n > 1000),
+        "each answer is met often: {seen:?}"
+    );
+}
