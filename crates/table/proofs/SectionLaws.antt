@@ -6,16 +6,15 @@ use mathlib.Core.Path.{_≡_, refl, sym, ap, _∙_}
 use mathlib.Core.Bool.{Bool, true, false, _&&_, cond, and-false}
 use mathlib.Core.List.{List, [], _∷_, map}
 use mathlib.Core.Option.{Option, none, some, Option·getD}
-use lib.ListN.{length, getD, take, drop, length-drop, drop-of-length-le}
-use lib.Seq.{drop-cons, drop-drop}
+use lib.ListN.{length, getD, take, drop, length-take, length-drop, drop-of-length-le}
+use lib.Seq.{drop-cons, drop-drop, getD-take, getD-drop}
 use lib.Dec.{leb, ltb, eqb}
-use borrow.Author.Tests.{ltb-true, ltb-false, leb-true, leb-false, eqb-true, lt-ltb, le-ltb, le-leb, lt-leb, eq-eqb, ne-eqb}
+use borrow.Author.Tests.{ltb-true, ltb-false, leb-true, leb-false, eqb-true, lt-ltb, le-leb, lt-leb, eq-eqb, ne-eqb}
 use Rattle.lists.specs.Lists.{isSome, andThen}
 use Rattle.table.specs.declared.Span.{Span}
 use Rattle.table.specs.declared.Sections.{Sections}
-use Rattle.table.specs.declared.Layout.{Layout}
 use Rattle.table.specs.declared.Layout.the-variants.{Fault, Found}
-use Rattle.table.specs.Table.{Range, ClassRange, Headed, Group, Whole, Table}
+use Rattle.table.specs.Table.{Table}
 use Rattle.table.specs.Layout.{
   mostItems,
   mostParts,
@@ -306,6 +305,13 @@ sections-fit ws e =
       groups = k .fits;
       wholes = l .fits;
     }
+
+-- The words of a part that lies within the words: their number, and each of them.
+pub within-length : (ws : List ℕ) (s : Span) → Fits ws s → length (within s ws) ≡ s .to - s .from
+within-length ws s f = let i : s .to ≤ length ws = f .inside in simp (length-take, length-drop) (omega arith)
+
+pub within-at : (ws : List ℕ) (s : Span) (i : ℕ) → s .from + i < s .to → getD (within s ws) i 0 ≡ getD ws (s .from + i) 0
+within-at ws s i h = let j : i < s .to - s .from = omega arith in rw (getD-take, getD-drop)
 
 -- The words of each section spell the table's entries.
 pub record Reads (ws : List ℕ) (ix : Sections) (t : Table) : Type 0 where

@@ -3,14 +3,14 @@
 use Prim.Native.Nat.{ℕ, zero, suc, _+_, _-_, _≤_, _<_}
 use native.Mathlib.Omega.{arith}
 use native.Mathlib.Numerals.{add-one, add-two}
-use mathlib.Core.Path.{_≡_, refl, sym, ap, _∙_}
-use mathlib.Core.Bool.{Bool, true, false, not, _&&_, cond, and-false, and-comm, and-assoc}
+use mathlib.Core.Path.{_≡_, refl, ap, _∙_}
+use mathlib.Core.Bool.{Bool, true, false, not, _&&_, and-false, and-comm, and-assoc}
 use mathlib.Core.List.{List, [], _∷_}
 use mathlib.Core.Option.{Option, none, some}
 use lib.ListN.{length, getD, take, drop, length-drop, drop-of-length-le}
 use lib.Seq.{drop-cons, drop-drop, take-all}
 use lib.Dec.{leb, ltb, eqb, leb·suc-suc, leb·suc-zero}
-use borrow.Author.Tests.{ltb-true, ltb-false, leb-true, leb-false, eqb-true, le-leb, lt-leb, ne-eqb}
+use borrow.Author.Tests.{ltb-true, ltb-false, leb-true, leb-false, le-leb, lt-leb, ne-eqb}
 use Rattle.lists.specs.Lists.{isSome, given, andThen}
 use Rattle.table.specs.declared.Sections.{Sections}
 use Rattle.table.specs.declared.laid.Shape.{Shape}
@@ -35,7 +35,7 @@ use Rattle.table.specs.Layout.{
   Tail,
   confusedPart,
   wholes,
-  tableOf
+  tableOf,
 }
 use Rattle.table.specs.Laid.{within}
 use Rattle.table.specs.Walk.{
@@ -50,12 +50,12 @@ use Rattle.table.specs.Walk.{
   recordSize,
   fitsAs,
   groupsWithin,
-  partsOf
+  partsOf,
 }
 use Rattle.table.proofs.SectionLaws.{headed-next, sequences-next, groups-next, wholes-next}
 
 -- The test f of the words comes to: a record of n words comes next, and the test of the rest.
-abbrev pub Steps : (List ℕ → Bool) → ℕ → List ℕ → Type 0
+abbrev Steps : (List ℕ → Bool) → ℕ → List ℕ → Type 0
 Steps f n ws = f ws ≡ (not (eqb n 0) && f (drop n ws))
 
 steps-if : {x : Bool} (f : List ℕ → Bool) (b : Bool) (k : ℕ) (ws : List ℕ) → 0 < k → x ≡ (b && f (drop k ws)) →
@@ -63,7 +63,8 @@ steps-if : {x : Bool} (f : List ℕ → Bool) (b : Bool) (k : ℕ) (ws : List �
 steps-if f true k ws h e = rw (ne-eqb k 0 (λ q. omega arith)) e
 steps-if f false k ws h e = e
 
-leb-same : (a b c d : ℕ) → (a ≤ b → c ≤ d) → (c ≤ d → a ≤ b) → leb a b ≡ leb c d
+-- two tests of the same fact
+pub leb-same : (a b c d : ℕ) → (a ≤ b → c ≤ d) → (c ≤ d → a ≤ b) → leb a b ≡ leb c d
 leb-same a b c d f g = go (leb c d) refl
   where
     go : (t : Bool) → leb c d ≡ t → leb a b ≡ t
@@ -211,30 +212,26 @@ walk-end (Headed most) ws at h = rw (drop-of-length-le ws h)
 walk-end Sequences ws at h = rw (drop-of-length-le ws h)
 walk-end Wholes ws at h = rw (drop-of-length-le ws h)
 
--- a step at `at`, for a test f of the words that comes to a test g of the rest
-at-step : (f g : List ℕ → Bool) (size : List ℕ → ℕ) →
-    ((w : ℕ) (ws : List ℕ) → f (w ∷ ws) ≡ (not (eqb (size (w ∷ ws)) 0) && g (drop (size (w ∷ ws)) (w ∷ ws)))) →
-    (ws : List ℕ) (at : ℕ) → at < length ws → f (drop at ws) ≡ (not (eqb (size (drop at ws)) 0) && g (drop (at + size (drop at ws)) ws))
-at-step f g size h ws at i =
-    let e : drop at ws ≡ getD ws at 0 ∷ drop (suc at) ws = drop-cons ws at 0 i in
-    let d : drop (size (drop at ws)) (drop at ws) ≡ drop (at + size (drop at ws)) ws = drop-drop (size (drop at ws)) at ws in
-    let s : f (drop at ws) ≡ (not (eqb (size (drop at ws)) 0) && g (drop (size (drop at ws)) (drop at ws))) = rw e (h (getD ws at 0) (drop (suc at) ws)) in
-    rw d at s
+-- a step at `at`, for a test f of the words that comes to: a record comes next, and a test g of the rest
+module _ (f g : List ℕ → Bool) (size : List ℕ → ℕ)
+    (h : (w : ℕ) (ws : List ℕ) → f (w ∷ ws) ≡ (not (eqb (size (w ∷ ws)) 0) && g (drop (size (w ∷ ws)) (w ∷ ws)))) (ws : List ℕ) (at : ℕ) (i : at < length ws) where
+  at-step : f (drop at ws) ≡ (not (eqb (size (drop at ws)) 0) && g (drop (at + size (drop at ws)) ws))
+  at-step =
+      let e : drop at ws ≡ getD ws at 0 ∷ drop (suc at) ws = drop-cons ws at 0 i in
+      let d : drop (size (drop at ws)) (drop at ws) ≡ drop (at + size (drop at ws)) ws = drop-drop (size (drop at ws)) at ws in
+      let s : f (drop at ws) ≡ (not (eqb (size (drop at ws)) 0) && g (drop (size (drop at ws)) (drop at ws))) = rw e (h (getD ws at 0) (drop (suc at) ws)) in
+      rw d at s
 
-at-more : (f g : List ℕ → Bool) (size : List ℕ → ℕ) →
-    ((w : ℕ) (ws : List ℕ) → f (w ∷ ws) ≡ (not (eqb (size (w ∷ ws)) 0) && g (drop (size (w ∷ ws)) (w ∷ ws)))) →
-    (ws : List ℕ) (at n : ℕ) → at < length ws → n ≡ size (drop at ws) → 0 < n → f (drop at ws) ≡ g (drop (at + n) ws)
-at-more f g size h ws at n i e p =
-    let q : eqb (size (drop at ws)) 0 ≡ false = ne-eqb (size (drop at ws)) 0 (λ z. omega arith) in
-    rw e (rw q at (at-step f g size h ws at i))
+  at-more : (n : ℕ) → n ≡ size (drop at ws) → 0 < n → f (drop at ws) ≡ g (drop (at + n) ws)
+  at-more n e p =
+      let q : eqb (size (drop at ws)) 0 ≡ false = ne-eqb (size (drop at ws)) 0 (λ z. omega arith) in
+      rw e (rw q at at-step)
 
-at-none : (f g : List ℕ → Bool) (size : List ℕ → ℕ) →
-    ((w : ℕ) (ws : List ℕ) → f (w ∷ ws) ≡ (not (eqb (size (w ∷ ws)) 0) && g (drop (size (w ∷ ws)) (w ∷ ws)))) →
-    (ws : List ℕ) (at : ℕ) → at < length ws → 0 ≡ size (drop at ws) → f (drop at ws) ≡ false
-at-none f g size h ws at i e = rw (← e) at (at-step f g size h ws at i)
+  at-none : 0 ≡ size (drop at ws) → f (drop at ws) ≡ false
+  at-none e = rw (← e) at at-step
 
 pub walk-more : (s : Shape) (ws : List ℕ) (at n : ℕ) → at < length ws → n ≡ recordSize s (drop at ws) → 0 < n → fitsAs s (drop at ws) ≡ fitsAs s (drop (at + n) ws)
-walk-more s = at-more (fitsAs s) (fitsAs s) (recordSize s) (step s)
+walk-more s ws at n i = at-more (fitsAs s) (fitsAs s) (recordSize s) (step s) ws at i n
 
 pub walk-none : (s : Shape) (ws : List ℕ) (at : ℕ) → at < length ws → 0 ≡ recordSize s (drop at ws) → fitsAs s (drop at ws) ≡ false
 walk-none s = at-none (fitsAs s) (fitsAs s) (recordSize s) (step s)
@@ -296,7 +293,7 @@ unfolding groupsLeft
 groups-more zero ws at n h e i j = absurd (omega arith)
 groups-more (suc most) ws at n h e i j =
     let m : suc most - 1 ≡ most = omega arith in
-    rw m (at-more (groupsWithin (suc most)) (groupsLeft (suc most)) groupSize (group-step (suc most)) ws at n h e i)
+    rw m (at-more (groupsWithin (suc most)) (groupsLeft (suc most)) groupSize (group-step (suc most)) ws at h n e i)
 
 pub groups-none : (most : ℕ) (ws : List ℕ) (at : ℕ) → at < length ws → 0 ≡ groupSize (drop at ws) → groupsWithin most (drop at ws) ≡ false
 groups-none most = at-none (groupsWithin most) (groupsLeft most) groupSize (group-step most)
@@ -414,7 +411,20 @@ module _ {A B : Type 0} where
   given-then p none f b h = refl
   given-then p (some a) f b h = h a ∙ and-comm b (p a)
 
-table-some : (ws : List ℕ) (ix : Sections) → isSome (tableOf (partsOf ws ix)) ≡ (fitsAs Pairs (within (ix .valid) ws) && (fitsAs Pairs (within (ix .ignored) ws) && (fitsAs Pairs (within (ix .fenced) ws) && (fitsAs Pairs (within (ix .marks) ws) && (fitsAs Pairs (within (ix .nsm) ws) && (fitsAs (Headed mostItems) (within (ix .mapped) ws) && (fitsAs (Headed mostParts) (within (ix .decompositions) ws) && (fitsAs Sequences (within (ix .emoji) ws) && (isSome (excluded (within (ix .exclusions) ws)) && (fitsAs Triples (within (ix .classes) ws) && (groupsWithin mostGroups (within (ix .groups) ws) && fitsAs Wholes (within (ix .wholes) ws))))))))))))
+table-some : (ws : List ℕ) (ix : Sections) →
+    isSome (tableOf (partsOf ws ix))
+    ≡ (fitsAs Pairs (within (ix .valid) ws)
+    && (fitsAs Pairs (within (ix .ignored) ws)
+    && (fitsAs Pairs (within (ix .fenced) ws)
+    && (fitsAs Pairs (within (ix .marks) ws)
+    && (fitsAs Pairs (within (ix .nsm) ws)
+    && (fitsAs (Headed mostItems) (within (ix .mapped) ws)
+    && (fitsAs (Headed mostParts) (within (ix .decompositions) ws)
+    && (fitsAs Sequences (within (ix .emoji) ws)
+    && (isSome (excluded (within (ix .exclusions) ws))
+    && (fitsAs Triples (within (ix .classes) ws)
+    && (groupsWithin mostGroups (within (ix .groups) ws)
+    && fitsAs Wholes (within (ix .wholes) ws))))))))))))
 unfolding tableOf partsOf fitsAs groupsWithin
 table-some ws ix =
     some-then (ranges (within (ix .valid) ws)) _ _ λ a.

@@ -1,6 +1,6 @@
 -- How the layout pass walks a section: the size of the record that comes next, by the section's shape. Assumes nothing.
-use Prim.Native.Nat.{ℕ, suc, _+_}
-use mathlib.Core.Bool.{Bool, true, false, _&&_, cond}
+use Prim.Native.Nat.{ℕ, _+_}
+use mathlib.Core.Bool.{Bool, _&&_, cond}
 use mathlib.Core.List.{List, [], _∷_}
 use lib.ListN.{length, getD, take, drop}
 use lib.Dec.{leb}
@@ -12,15 +12,14 @@ use Rattle.table.specs.Layout.{
   mostItems,
   mostFlags,
   mostClass,
-  mostGroups,
   ranges,
   classRanges,
   headed,
   sequences,
   groups,
-  wholes
+  wholes,
 }
-use Rattle.table.specs.Laid.{within, Fits}
+use Rattle.table.specs.Laid.{within}
 
 -- `size` where the test passes, else 0, which stands for no record
 abbrev pub sizeIf : Bool → ℕ → ℕ

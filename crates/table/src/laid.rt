@@ -1,23 +1,31 @@
 // The layout pass: finds the twelve sections among the words of a table and sees that each of them is well formed.
 
-use crate::{Layout, Sections, Span};
+use crate::Layout;
+use crate::Sections;
+use crate::Span;
 
-// "Items per record: mapped and emoji 1 to 32", "a class at most 255"
+// "the whole at most 131,072 words"
 const MOST_WORDS: usize = 131072;
+
+// "Items per record: mapped and emoji 1 to 32, decomposition 1 to 4; at most 256 groups"
 const MOST_ITEMS: usize = 32;
+
 const MOST_PARTS: usize = 4;
-const MOST_CLASS: u32 = 255;
-const MOST_FLAGS: u32 = 3;
+
 const MOST_GROUPS: usize = 256;
+
+// "a class at most 255, flags at most 3"
+const MOST_CLASS: u32 = 255;
+
+const MOST_FLAGS: u32 = 3;
 
 ghost use Prim.Native.Nat.{_≤_};
 ghost use mathlib.Core.Path.{_≡_};
-ghost use Rattle.table.specs.Walk.{countedSize, pairSize, tripleSize, headedSize, sequenceSize, wholeSize, recordSize, fitsAs, groupSize, groupsWithin, partsOf};
 ghost use mathlib.Core.Bool.{_&&_};
 ghost use Rattle.lists.specs.Lists.{isSome};
 ghost use Rattle.table.specs.Layout.{mostGroups, excluded, tableOf};
-
 ghost use Rattle.table.specs.Laid.{within, spanAt, sectionsOf, Fits, AllFit, layoutOf};
+ghost use Rattle.table.specs.Walk.{countedSize, pairSize, tripleSize, headedSize, sequenceSize, wholeSize, recordSize, fitsAs, groupSize, groupsWithin, partsOf};
 
 // The section whose count stands at `at`; where there is none, an empty one past the end of the words.
 fn span_at(words: &[u32], at: usize) -> Span
@@ -27,11 +35,17 @@ fn span_at(words: &[u32], at: usize) -> Span
         let n = words[at] as usize;
         if n < words.len() - at {
             let from = at + 1;
-            return Span { from: from, to: from + n };
+            return Span {
+                from: from,
+                to: from + n,
+            };
         }
     }
     let past = words.len() + 1;
-    Span { from: past, to: past }
+    Span {
+        from: past,
+        to: past,
+    }
 }
 
 // The places of the sections, one behind the other.

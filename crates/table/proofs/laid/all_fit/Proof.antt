@@ -1,43 +1,43 @@
+-- `table::laid::all_fit` meets its contract. The sections are asked in turn, and the table is there where all of them pass. Assumes nothing.
 use Rattle.table.proofs.WalkLaws.{all-fit-chain}
-use borrow.Author.Needs.{needs}
 use Rattle.table.proofs.laid.all_fit.Statement.{statement}
 use Rattle.table.proofs.laid.all_fit.Tie as tie
 
 records-in-requires : tie.Need-records-in-requires
-records-in-requires c κs = search needs
+records-in-requires c κs = c .before .pre .valid
 
 records-in-requires-2 : tie.Need-records-in-requires-2
-records-in-requires-2 c κs = search needs
+records-in-requires-2 c κs = c .before .before .pre .ignored
 
 records-in-requires-3 : tie.Need-records-in-requires-3
-records-in-requires-3 c κs = search needs
+records-in-requires-3 c κs = c .before .before .before .pre .fenced
 
 records-in-requires-4 : tie.Need-records-in-requires-4
-records-in-requires-4 c κs = search needs
+records-in-requires-4 c κs = c .before .before .before .before .pre .marks
 
 records-in-requires-5 : tie.Need-records-in-requires-5
-records-in-requires-5 c κs = search needs
+records-in-requires-5 c κs = c .before .before .before .before .before .pre .nsm
 
 records-in-requires-6 : tie.Need-records-in-requires-6
-records-in-requires-6 c κs = search needs
+records-in-requires-6 c κs = c .before .before .before .before .before .before .pre .mapped
 
 records-in-requires-7 : tie.Need-records-in-requires-7
-records-in-requires-7 c κs = search needs
+records-in-requires-7 c κs = c .before .before .before .before .before .before .before .pre .decompositions
 
 records-in-requires-8 : tie.Need-records-in-requires-8
-records-in-requires-8 c κs = search needs
+records-in-requires-8 c κs = c .before .before .before .before .before .before .before .before .pre .emoji
 
 excluded-in-requires : tie.Need-excluded-in-requires
-excluded-in-requires c κs = search needs
+excluded-in-requires c κs = c .before .before .before .before .before .before .before .before .before .pre .exclusions
 
 records-in-requires-9 : tie.Need-records-in-requires-9
-records-in-requires-9 c κs = search needs
+records-in-requires-9 c κs = c .before .before .before .before .before .before .before .before .before .before .pre .classes
 
 groups-in-requires : tie.Need-groups-in-requires
-groups-in-requires c κs = search needs
+groups-in-requires c κs = c .before .before .before .before .before .before .before .before .before .before .before .pre .groups
 
 records-in-requires-10 : tie.Need-records-in-requires-10
-records-in-requires-10 c κs = search needs
+records-in-requires-10 c κs = c .before .before .before .before .before .before .before .before .before .before .before .before .pre .wholes
 
 returns : tie.Need-returns
 returns c =

@@ -1,3 +1,4 @@
+-- `table::laid::counted_size` meets its contract. Each test is one of the definition's. Assumes nothing.
 use native.Mathlib.Omega.{arith}
 use Rattle.table.proofs.WalkLaws.{counted-few, counted-many, counted-short, counted-there}
 use borrow.Author.Needs.{needs}

@@ -1,3 +1,4 @@
+-- `table::laid::excluded_fit` meets its contract. The one count is that of all words behind it. Assumes nothing.
 use native.Mathlib.Omega.{arith}
 use Rattle.table.proofs.WalkLaws.{excluded-none, excluded-one}
 use borrow.Author.Needs.{needs}

@@ -1,3 +1,4 @@
+-- `table::laid::group_size` meets its contract. Each test is one of the definition's; the pairs are walked as a part of their own. Assumes nothing.
 use Prim.Native.Nat.{_+_, _-_}
 use native.Mathlib.Omega.{arith}
 use mathlib.Core.Path.{_≡_}

@@ -1,4 +1,5 @@
-use Prim.Native.Nat.{_≤_, _-_, _+_}
+-- `table::laid::groups_fit` meets its contract. The loop's invariant: the whole part is well formed exactly where the rest of it is, of as many groups as are left. The measure is the rest's length. Assumes nothing.
+use Prim.Native.Nat.{_≤_, _-_}
 use native.Mathlib.Omega.{arith}
 use mathlib.Core.Path.{_≡_, sym, _∙_}
 use lib.ListN.{length, drop, length-drop}

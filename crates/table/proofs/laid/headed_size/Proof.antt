@@ -1,3 +1,4 @@
+-- `table::laid::headed_size` meets its contract. Too few words have no count; else the count decides. Assumes nothing.
 use Rattle.table.specs.Walk.{headedSize}
 use native.Mathlib.Omega.{arith}
 use Rattle.table.proofs.WalkLaws.{headed-short}

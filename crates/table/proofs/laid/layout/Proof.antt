@@ -1,3 +1,4 @@
+-- `table::laid::layout` meets its contract. The table is there where the words are few enough, the last section ends with them and all sections are well formed. Assumes nothing.
 use native.Mathlib.Omega.{arith}
 use mathlib.Core.Path.{_≡_}
 use mathlib.Core.Bool.{true, false}

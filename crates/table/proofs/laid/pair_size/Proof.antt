@@ -1,3 +1,4 @@
+-- `table::laid::pair_size` meets its contract. Each test is one of the definition's. Assumes nothing.
 use native.Mathlib.Omega.{arith}
 use Rattle.table.proofs.WalkLaws.{pair-short, pair-back, pair-there}
 use borrow.Author.Needs.{needs}

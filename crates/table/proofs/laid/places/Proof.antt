@@ -1,3 +1,4 @@
+-- `table::laid::places` meets its contract. Each section is found behind the one before it. Assumes nothing.
 use Rattle.table.proofs.SectionLaws.{sections-chain}
 use borrow.Author.Needs.{needs}
 use Rattle.table.proofs.laid.places.Statement.{statement}

@@ -1,3 +1,4 @@
+-- `table::laid::record_size` meets its contract. Each shape has its own size. Assumes nothing.
 use Rattle.table.specs.Walk.{recordSize}
 use borrow.Author.Needs.{needs}
 use Rattle.table.proofs.laid.record_size.Statement.{statement}

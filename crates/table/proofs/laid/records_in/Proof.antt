@@ -1,3 +1,4 @@
+-- `table::laid::records_in` meets its contract. The part that is lent is the section. Assumes nothing.
 use borrow.Author.Needs.{needs}
 use Rattle.table.proofs.laid.records_in.Statement.{statement}
 use Rattle.table.proofs.laid.records_in.Tie as tie

@@ -1,3 +1,4 @@
+-- `table::laid::span_at` meets its contract. Both tests are those of the definition, and past the end of the words no count is read. Assumes nothing.
 use native.Mathlib.Omega.{arith}
 use mathlib.Core.Logic.{⊎-elim}
 use Rattle.table.proofs.SectionLaws.{span-there, span-none}

@@ -1,3 +1,4 @@
+-- `table::laid::triple_size` meets its contract. Each test is one of the definition's. Assumes nothing.
 use native.Mathlib.Omega.{arith}
 use Rattle.table.proofs.WalkLaws.{triple-short, triple-back, triple-over, triple-there}
 use borrow.Author.Needs.{needs}

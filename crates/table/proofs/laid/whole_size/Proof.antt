@@ -1,3 +1,4 @@
+-- `table::laid::whole_size` meets its contract. A count past the end of the words leaves no room for the record. Assumes nothing.
 use Prim.Native.Nat.{_+_}
 use lib.ListN.{getD}
 use native.Mathlib.Omega.{arith}
