@@ -2,3 +2,4 @@ pub mod SectionLaws
 pub mod WalkLaws
 pub mod Lookups
 pub mod Records
+pub mod Searches

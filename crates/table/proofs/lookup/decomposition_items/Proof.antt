@@ -1,5 +1,5 @@
 -- `table::lookup::decomposition_items` meets its contract: the words of the section spell the records of the table. Assumes nothing.
-use Rattle.table.proofs.Records.{decompositions-part, decomposition-found}
+use Rattle.table.proofs.Searches.{decompositions-part, decomposition-found}
 use Rattle.table.proofs.lookup.decomposition_items.Statement.{statement}
 use Rattle.table.proofs.lookup.decomposition_items.Tie as tie
 

@@ -3,7 +3,7 @@ use Prim.Native.Nat.{_-_}
 use native.Mathlib.Omega.{arith}
 use borrow.Author.Needs.{needs}
 use lib.ListN.{length}
-use Rattle.table.proofs.Records.{HeadWalk, head-start, head-here, head-hit, head-on, head-stop}
+use Rattle.table.proofs.Searches.{HeadWalk, head-start, head-here, head-hit, head-on, head-stop}
 use Rattle.table.proofs.lookup.head_in.Statement.{statement}
 use Rattle.table.proofs.lookup.head_in.Tie as tie
 

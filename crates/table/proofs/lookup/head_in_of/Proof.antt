@@ -1,6 +1,6 @@
 -- `table::lookup::head_in_of` meets its contract: what is found in a part of the words is found in the words. Assumes nothing.
 use native.Mathlib.Omega.{arith}
-use Rattle.table.proofs.Records.{items-at, items-nothing}
+use Rattle.table.proofs.Searches.{items-at, items-nothing}
 use borrow.Author.Needs.{needs}
 use Rattle.table.proofs.lookup.head_in_of.Statement.{statement}
 use Rattle.table.proofs.lookup.head_in_of.Tie as tie

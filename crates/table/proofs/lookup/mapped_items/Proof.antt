@@ -1,5 +1,5 @@
 -- `table::lookup::mapped_items` meets its contract: the words of the section spell the records of the table. Assumes nothing.
-use Rattle.table.proofs.Records.{mapped-part, mapped-found}
+use Rattle.table.proofs.Searches.{mapped-part, mapped-found}
 use Rattle.table.proofs.lookup.mapped_items.Statement.{statement}
 use Rattle.table.proofs.lookup.mapped_items.Tie as tie
 

@@ -3,7 +3,7 @@ use Prim.Native.Nat.{_-_}
 use mathlib.Core.Path.{sym, _∙_}
 use native.Mathlib.Omega.{arith}
 use lib.ListN.{length}
-use Rattle.table.proofs.Records.{WholeWalk, whole-start, whole-here, whole-room, confused-fits, whole-less, whole-hit, whole-on, whole-stop}
+use Rattle.table.proofs.Searches.{WholeWalk, whole-start, whole-here, whole-room, confused-fits, whole-less, whole-hit, whole-on, whole-stop}
 use Rattle.table.proofs.lookup.whole_in.Statement.{statement}
 use Rattle.table.proofs.lookup.whole_in.Tie as tie
 

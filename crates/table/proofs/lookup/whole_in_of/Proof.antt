@@ -1,6 +1,6 @@
 -- `table::lookup::whole_in_of` meets its contract: what is found in a part of the words is found in the words. Assumes nothing.
 use native.Mathlib.Omega.{arith}
-use Rattle.table.proofs.Records.{whole-at, whole-nothing}
+use Rattle.table.proofs.Searches.{whole-at, whole-nothing}
 use borrow.Author.Needs.{needs}
 use Rattle.table.proofs.lookup.whole_in_of.Statement.{statement}
 use Rattle.table.proofs.lookup.whole_in_of.Tie as tie

@@ -1,5 +1,5 @@
 -- `table::lookup::whole_of` meets its contract: the words of the section spell the wholes of the table. Assumes nothing.
-use Rattle.table.proofs.Records.{wholes-part, whole-found}
+use Rattle.table.proofs.Searches.{wholes-part, whole-found}
 use Rattle.table.proofs.lookup.whole_of.Statement.{statement}
 use Rattle.table.proofs.lookup.whole_of.Tie as tie
 
