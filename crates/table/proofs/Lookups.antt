@@ -20,24 +20,31 @@ use Rattle.table.specs.Layout.{onlyIf, inFront, ranges, classRanges, exc
 use Rattle.table.specs.Lookup.{inRange, inRanges, inClassRange, tableClass}
 use Rattle.table.specs.Part.{inPairs, classAmong, ClassFound}
 
+-- nothing and something, no and yes, are never the same
+pub none-some : {A : Type 0} (x : A) → none ≡ some x → ⊥
+none-some x e = let z : _≡_ {A = ℕ} 0 1 = cc in omega arith
+
+pub false-true : false ≡ true → ⊥
+false-true e = let z : _≡_ {A = ℕ} 0 1 = cc in omega arith
+
 -- both tests passed
 pub both : (a b : Bool) → a && b ≡ true → (a ≡ true) × (b ≡ true)
 both true b e = (refl, e)
-both false b e = absurd (let z : _≡_ {A = ℕ} 0 1 = cc in omega arith)
+both false b e = absurd (false-true e)
 
 module _ {A : Type 0} where
   -- what made a result out of a test, and out of an entry in front
   pub onlyIf-some : (b : Bool) (o : Option A) (x : A) → onlyIf b o ≡ some x → (b ≡ true) × (o ≡ some x)
   onlyIf-some true o x e = (refl, e)
-  onlyIf-some false o x e = absurd (let z : _≡_ {A = ℕ} 0 1 = cc in omega arith)
+  onlyIf-some false o x e = absurd (none-some x e)
 
   pub inFront-some : (x : A) (o : Option (List A)) (xs : List A) → inFront x o ≡ some xs → (rest : List A) × (o ≡ some rest) × (xs ≡ x ∷ rest)
-  inFront-some x none xs e = absurd (let z : _≡_ {A = ℕ} 0 1 = cc in omega arith)
+  inFront-some x none xs e = absurd (none-some xs e)
   inFront-some x (some rest) xs e = (rest, refl, cc)
 
 module _ {A B : Type 0} where
   pub andThen-some : (o : Option A) (f : A → Option B) (y : B) → andThen o f ≡ some y → (a : A) × (o ≡ some a) × (f a ≡ some y)
-  andThen-some none f y e = absurd (let z : _≡_ {A = ℕ} 0 1 = cc in omega arith)
+  andThen-some none f y e = absurd (none-some y e)
   andThen-some (some a) f y e = (a, refl, e)
 
 pub pairs-ranges : (c : ℕ) (ws : List ℕ) (rs : List Range) → ranges ws ≡ some rs → inPairs c ws ≡ inRanges c rs
@@ -228,7 +235,7 @@ excluded-here ws s xs f e = go (ltb (s .from) (s .to)) refl
         let h : s .to ≤ s .from = ltb-false _ _ t in
         let none-left : s .to - s .from ≡ 0 = omega arith in
         let l : excluded [] ≡ some xs = rw none-left at e in
-        absurd (let z : _≡_ {A = ℕ} 0 1 = cc in omega arith)
+        absurd (none-some xs l)
 
 pub laid-excluded : (ws : List ℕ) (ix : Sections) → Laid ws ix → ExcludedHere ws (ix .exclusions) (theTable ws .exclusions)
 laid-excluded ws ix l = excluded-here ws (ix .exclusions) _ (laid-fits ws ix l .exclusions) (laid-reads ws ix l .exclusions)

@@ -17,7 +17,7 @@ use Rattle.table.specs.Laid.{within, Fits, Laid, theTable}
 use Rattle.table.proofs.SectionLaws.{laid-reads}
 use Rattle.table.specs.Lookup.{holds}
 use Rattle.table.specs.Part.{RecordsAt, HeadedAt, SequencesAt, GroupsAt, WholesAt, HeadedHere, SequenceHere, GroupHere, confusedAt, WholeHere, inPairs, countedAt}
-use Rattle.table.proofs.Lookups.{pairs-ranges, both, onlyIf-some, inFront-some, andThen-some, drop-next, drop-two, behind}
+use Rattle.table.proofs.Lookups.{none-some, pairs-ranges, both, onlyIf-some, inFront-some, andThen-some, drop-next, drop-two}
 
 -- where the count of a record is in its range
 pub record CountFits (most n : ℕ) (ws : List ℕ) : Type 0 where
@@ -52,8 +52,7 @@ module _ {X : Type 0} (reader : ℕ → List ℕ → Option (List X)) (part : Li
           let i : length part < at + 2 = leb-false _ _ e in
           let j : length part ≤ at + 1 = omega arith in
           let l : reader (w .steps) (getD part at 0 ∷ []) ≡ some xs = rw (drop-next part at h, drop-of-length-le part j) at (w .parses) in
-          let z : _≡_ {A = ℕ} 0 1 = cc (lone (w .steps) (getD part at 0)) in
-          omega arith
+          absurd (none-some xs (sym (lone (w .steps) (getD part at 0)) ∙ l))
 
 module _ (part : List ℕ) (at : ℕ) (xs : List (List ℕ)) where
   pub sequences-end : SequencesAt part at xs → length part ≤ at → xs ≡ []
@@ -69,7 +68,7 @@ module _ (part : List ℕ) (at : ℕ) (xs : List (List ℕ)) where
   sequences-step w h = go (w .steps) (rw (drop-next part at h) at (w .parses))
     where
       go : (k : ℕ) → sequences k (getD part at 0 ∷ drop (at + 1) part) ≡ some xs → SequenceHere part at xs
-      go zero e = absurd (let z : _≡_ {A = ℕ} 0 1 = cc in omega arith)
+      go zero e = absurd (none-some xs e)
       go (suc k) e =
           let n : ℕ = getD part at 0 in
           let ws : List ℕ = drop (at + 1) part in
@@ -108,7 +107,7 @@ module _ (most : ℕ) (part : List ℕ) (at : ℕ) (xs : List Headed) where
       lone (suc k) a = refl
 
       go : at + 2 ≤ length part → (k : ℕ) → headed k most (getD part at 0 ∷ getD part (at + 1) 0 ∷ drop (at + 2) part) ≡ some xs → HeadedHere most part at xs
-      go i zero e = absurd (let z : _≡_ {A = ℕ} 0 1 = cc in omega arith)
+      go i zero e = absurd (none-some xs e)
       go i (suc k) e =
           let n : ℕ = getD part (at + 1) 0 in
           let ws : List ℕ = drop (at + 2) part in
@@ -149,7 +148,7 @@ module _ (part : List ℕ) (at : ℕ) (xs : List Group) where
       lone (suc k) a = refl
 
       go : at + 2 ≤ length part → (k : ℕ) → groups k (getD part at 0 ∷ getD part (at + 1) 0 ∷ drop (at + 2) part) ≡ some xs → GroupHere part at xs
-      go i zero e = absurd (let z : _≡_ {A = ℕ} 0 1 = cc in omega arith)
+      go i zero e = absurd (none-some xs e)
       go i (suc k) e =
           let f : ℕ = getD part at 0 in
           let n : ℕ = getD part (at + 1) 0 in
@@ -185,7 +184,7 @@ tail-here part at t e = go (leb (at + 1) (length part)) refl
         let i : length part < at + 1 = leb-false _ _ f in
         let j : length part ≤ at = omega arith in
         let l : confusedPart [] ≡ some t = rw (drop-of-length-le part j) at e in
-        absurd (let z : _≡_ {A = ℕ} 0 1 = cc in omega arith)
+        absurd (none-some t l)
     go true f =
         let i : at + 1 ≤ length part = leb-true _ _ f in
         let j : at < length part = omega arith in
@@ -211,7 +210,7 @@ module _ (part : List ℕ) (at : ℕ) (xs : List Whole) where
   wholes-step w h = go (w .steps) (rw (drop-next part at h) at (w .parses))
     where
       go : (k : ℕ) → wholes k (getD part at 0 ∷ drop (at + 1) part) ≡ some xs → WholeHere part at xs
-      go zero e = absurd (let z : _≡_ {A = ℕ} 0 1 = cc in omega arith)
+      go zero e = absurd (none-some xs e)
       go (suc k) e =
           let n : ℕ = getD part at 0 in
           let ws : List ℕ = drop (at + 1) part in

@@ -21,7 +21,7 @@ use Rattle.table.specs.Laid.{within, Fits, Laid, theTable}
 use Rattle.table.proofs.SectionLaws.{laid-fits, laid-reads}
 use Rattle.table.specs.Lookup.{itemsOf, wholeOf}
 use Rattle.table.specs.Part.{HeadedAt, WholesAt, HeadedHere, confusedAt, WholeHere, countedAt, headsIn, wholesIn, ItemsFound, WholeFound, HeadedPart, WholesPart}
-use Rattle.table.proofs.Lookups.{onlyIf-some, inFront-some, within-length, behind, within-within, behind-fits}
+use Rattle.table.proofs.Lookups.{none-some, false-true, onlyIf-some, inFront-some, within-length, behind, within-within, behind-fits}
 use Rattle.table.proofs.Records.{count-fits, within-count, records-start, headed-end, headed-step, wholes-end, wholes-step}
 
 -- A search for the record with head c that has come to `at`: the records left are those that the answer hangs on.
@@ -35,7 +35,7 @@ unfolding headsIn
 head-start part c h = go (headed (length part) mostItems part) refl h
   where
     go : (o : Option (List Headed)) → headed (length part) mostItems part ≡ o → isSome o ≡ true → HeadWalk part c 0
-    go none e i = absurd (let z : _≡_ {A = ℕ} 0 1 = cc in omega arith)
+    go none e i = absurd (false-true i)
     go (some rs) e i = record { left = rs; walk = records-start (λ k. headed k mostItems) part rs e; same = rw e }
 
 -- the first record answers where its head is c, and the rest where it is not
@@ -88,7 +88,7 @@ unfolding wholesIn
 whole-start part c h = go (wholes (length part) part) refl h
   where
     go : (o : Option (List Whole)) → wholes (length part) part ≡ o → isSome o ≡ true → WholeWalk part c 0
-    go none e i = absurd (let z : _≡_ {A = ℕ} 0 1 = cc in omega arith)
+    go none e i = absurd (false-true i)
     go (some xs) e i = record { left = xs; walk = records-start wholes part xs e; same = rw e }
 
 -- the first whole answers where its confused list has c, and the rest where it has not
@@ -209,15 +209,15 @@ no-items : (rs : List Headed) (c : ℕ) (xs : List ℕ) → rs ≡ [] → itemsO
 unfolding itemsOf
 no-items rs c xs e i most =
     let j : none ≡ some xs = rw e at i in
-    absurd (let z : _≡_ {A = ℕ} 0 1 = cc in omega arith)
+    absurd (none-some xs j)
 
 -- the items that a lookup finds are no more than a record may have
 pub items-few : (k most : ℕ) (ws : List ℕ) (rs : List Headed) (c : ℕ) (xs : List ℕ) → headed k most ws ≡ some rs → itemsOf rs c ≡ some xs → length xs ≤ most
 unfolding headed
 items-few zero most [] rs c xs e i = no-items rs c xs (cc) i most
-items-few zero most (w ∷ ws) rs c xs e i = absurd (let z : _≡_ {A = ℕ} 0 1 = cc in omega arith)
+items-few zero most (w ∷ ws) rs c xs e i = absurd (none-some rs e)
 items-few (suc k) most [] rs c xs e i = no-items rs c xs (cc) i most
-items-few (suc k) most (a ∷ []) rs c xs e i = absurd (let z : _≡_ {A = ℕ} 0 1 = cc in omega arith)
+items-few (suc k) most (a ∷ []) rs c xs e i = absurd (none-some rs e)
 items-few (suc k) most (a ∷ n ∷ ws) rs c xs e i =
     let r : Headed = record { head = a; items = take n ws } in
     let p = onlyIf-some (countFits most n ws) (inFront r (headed k most (drop n ws))) rs e in
