@@ -23,6 +23,9 @@ struct wanlopheng_unpack {
 /* Unpacks a table file. After success the answer holds the file's words and then zeros, after a refusal zeros alone. */
 struct wanlopheng_unpack wanlopheng_unpack(const uint8_t *file, size_t file_length, uint32_t *answer, size_t answer_length);
 
+/* 1 where the words of a table have a layout fault, 0 where they hold a table. */
+uint32_t wanlopheng_layout_fault(const uint32_t *words, size_t words_length);
+
 #ifdef __cplusplus
 }
 #endif

@@ -1,10 +1,13 @@
 -- What the exported calls promise: the definitions of the calls, with every answer as plain numbers. Assumes nothing.
 use Prim.Native.Nat.{ℕ}
 use mathlib.Core.Path.{_≡_}
+use mathlib.Core.Bool.{cond}
 use mathlib.Core.List.{List}
 use lib.ListN.{length}
+use Rattle.lists.specs.Lists.{isSome}
 use Rattle.answers.specs.Values.{UnpackValues}
 use Rattle.unpack.specs.Unpack.{unpackCall}
+use Rattle.table.specs.Layout.{parse}
 use Rattle.boundary.specs.declared.WanlophengUnpack.{WanlophengUnpack}
 
 -- the values that the fields stand for
@@ -15,3 +18,8 @@ unpackFields r = record { number = r .number; count = r .count }
 pub record UnpackCrosses (file before after : List ℕ) (r : WanlophengUnpack) : Type 0 where
   pub values : unpackFields r ≡ unpackCall file (length before) .values
   pub answer : after ≡ unpackCall file (length before) .answer
+
+-- 1 where the words have a layout fault, 0 where they hold a table
+unfoldable pub layoutFault : List ℕ → ℕ
+unfolding parse
+layoutFault ws = cond (isSome (parse ws)) 0 1

@@ -1,9 +1,10 @@
 // The calls for C and Rust, each with the promise of the call that it hands on. include/wanlopheng.h declares them.
 // A slice crosses as a pointer and a number of elements, an answer as a struct of plain numbers.
 use answers::Unpacked;
+use table::Layout;
 ghost use mathlib.Core.Path.{_≡_};
 ghost use Rattle.answers.specs.Values.{unpackValues};
-ghost use Rattle.boundary.specs.Crossing.{unpackFields, UnpackCrosses};
+ghost use Rattle.boundary.specs.Crossing.{unpackFields, UnpackCrosses, layoutFault};
 
 // The refusal number, 0 where the file is unpacked, and the number of words.
 #[repr(C)]
@@ -39,4 +40,16 @@ pub extern "C" fn wanlopheng_unpack(file: &[u8], answer: &mut [u32]) -> Wanlophe
 {
     let found = unpack::unpack(file, answer);
     unpack_fields(found)
+}
+
+// Whether the words of a table have a layout fault: 1 where they do, 0 where they hold a table.
+#[no_mangle]
+pub extern "C" fn wanlopheng_layout_fault(words: &[u32]) -> u32
+    ensures { λ r. ⌜ r ≡ layoutFault (now (words .entry)) ⌝ }
+{
+    let found = table::laid::layout(words);
+    match found {
+        Layout::Fault => 1,
+        Layout::Found(_) => 0,
+    }
 }

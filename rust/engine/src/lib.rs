@@ -24,3 +24,10 @@ pub fn unpack(file: &[u8], answer: &mut [u32]) -> Unpacked {
         count: r.count,
     }
 }
+
+/// Whether the words of a table have a layout fault.
+pub fn layout_fault(words: &[u32]) -> bool {
+    // SAFETY: the slice is lent for the call, with its length.
+    let fault = unsafe { raw::wanlopheng_layout_fault(words.as_ptr(), words.len()) };
+    fault != 0
+}

@@ -13,4 +13,6 @@ extern "C" {
         answer: *mut u32,
         answer_length: usize,
     ) -> WanlophengUnpack;
+
+    pub fn wanlopheng_layout_fault(words: *const u32, words_length: usize) -> u32;
 }

@@ -15,5 +15,8 @@ int main(void) {
     if (answer[0] != 0 || answer[1] != 9) return 4;
     if (differs(wanlopheng_unpack(file, 0, answer, 2), 21, 0)) return 5;
     if (answer[0] != 0 || answer[1] != 0) return 6;
+    const uint32_t table[] = {0, 0, 0, 0, 0, 0, 0, 0, 1, 0, 0, 0, 0};
+    if (wanlopheng_layout_fault(table, 13) != 0) return 7;
+    if (wanlopheng_layout_fault(table, 12) != 1) return 8;
     return 0;
 }

@@ -1,0 +1,25 @@
+-- `wanlopheng_layout_fault`: each arm tells what the layout pass answered. Assumes nothing.
+use mathlib.Core.Path.{sym, _∙_}
+use Rattle.boundary.proofs.Told.{fault-told, found-told}
+use borrow.Author.Needs.{needs}
+use Rattle.boundary.proofs.wanlopheng_layout_fault.Statement.{statement}
+use Rattle.boundary.proofs.wanlopheng_layout_fault.Tie as tie
+
+layout-requires : tie.Need-layout-requires
+layout-requires c κs = search needs
+
+enum-told : tie.Need-enum-told
+enum-told c = search needs
+
+enum-told-2 : tie.Need-enum-told-2
+enum-told-2 c = search needs
+
+returns : tie.Need-returns
+returns c = fault-told _ (sym (c .before .before .layout .ensures) ∙ c .enum-told .given .1)
+
+returns-2 : tie.Need-returns-2
+returns-2 c = found-told _ _ (sym (c .before .before .layout .ensures) ∙ c .enum-told2 .given .1)
+
+pub wanlopheng-layout-fault-spec : {M : Type 1} → statement M
+wanlopheng-layout-fault-spec =
+    tie.close (tie.spec layout-requires enum-told enum-told-2 returns returns-2)
