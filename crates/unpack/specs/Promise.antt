@@ -14,12 +14,12 @@ pub record Unpacks (file before after : List ℕ) (r : Unpacked) : Type 0 where
   pub values : unpackValues r ≡ unpackCall file (length before) .values
   pub answer : after ≡ unpackCall file (length before) .answer
 
--- What r says of a file that has n words behind its version and count.
+-- A file whose version and length are right, with n words behind them.
 pub record Holds (file : List ℕ) (n : ℕ) : Type 0 where
   pub words : fileWords file ≡ accepted (wordsOf (drop 5 file))
   pub long : length file ≡ 5 + 4 * n
 
--- What is said of a file before the room for its words is looked at.
+-- What an answer says of a file before the room for its words is looked at: here there is no refusal 22.
 abbrev pub Inspected : List ℕ → Unpacked → Type 0
 Inspected file (Words n) = Holds file n
 Inspected file WrongVersion = fileWords file ≡ refused 20 0
