@@ -1,7 +1,6 @@
 // The name table: its layout, and lookups in it.
-pub mod lookup;
-
 pub mod laid;
+pub mod lookup;
 
 // A section or a part of one: the words from `from` up to, not including, `to`.
 pub struct Span {
