@@ -3,3 +3,6 @@ pub mod Hangul
 pub mod Decomposition
 pub mod Ordering
 pub mod Composition
+pub mod Sorting
+pub mod Rounds
+pub mod Work

@@ -1,1 +1,6 @@
 // Unicode text: Hangul, combining classes, decomposition, canonical ordering and composition.
+pub mod class;
+pub mod compose;
+pub mod decompose;
+pub mod hangul;
+pub mod order;

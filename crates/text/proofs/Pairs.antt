@@ -1,0 +1,129 @@
+-- Laws of finding a composition pair among the records of a section. Assumes nothing.
+use Prim.Native.Nat.{ℕ, suc, _+_, _-_, _≤_, _<_}
+use native.Mathlib.Omega.{arith}
+use mathlib.Core.Path.{_≡_, refl, sym, ap, _∙_}
+use mathlib.Core.Bool.{Bool, true, false, not, _&&_, cond}
+use mathlib.Core.List.{List, [], _∷_}
+use mathlib.Core.Option.{Option, none, some, Option·map}
+use lib.ListN.{length, getD, take, drop, length-take, length-drop}
+use lib.Dec.{eqb}
+use borrow.Author.Tests.{eq-eqb, ne-eqb}
+use Rattle.lists.specs.Lists.{firstWith, keep, mem, sameList}
+use Rattle.table.specs.Table.{Table, Headed}
+use Rattle.table.specs.Layout.{mostParts}
+use Rattle.table.specs.Laid.{Laid, theTable, within}
+use Rattle.table.specs.Part.{HeadedAt, HeadedHere}
+use Rattle.table.proofs.Lookups.{drop-two}
+use Rattle.table.proofs.Records.{records-start, headed-step, headed-end}
+use Rattle.table.proofs.SectionLaws.{laid-reads}
+use Rattle.table.specs.declared.Sections.{Sections}
+use Rattle.text.specs.Decomposition.{classOf}
+use Rattle.text.specs.Composition.{isTwo, isPair, pairs, tablePair}
+use Rattle.text.specs.Work.{mayCompose, headedAt, isPairOf, pairAt}
+
+and-true : (b : Bool) → (b && true) ≡ b
+and-true true = refl
+and-true false = refl
+
+and-false : (b : Bool) → (b && false) ≡ false
+and-false true = refl
+and-false false = refl
+
+two-length : (xs : List ℕ) → isTwo xs ≡ true → length xs ≡ 2
+two-length [] e = absurd (let z : _≡_ {A = ℕ} 0 1 = cc in omega arith)
+two-length (a ∷ []) e = absurd (let z : _≡_ {A = ℕ} 0 1 = cc in omega arith)
+two-length (a ∷ b ∷ []) e = refl
+two-length (a ∷ b ∷ c ∷ r) e = absurd (let z : _≡_ {A = ℕ} 0 1 = cc in omega arith)
+
+not-two : (xs : List ℕ) → (length xs ≡ 2 → ⊥) → isTwo xs ≡ false
+not-two xs n = go (isTwo xs) refl
+  where
+    go : (b : Bool) → isTwo xs ≡ b → b ≡ false
+    go true e = absurd (n (two-length xs e))
+    go false e = refl
+
+-- the test of the record at a place, by what the code asks in turn
+module _ (t : Table) (part : List ℕ) (at a b : ℕ) (fits : at + 2 + getD part (at + 1) 0 ≤ length part) where
+  n : ℕ
+  n = getD part (at + 1) 0
+
+  pub count-differs : (getD part (at + 1) 0 ≡ 2 → ⊥) → false ≡ pairAt t part at a b
+  unfolding pairAt
+  count-differs h =
+      let l : length (take (getD part (at + 1) 0) (drop (at + 2) part)) ≡ getD part (at + 1) 0 = simp (length-take, length-drop) (omega arith) in
+      rw (not-two (take (getD part (at + 1) 0) (drop (at + 2) part)) (λ e. h (sym l ∙ e)))
+
+  items-are : getD part (at + 1) 0 ≡ 2 → take (getD part (at + 1) 0) (drop (at + 2) part) ≡ getD part (at + 2) 0 ∷ getD part (at + 3) 0 ∷ []
+  items-are e =
+      let three : at + 2 + 1 ≡ at + 3 = omega arith in
+      rw (e, drop-two part (at + 2) (omega arith), three)
+
+  pair-is : getD part (at + 1) 0 ≡ 2
+      → pairAt t part at a b ≡ (mayCompose t (getD part at 0) (getD part (at + 2) 0) && (eqb (getD part (at + 2) 0) a && (eqb (getD part (at + 3) 0) b && true)))
+  unfolding pairAt
+  pair-is e = rw (items-are e)
+
+  pub first-differs : getD part (at + 1) 0 ≡ 2 → (getD part (at + 2) 0 ≡ a → ⊥) → false ≡ pairAt t part at a b
+  first-differs e h = sym (pair-is e ∙ rw (ne-eqb (getD part (at + 2) 0) a h) (and-false (mayCompose t (getD part at 0) (getD part (at + 2) 0))))
+
+  pub second-differs : getD part (at + 1) 0 ≡ 2 → getD part (at + 2) 0 ≡ a → (getD part (at + 3) 0 ≡ b → ⊥) → false ≡ pairAt t part at a b
+  second-differs e f h =
+      sym
+      (pair-is e
+      ∙ rw (eq-eqb (getD part (at + 2) 0) a f, ne-eqb (getD part (at + 3) 0) b h) (and-false (mayCompose t (getD part at 0) (getD part (at + 2) 0))))
+
+  pub items-agree : getD part (at + 1) 0 ≡ 2 → getD part (at + 2) 0 ≡ a → getD part (at + 3) 0 ≡ b → mayCompose t (getD part at 0) a ≡ pairAt t part at a b
+  items-agree e f g =
+      sym
+      (pair-is e
+      ∙ rw (eq-eqb (getD part (at + 2) 0) a f, eq-eqb (getD part (at + 3) 0) b g, f) (and-true (mayCompose t (getD part at 0) a)))
+
+-- the first of those that pass one test to pass another is the first to pass both
+first-keep : (p q : Headed → Bool) (rs : List Headed) → firstWith p (keep q rs) ≡ firstWith (λ r. q r && p r) rs
+first-keep p q [] = refl
+first-keep p q (r ∷ rs) = go (q r) (first-keep p q rs)
+  where
+    go : (b : Bool) → firstWith p (keep q rs) ≡ firstWith (λ r. q r && p r) rs
+        → firstWith p (cond b (r ∷ keep q rs) (keep q rs)) ≡ cond (b && p r) (some r) (firstWith (λ r. q r && p r) rs)
+    go true h = rw h
+    go false h = h
+
+-- what the walk over the records keeps: the pair is among those that are left
+pub record PairWalk (t : Table) (part : List ℕ) (a b at : ℕ) : Type 0 where
+  pub left : List Headed
+  pub walk : HeadedAt mostParts part at left
+  pub so : tablePair t a b ≡ Option·map (λ (r : Headed). r .head) (firstWith (isPairOf t a b) left)
+
+pub pair-start : (ws : List ℕ) (ix : Sections) (part : List ℕ) (a b : ℕ) → Laid ws ix → part ≡ within (ix .decompositions) ws → PairWalk (theTable ws) part a b 0
+unfolding tablePair
+pair-start ws ix part a b laid e =
+    let t : Table = theTable ws in
+    record {
+      left = t .decompositions;
+      walk = rw e (records-start (λ k. Rattle.table.specs.Layout.headed k mostParts) (within (ix .decompositions) ws) (t .decompositions) (laid-reads ws ix laid .decompositions));
+      so = ap (Option·map (λ (r : Headed). r .head)) (first-keep (λ (r : Headed). sameList (r .items) (a ∷ b ∷ [])) (isPair t) (t .decompositions));
+    }
+
+module _ (t : Table) (part : List ℕ) (a b at : ℕ) (w : PairWalk t part a b at) where
+  pub pair-stop : length part ≤ at → none ≡ tablePair t a b
+  pair-stop h = sym (w .so ∙ rw (headed-end mostParts part at (w .left) (w .walk) h))
+
+  module _ (more : at < length part) where
+    here : HeadedHere mostParts part at (w .left)
+    here = headed-step mostParts part at (w .left) (w .walk) more
+
+    pub pair-fits : at + 2 + getD part (at + 1) 0 ≤ length part
+    pair-fits = here .fits
+
+    first-is : here .first ≡ headedAt part at
+    first-is = λ i. record { head = here .head i; items = here .items i }
+
+    found : firstWith (isPairOf t a b) (w .left) ≡ cond (pairAt t part at a b) (some (headedAt part at)) (firstWith (isPairOf t a b) (here .rest))
+    unfolding pairAt
+    found = ap (firstWith (isPairOf t a b)) (here .split) ∙ ap (λ (r : Headed). cond (isPairOf t a b r) (some r) (firstWith (isPairOf t a b) (here .rest))) first-is
+
+    pub pair-hit : pairAt t part at a b ≡ true → some (getD part at 0) ≡ tablePair t a b
+    pair-hit e = sym (w .so ∙ rw (found, e))
+
+    pub pair-on : pairAt t part at a b ≡ false → PairWalk t part a b (at + 2 + getD part (at + 1) 0)
+    pair-on e = record { left = here .rest; walk = here .next; so = w .so ∙ rw (found, e) }

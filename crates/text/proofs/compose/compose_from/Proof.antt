@@ -1,0 +1,150 @@
+-- `compose::compose_from` meets its contract, by what the loop keeps. Assumes nothing.
+use Prim.Native.Nat.{_<_, _+_, _-_}
+use mathlib.Core.Path.{_≡_, sym, ap, _∙_}
+use mathlib.Core.Option.{some, none}
+use native.Mathlib.Omega.{arith}
+use borrow.Author.Needs.{needs}
+use denote.Ref.{now}
+use lib.ListN.{length}
+use Rattle.table.specs.Laid.{theTable}
+use Rattle.text.specs.Work.{composedTo}
+use Rattle.text.proofs.Composing.{Composing, composing-start, asked, taken, next-starter, mark-stays, composing-stop}
+use Rattle.text.proofs.compose.compose_from.Statement.{statement}
+use Rattle.text.proofs.compose.compose_from.Tie as tie
+
+abbrev Inv-loop : tie.InvT-loop
+Inv-loop words ix text₀ classes first start₀ put₀ i₀ last₀ text start put i last = Composing (theTable words) text₀ classes text start put i last
+
+abbrev μ-loop : tie.MeasureT-loop
+μ-loop words ix text₀ classes first start₀ put₀ i₀ last₀ text start put i last = length text₀ - i
+
+add-put : tie.Need-add-put Inv-loop μ-loop
+add-put c = omega arith
+
+add-i : tie.Need-add-i Inv-loop μ-loop
+add-i c = omega arith
+
+loop-holds : tie.Need-loop-holds Inv-loop μ-loop
+loop-holds c =
+    let s = c .before .before .before in
+    composing-start (theTable (now (s .args .words))) (now (s .args .text)) (now (s .args .classes)) (s .args .first) (s .pre .1 .0 .classes) (s .pre .1 .0 .ordered) (s .pre .1 .1 .0) (s .pre .1 .1 .1)
+
+mul-c : tie.Need-mul-c Inv-loop μ-loop
+mul-c c = omega arith
+
+slice-read-c : tie.Need-slice-read-c Inv-loop μ-loop
+slice-read-c c = omega arith
+
+mul-class : tie.Need-mul-class Inv-loop μ-loop
+mul-class c = omega arith
+
+shared-slice-read-class : tie.Need-shared-slice-read-class Inv-loop μ-loop
+shared-slice-read-class c = omega arith
+
+mul-s : tie.Need-mul-s Inv-loop μ-loop
+mul-s c = omega arith
+
+slice-read-s : tie.Need-slice-read-s Inv-loop μ-loop
+slice-read-s c = omega arith
+
+add-i-2 : tie.Need-add-i-2 Inv-loop μ-loop
+add-i-2 c = omega arith
+
+taken-up-requires : tie.Need-taken-up-requires Inv-loop μ-loop
+taken-up-requires c κs = c .before .before .before .before .before .before .before .before .pre .0
+
+enum-known-h : tie.Need-enum-known-h Inv-loop μ-loop
+enum-known-h c = search needs
+
+mul-text : tie.Need-mul-text Inv-loop μ-loop
+mul-text c = omega arith
+
+slice-write-text : tie.Need-slice-write-text Inv-loop μ-loop
+slice-write-text c = omega arith
+
+loop-less : tie.Need-loop-less Inv-loop μ-loop
+loop-less c = omega arith
+
+loop-again : tie.Need-loop-again Inv-loop μ-loop
+loop-again c =
+    let l = c .before .before .before .before .before .before .before .before in
+    let a = l .before .before .before .before .args in
+    let p = c .before .before .before in
+    let more : l .loop .i < length (now (a .text)) = omega arith in
+    taken (theTable (now (a .words))) (now (a .text)) (now (a .classes)) (l .loop .text) (l .loop .start) (l .loop .put) (l .loop .i) (l .loop .last) (l .loop .inv) more (c .before .h .given .0 .0) (sym (p .taken-up .ensures) ∙ ap composedTo (c .before .h .given .1))
+
+enum-told : tie.Need-enum-told Inv-loop μ-loop
+enum-told c = search needs
+
+mul-text-2 : tie.Need-mul-text-2 Inv-loop μ-loop
+mul-text-2 c = omega arith
+
+slice-write-text-2 : tie.Need-slice-write-text-2 Inv-loop μ-loop
+slice-write-text-2 c = omega arith
+
+add-put-2 : tie.Need-add-put-2 Inv-loop μ-loop
+add-put-2 c = omega arith
+
+loop-less-2 : tie.Need-loop-less-2 Inv-loop μ-loop
+loop-less-2 c = omega arith
+
+loop-again-2 : tie.Need-loop-again-2 Inv-loop μ-loop
+loop-again-2 c =
+    let l = c .before .before .before .before .before .before .before .before in
+    let a = l .before .before .before .before .args in
+    let p = c .before .before .before in
+    let more : l .loop .i < length (now (a .text)) = omega arith in
+    next-starter (theTable (now (a .words))) (now (a .text)) (now (a .classes)) (l .loop .text) (l .loop .start) (l .loop .put) (l .loop .i) (l .loop .last) (l .loop .inv) more (sym (p .taken-up .ensures) ∙ ap composedTo (c .before .enum-told .given .1)) (c .if1 .taken)
+
+loop-less-3 : tie.Need-loop-less-3 Inv-loop μ-loop
+loop-less-3 c = omega arith
+
+loop-again-3 : tie.Need-loop-again-3 Inv-loop μ-loop
+loop-again-3 c =
+    let l = c .before .before .before .before .before .before .before .before in
+    let a = l .before .before .before .before .args in
+    let p = c .before .before .before in
+    let more : l .loop .i < length (now (a .text)) = omega arith in
+    mark-stays (theTable (now (a .words))) (now (a .text)) (now (a .classes)) (l .loop .text) (l .loop .start) (l .loop .put) (l .loop .i) (l .loop .last) (l .loop .inv) more (sym (p .taken-up .ensures) ∙ ap composedTo (c .before .enum-told .given .1)) (c .if1 .left)
+
+same-length : tie.Need-same-length Inv-loop μ-loop
+same-length c = omega arith
+
+returns : tie.Need-returns Inv-loop μ-loop
+returns c =
+    let l = c .before in
+    let a = l .before .before .before .before .args in
+    composing-stop (theTable (now (a .words))) (now (a .text)) (now (a .classes)) (l .loop .text) (l .loop .start) (l .loop .put) (l .loop .i) (l .loop .last) (l .loop .inv) (omega arith)
+
+pub compose-from-spec : {M : Type 1} → statement M
+compose-from-spec =
+    tie.close
+    (tie.spec
+    Inv-loop
+    μ-loop
+    add-put
+    add-i
+    loop-holds
+    mul-c
+    slice-read-c
+    mul-class
+    shared-slice-read-class
+    mul-s
+    slice-read-s
+    add-i-2
+    taken-up-requires
+    enum-known-h
+    mul-text
+    slice-write-text
+    loop-less
+    loop-again
+    enum-told
+    mul-text-2
+    slice-write-text-2
+    add-put-2
+    loop-less-2
+    loop-again-2
+    loop-less-3
+    loop-again-3
+    same-length
+    returns)

@@ -1,0 +1,24 @@
+-- `compose::taken_up` meets its contract. Assumes nothing.
+use borrow.Author.Tests.{eq-eqb, ne-eqb, lt-ltb, le-ltb}
+use borrow.Author.Needs.{needs}
+use Rattle.text.proofs.compose.taken_up.Statement.{statement}
+use Rattle.text.proofs.compose.taken_up.Tie as tie
+
+pair-of-requires : tie.Need-pair-of-requires
+pair-of-requires c κs = search needs
+
+returns : tie.Need-returns
+returns c = let a = c .before .before .before .args in rw (eq-eqb (a .last) 0 (c .before .if1 .taken)) (c .pair-of .ensures)
+
+pair-of-requires-2 : tie.Need-pair-of-requires-2
+pair-of-requires-2 c κs = search needs
+
+returns-2 : tie.Need-returns-2
+returns-2 c = let a = c .before .before .before .before .args in rw (ne-eqb (a .last) 0 (c .before .before .if1 .left), lt-ltb (a .last) (a .class) (c .before .if2 .taken)) (c .pair-of2 .ensures)
+
+returns-3 : tie.Need-returns-3
+returns-3 c = let a = c .before .before .before .args in rw (ne-eqb (a .last) 0 (c .before .if1 .left), le-ltb (a .last) (a .class) (c .if2 .left))
+
+pub taken-up-spec : {M : Type 1} → statement M
+taken-up-spec =
+    tie.close (tie.spec pair-of-requires returns pair-of-requires-2 returns-2 returns-3)

@@ -1,0 +1,20 @@
+// Combining classes.
+use crate::hangul;
+use table::Sections;
+ghost use mathlib.Core.Path.{_≡_};
+ghost use Rattle.table.specs.Laid.{Laid, theTable};
+ghost use Rattle.text.specs.Work.{ClassOf};
+
+// The combining class of c: 0 for syllables and jamo, before any entry of the table.
+pub fn class_of(words: &[u32], ix: Sections, c: u32) -> u32
+    requires { ⌜ Laid (now words) ix ⌝ }
+    ensures { λ r. ⌜ ClassOf (theTable (now (words .entry))) c r ⌝ }
+{
+    if hangul::is_syllable(c) {
+        return 0;
+    }
+    if hangul::is_jamo(c) {
+        return 0;
+    }
+    table::lookup::class_entry(words, ix, c)
+}
