@@ -1,2 +1,3 @@
 pub mod SmallTable
 pub mod Starred
+pub mod Differences
