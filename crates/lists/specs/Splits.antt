@@ -8,6 +8,7 @@ use lib.ListN.{length, length-append}
 use lib.Dec.{eqb, eqb-refl, T}
 use borrow.Author.Tests.{eq-eqb}
 use Rattle.lists.specs.Lists.{ontoFirst, split, joinWith}
+use Rattle.lists.specs.Laws.{Every, every-append}
 
 -- there is at least one part
 pub split-some : (d : ℕ) (s : List ℕ) → 1 ≤ length (split d s)
@@ -44,3 +45,29 @@ joinWith-append d (l ∷ []) (m ∷ ms) h k = refl
 joinWith-append d (l ∷ l′ ∷ ls) ms h k =
     ap (λ (s : List ℕ). l ++ d ∷ s) (joinWith-append d (l′ ∷ ls) ms (omega arith) k)
     ∙ sym (append-assoc l (d ∷ joinWith d (l′ ∷ ls)) (d ∷ joinWith d ms))
+
+-- a text that holds no stop is one part
+pub split-whole : (d : ℕ) (s : List ℕ) → Every (λ c. eqb c d ≡ false) s → split d s ≡ s ∷ []
+unfolding split
+split-whole d [] h = refl
+split-whole d (c ∷ s) h = rw (h .0, split-whole d s (h .1))
+
+-- joined parts that hold no stop are found again
+pub split-joinWith : (d : ℕ) (l : List ℕ) (ls : List (List ℕ)) → Every (λ s. Every (λ c. eqb c d ≡ false) s) (l ∷ ls) → split d (joinWith d (l ∷ ls)) ≡ l ∷ ls
+unfolding joinWith
+split-joinWith d l [] h = split-whole d l (h .0)
+split-joinWith d l (m ∷ ms) h =
+    split-joined d l (joinWith d (m ∷ ms)) ∙ rw (split-whole d l (h .0), split-joinWith d m ms (h .1)) refl
+
+-- what holds of the stop and of every part holds of the joined text
+pub every-joinWith : (P : ℕ → Type 0) (d : ℕ) → P d → (ls : List (List ℕ)) → Every (λ s. Every P s) ls → Every P (joinWith d ls)
+unfolding joinWith
+every-joinWith P d k [] h = tt
+every-joinWith P d k (l ∷ []) h = h .0
+every-joinWith P d k (l ∷ m ∷ ms) h = every-append P l (d ∷ joinWith d (m ∷ ms)) (h .0) (k, every-joinWith P d k (m ∷ ms) (h .1))
+
+-- joined parts are not empty where the first is not
+pub joinWith-some : (d : ℕ) (l : List ℕ) (ls : List (List ℕ)) → 1 ≤ length l → 1 ≤ length (joinWith d (l ∷ ls))
+unfolding joinWith
+joinWith-some d l [] h = h
+joinWith-some d l (m ∷ ms) h = simp length-append (omega arith)

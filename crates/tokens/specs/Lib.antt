@@ -1,3 +1,5 @@
 pub mod Emoji
+pub mod Matching
+pub mod Finding
 pub mod Scan
 pub mod Tokens

@@ -1,0 +1,9 @@
+pub mod Rules
+pub mod Sequences
+pub mod Rendering
+pub mod Formed
+pub mod ValidText
+pub mod Lengths
+pub mod Labels
+pub mod Names
+pub mod Idempotence
