@@ -1,6 +1,5 @@
 -- Tests that hold together, and those that one of two makes hold. Assumes nothing.
-use Prim.Native.Nat.{ℕ, _≤_, _<_}
-use mathlib.Core.Path.{_≡_, refl, sym}
+use mathlib.Core.Path.{_≡_, refl}
 use mathlib.Core.Bool.{Bool, true, false, _&&_, _||_, false≢true}
 
 pub both : (a b : Bool) → a ≡ true → b ≡ true → (a && b) ≡ true

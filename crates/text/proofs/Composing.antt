@@ -1,16 +1,16 @@
 -- Laws of composition in place. Assumes nothing.
-use Prim.Native.Nat.{ℕ, zero, suc, _+_, _-_, _≤_, _<_}
+use Prim.Native.Nat.{ℕ, zero, suc, _+_, _≤_, _<_}
 use native.Mathlib.Numerals.{add-one}
 use native.Mathlib.Omega.{arith}
 use mathlib.Core.Path.{_≡_, refl, sym, ap, _∙_}
 use mathlib.Core.Bool.{Bool, true, false, _&&_, _||_, cond}
 use mathlib.Core.List.{List, [], _∷_, _++_, map, append-assoc, append-nil}
 use mathlib.Core.Option.{Option, none, some}
-use lib.ListN.{length, getD, take, drop, set, length-append, length-set, drop-of-length-le, List·getD-map, length-map}
-use lib.Seq.{drop-cons, append-snoc, set-append-seam, set-at, take-at, drop-at, getD-at, take-suc, split-at, length-take-le, take-length, drop-length}
+use lib.ListN.{length, getD, take, drop, set, length-append, length-set, drop-of-length-le, length-map}
+use lib.Seq.{drop-cons, append-snoc, set-at, take-at, getD-at, split-at, length-take-le, take-length, drop-length}
 use lib.Dec.{leb, ltb, eqb}
-use borrow.Author.Tests.{eq-eqb, ne-eqb, eqb-true, lt-ltb, le-ltb, ltb-true, ltb-false, leb-true, le-leb}
-use Rattle.lists.specs.Lists.{all, onSome}
+use borrow.Author.Tests.{eq-eqb, ne-eqb, eqb-true, lt-ltb, ltb-true, leb-true, le-leb}
+use Rattle.lists.specs.Lists.{all}
 use Rattle.table.specs.Table.{Table}
 use Rattle.text.specs.declared.compose.Composed.{Composed}
 use Rattle.text.specs.declared.compose.Composed.the-variants.{To, Nothing}
@@ -19,7 +19,7 @@ use Rattle.text.specs.Decomposition.{classOf}
 use Rattle.text.specs.Composition.{tablePair, pair, composed, composeAfter, compose}
 use Rattle.text.specs.Sorting.{inOrder}
 use Rattle.text.specs.Work.{composedTo, free, leading, ComposedInto}
-use Rattle.text.proofs.Bools.{both, and-left, and-right, or-right, or-left}
+use Rattle.text.proofs.Bools.{both, and-left, and-right}
 
 -- one codepoint behind a starter and its marks: taken up, the next starter, or one more mark
 module _ (t : Table) (s : ℕ) (ms : List ℕ) (c : ℕ) (r : List ℕ) where

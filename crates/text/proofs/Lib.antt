@@ -5,3 +5,4 @@ pub mod Sorting
 pub mod Rounds
 pub mod Pairs
 pub mod Composing
+pub mod Texts

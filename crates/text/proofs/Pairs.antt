@@ -1,10 +1,10 @@
 -- Laws of finding a composition pair among the records of a section. Assumes nothing.
-use Prim.Native.Nat.{ℕ, suc, _+_, _-_, _≤_, _<_}
+use Prim.Native.Nat.{ℕ, _+_, _≤_, _<_}
 use native.Mathlib.Omega.{arith}
 use mathlib.Core.Path.{_≡_, refl, sym, ap, _∙_}
-use mathlib.Core.Bool.{Bool, true, false, not, _&&_, cond}
+use mathlib.Core.Bool.{Bool, true, false, _&&_, cond}
 use mathlib.Core.List.{List, [], _∷_}
-use mathlib.Core.Option.{Option, none, some, Option·map}
+use mathlib.Core.Option.{none, some, Option·map}
 use lib.ListN.{length, getD, take, drop, length-take, length-drop}
 use lib.Dec.{eqb}
 use borrow.Author.Tests.{eq-eqb, ne-eqb}
@@ -18,7 +18,7 @@ use Rattle.table.proofs.Records.{records-start, headed-step, headed-end}
 use Rattle.table.proofs.SectionLaws.{laid-reads}
 use Rattle.table.specs.declared.Sections.{Sections}
 use Rattle.text.specs.Decomposition.{classOf}
-use Rattle.text.specs.Composition.{isTwo, isPair, pairs, tablePair}
+use Rattle.text.specs.Composition.{isTwo, isPair, tablePair}
 use Rattle.text.specs.Work.{mayCompose, headedAt, isPairOf, pairAt}
 
 and-true : (b : Bool) → (b && true) ≡ b
@@ -28,6 +28,18 @@ and-true false = refl
 and-false : (b : Bool) → (b && false) ≡ false
 and-false true = refl
 and-false false = refl
+
+-- what is asked of a head and a first item, in turn
+module _ (t : Table) (head a : ℕ) where
+  pub may-excluded : (x : Bool) → x ≡ mem head (t .exclusions) → x ≡ true → false ≡ mayCompose t head a
+  may-excluded x e q = rw (← e, q)
+
+  module _ (x : Bool) (e : x ≡ mem head (t .exclusions)) (n : x ≡ false) (k : ℕ) (ke : k ≡ classOf t head) where
+    pub may-head : (k ≡ 0 → ⊥) → false ≡ mayCompose t head a
+    may-head z = rw (← e, n, ← ke, ne-eqb k 0 z)
+
+    pub may-first : (j : ℕ) → k ≡ 0 → j ≡ classOf t a → eqb j 0 ≡ mayCompose t head a
+    may-first j z je = rw (← e, n, ← ke, eq-eqb k 0 z, ← je)
 
 two-length : (xs : List ℕ) → isTwo xs ≡ true → length xs ≡ 2
 two-length [] e = absurd (let z : _≡_ {A = ℕ} 0 1 = cc in omega arith)
@@ -44,9 +56,6 @@ not-two xs n = go (isTwo xs) refl
 
 -- the test of the record at a place, by what the code asks in turn
 module _ (t : Table) (part : List ℕ) (at a b : ℕ) (fits : at + 2 + getD part (at + 1) 0 ≤ length part) where
-  n : ℕ
-  n = getD part (at + 1) 0
-
   pub count-differs : (getD part (at + 1) 0 ≡ 2 → ⊥) → false ≡ pairAt t part at a b
   unfolding pairAt
   count-differs h =

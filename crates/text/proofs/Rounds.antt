@@ -1,19 +1,19 @@
 -- Laws of rounds of single replacement, and of writing a text into a list piece by piece. Assumes nothing.
 use Prim.Native.Nat.{ℕ, zero, suc, _+_, _*_, _-_, _≤_, _<_}
 use native.Mathlib.Numerals.{add-one}
-use native.Mathlib.Nat.{add-zero, add-suc, suc-add, suc-mul, mul-le-mul-right, le-trans}
+use native.Mathlib.Nat.{add-zero, suc-mul, mul-le-mul-right, le-trans}
 use native.Mathlib.Omega.{arith}
 use mathlib.Core.Path.{_≡_, refl, sym, ap, _∙_}
 use mathlib.Core.Bool.{true, false}
 use mathlib.Core.Option.{some, none}
 use mathlib.Core.List.{List, [], _∷_, _++_, append-assoc, append-nil}
-use lib.ListN.{length, getD, take, drop, set, length-append, length-set, length-take, length-drop}
-use lib.Seq.{getD-take, take-take, set-out, getD-drop, take-suc-set, take-suc, take-length, take-set-le, length-sets, take-all}
+use lib.ListN.{length, getD, take, drop, set, length-append, length-take, length-drop}
+use lib.Seq.{getD-take, take-take, set-out, getD-drop, take-suc-set, take-suc, take-set-le, length-sets}
 use Rattle.lists.specs.Lists.{joinedMap}
 use Rattle.table.specs.Table.{Table}
 use Rattle.table.specs.Lookup.{itemsOf}
 use Rattle.text.specs.Hangul.{isSyllable, jamoOf}
-use Rattle.text.specs.Decomposition.{single, round, fourRounds}
+use Rattle.text.specs.Decomposition.{single, fourRounds}
 use Rattle.text.specs.Rounds.{rounds, mostFrom, placed, Appended, Expanded, Decomposed}
 
 -- writing one text and another behind it is writing the two joined

@@ -1,7 +1,7 @@
 -- What the tests on Hangul say of a codepoint's range. Assumes nothing.
 use Prim.Native.Nat.{ℕ, _≤_, _<_, _-_, _%_}
 use mathlib.Core.Path.{_≡_}
-use mathlib.Core.Bool.{Bool, true, _&&_}
+use mathlib.Core.Bool.{true, _&&_}
 use lib.Dec.{leb, ltb, eqb}
 use borrow.Author.Tests.{leb-true, ltb-true}
 use Rattle.text.specs.Hangul.{isLeading, isVowel, isTrailing, isSyllable, isOpenSyllable}

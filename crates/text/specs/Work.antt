@@ -1,5 +1,5 @@
 -- What the functions of this crate answer, over a table. Assumes nothing.
-use Prim.Native.Nat.{ℕ, zero, suc, _+_, _*_, _≤_}
+use Prim.Native.Nat.{ℕ, zero, suc, _+_, _≤_}
 use mathlib.Core.Path.{_≡_}
 use mathlib.Core.Bool.{Bool, true, not, _&&_, _||_, cond}
 use mathlib.Core.List.{List, [], _∷_, map}
@@ -11,9 +11,9 @@ use Rattle.table.specs.Table.{Table, Headed}
 use Rattle.table.specs.Layout.{mostClass}
 use Rattle.text.specs.declared.compose.Composed.{Composed}
 use Rattle.text.specs.declared.compose.Composed.the-variants.{To, Nothing}
-use Rattle.text.specs.Decomposition.{classOf, single}
+use Rattle.text.specs.Decomposition.{classOf}
 use Rattle.text.specs.Sorting.{inOrder}
-use Rattle.text.specs.Composition.{isPair, pair, compose}
+use Rattle.text.specs.Composition.{isPair, compose}
 
 -- what two codepoints were found to compose to
 abbrev pub composedTo : Composed → Option ℕ

@@ -1,7 +1,6 @@
 // Combining classes.
 use crate::hangul;
 use table::Sections;
-ghost use mathlib.Core.Path.{_≡_};
 ghost use Rattle.table.specs.Laid.{Laid, theTable};
 ghost use Rattle.text.specs.Work.{ClassOf};
 

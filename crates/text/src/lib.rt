@@ -3,4 +3,5 @@ pub mod class;
 pub mod compose;
 pub mod decompose;
 pub mod hangul;
+pub mod nfc;
 pub mod order;

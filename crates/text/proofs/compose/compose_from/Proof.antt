@@ -1,14 +1,13 @@
 -- `compose::compose_from` meets its contract, by what the loop keeps. Assumes nothing.
-use Prim.Native.Nat.{_<_, _+_, _-_}
-use mathlib.Core.Path.{_≡_, sym, ap, _∙_}
-use mathlib.Core.Option.{some, none}
+use Prim.Native.Nat.{_<_, _-_}
+use mathlib.Core.Path.{sym, ap, _∙_}
 use native.Mathlib.Omega.{arith}
 use borrow.Author.Needs.{needs}
 use denote.Ref.{now}
 use lib.ListN.{length}
 use Rattle.table.specs.Laid.{theTable}
 use Rattle.text.specs.Work.{composedTo}
-use Rattle.text.proofs.Composing.{Composing, composing-start, asked, taken, next-starter, mark-stays, composing-stop}
+use Rattle.text.proofs.Composing.{Composing, composing-start, taken, next-starter, mark-stays, composing-stop}
 use Rattle.text.proofs.compose.compose_from.Statement.{statement}
 use Rattle.text.proofs.compose.compose_from.Tie as tie
 

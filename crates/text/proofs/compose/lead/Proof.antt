@@ -25,7 +25,9 @@ shared-slice-read-if1 : tie.Need-shared-slice-read-if1 Inv-loop μ-loop
 shared-slice-read-if1 c = omega arith
 
 returns : tie.Need-returns Inv-loop μ-loop
-returns c = let l = c .before .before .before in leading-stop (now (l .before .args .classes)) (l .loop .i) (l .loop .inv .1) (c .before .before .loop-test .taken) (c .if1 .taken)
+returns c =
+    let l = c .before .before .before in
+    leading-stop (now (l .before .args .classes)) (l .loop .i) (l .loop .inv .1) (c .before .before .loop-test .taken) (c .if1 .taken)
 
 add-i : tie.Need-add-i Inv-loop μ-loop
 add-i c = omega arith
@@ -34,7 +36,9 @@ loop-less : tie.Need-loop-less Inv-loop μ-loop
 loop-less c = omega arith
 
 loop-again : tie.Need-loop-again Inv-loop μ-loop
-loop-again c = let l = c .before .before .before in (omega arith, leading-more (now (l .before .args .classes)) (l .loop .i) (l .loop .inv .1) (c .before .before .loop-test .taken) (c .if1 .left))
+loop-again c =
+    let l = c .before .before .before in
+    (omega arith, leading-more (now (l .before .args .classes)) (l .loop .i) (l .loop .inv .1) (c .before .before .loop-test .taken) (c .if1 .left))
 
 returns-2 : tie.Need-returns-2 Inv-loop μ-loop
 returns-2 c = leading-all (now (c .before .before .args .classes)) (c .before .loop .i) (c .before .loop .inv .1) (c .loop-test .left)

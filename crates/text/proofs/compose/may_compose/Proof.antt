@@ -1,5 +1,7 @@
 -- `compose::may_compose` meets its contract. Assumes nothing.
-use borrow.Author.Tests.{eq-eqb, ne-eqb}
+use denote.Ref.{now}
+use Rattle.table.specs.Laid.{theTable}
+use Rattle.text.proofs.Pairs.{may-excluded, may-head, may-first}
 use borrow.Author.Needs.{needs}
 use Rattle.text.proofs.compose.may_compose.Statement.{statement}
 use Rattle.text.proofs.compose.may_compose.Tie as tie
@@ -8,19 +10,33 @@ is-excluded-requires : tie.Need-is-excluded-requires
 is-excluded-requires c κs = search needs
 
 returns : tie.Need-returns
-returns c = rw (← c .before .is-excluded .ensures, c .if1 .taken)
+returns c =
+    let a = c .before .before .before .args in
+    let x = c .before .is-excluded in
+    may-excluded (theTable (now (a .words))) (a .head) (a .a) (x .result) (x .ensures) (c .if1 .taken)
 
 class-of-requires : tie.Need-class-of-requires
 class-of-requires c κs = search needs
 
 returns-2 : tie.Need-returns-2
-returns-2 c = rw (← c .before .before .before .is-excluded .ensures, c .before .before .if1 .left, ← c .before .class-of .ensures .is, ne-eqb (c .before .class-of .result) 0 (c .if2 .taken))
+returns-2 c =
+    let e = c .before .before .before in
+    let a = e .before .before .args in
+    let x = e .is-excluded in
+    let k = c .before .class-of in
+    may-head (theTable (now (a .words))) (a .head) (a .a) (x .result) (x .ensures) (c .before .before .if1 .left) (k .result) (k .ensures .is) (c .if2 .taken)
 
 class-of-requires-2 : tie.Need-class-of-requires-2
 class-of-requires-2 c κs = search needs
 
 returns-3 : tie.Need-returns-3
-returns-3 c = rw (← c .before .before .before .before .is-excluded .ensures, c .before .before .before .if1 .left, ← c .before .before .class-of .ensures .is, eq-eqb (c .before .before .class-of .result) 0 (c .before .if2 .left), ← c .class-of2 .ensures .is)
+returns-3 c =
+    let e = c .before .before .before .before in
+    let a = e .before .before .args in
+    let x = e .is-excluded in
+    let k = c .before .before .class-of in
+    let j = c .class-of2 in
+    may-first (theTable (now (a .words))) (a .head) (a .a) (x .result) (x .ensures) (c .before .before .before .if1 .left) (k .result) (k .ensures .is) (j .result) (c .before .if2 .left) (j .ensures .is)
 
 pub may-compose-spec : {M : Type 1} → statement M
 may-compose-spec =

@@ -20,10 +20,16 @@ table-pair-requires : tie.Need-table-pair-requires
 table-pair-requires c κs = search needs
 
 returns : tie.Need-returns
-returns c = let a = c .before .before .before .before .before .args in let p = c .before .before .before .hangul-pair in pair-hangul (theTable (now (a .words))) (a .a) (a .b) (c .before .h .given .0 .0) (p .result) (p .ensures) (c .before .h .given .1)
+returns c =
+    let a = c .before .before .before .before .before .args in
+    let p = c .before .before .before .hangul-pair in
+    pair-hangul (theTable (now (a .words))) (a .a) (a .b) (c .before .h .given .0 .0) (p .result) (p .ensures) (c .before .h .given .1)
 
 returns-2 : tie.Need-returns-2
-returns-2 c = let a = c .before .before .before .before .before .args in let p = c .before .before .before .hangul-pair in c .table-pair .ensures ∙ pair-table (theTable (now (a .words))) (a .a) (a .b) (p .result) (p .ensures) (c .before .enum-told .given .1)
+returns-2 c =
+    let a = c .before .before .before .before .before .args in
+    let p = c .before .before .before .hangul-pair in
+    c .table-pair .ensures ∙ pair-table (theTable (now (a .words))) (a .a) (a .b) (p .result) (p .ensures) (c .before .enum-told .given .1)
 
 pub pair-of-spec : {M : Type 1} → statement M
 pair-of-spec =

@@ -14,10 +14,14 @@ pair-of-requires-2 : tie.Need-pair-of-requires-2
 pair-of-requires-2 c κs = search needs
 
 returns-2 : tie.Need-returns-2
-returns-2 c = let a = c .before .before .before .before .args in rw (ne-eqb (a .last) 0 (c .before .before .if1 .left), lt-ltb (a .last) (a .class) (c .before .if2 .taken)) (c .pair-of2 .ensures)
+returns-2 c =
+    let a = c .before .before .before .before .args in
+    rw (ne-eqb (a .last) 0 (c .before .before .if1 .left), lt-ltb (a .last) (a .class) (c .before .if2 .taken)) (c .pair-of2 .ensures)
 
 returns-3 : tie.Need-returns-3
-returns-3 c = let a = c .before .before .before .args in rw (ne-eqb (a .last) 0 (c .before .if1 .left), le-ltb (a .last) (a .class) (c .if2 .left))
+returns-3 c =
+    let a = c .before .before .before .args in
+    rw (ne-eqb (a .last) 0 (c .before .if1 .left), le-ltb (a .last) (a .class) (c .if2 .left))
 
 pub taken-up-spec : {M : Type 1} → statement M
 taken-up-spec =

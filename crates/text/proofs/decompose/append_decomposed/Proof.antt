@@ -1,5 +1,4 @@
 -- `decompose::append_decomposed` meets its contract. Assumes nothing.
-use native.Mathlib.Omega.{arith}
 use denote.Ref.{now}
 use Rattle.table.specs.Laid.{theTable}
 use Rattle.text.specs.Rounds.{mostFrom}
