@@ -1,0 +1,70 @@
+-- The numbers that stand for the answers at the boundary, where 01 gives none: kinds are 1 emoji, 2 ASCII, 3 a group; "sound" is 8.
+-- Beside a refusal every other field is 0. Assumes nothing.
+use Prim.Native.Nat.{ℕ}
+use mathlib.Core.Bool.{cond}
+use mathlib.Core.Option.{Option, none, some}
+use Rattle.answers.specs.declared.Kind.{Kind}
+use Rattle.answers.specs.declared.Kind.the-variants.{Emoji, Ascii, Group}
+use Rattle.answers.specs.declared.Refusal.{Refusal}
+use Rattle.answers.specs.Values.{numberOf, placeOf, NameValues, LabelValues}
+use Rattle.boundary.specs.declared.fields.Refused.{Refused}
+use Rattle.boundary.specs.declared.fields.KindNumbers.{KindNumbers}
+use Rattle.boundary.specs.declared.fields.WanlophengName.{WanlophengName}
+use Rattle.boundary.specs.declared.fields.WanlophengLabel.{WanlophengLabel}
+
+-- a refusal as two numbers
+pub record RefusalValues : Type 0 where
+  pub number : ℕ
+  pub place : ℕ
+
+abbrev pub refusedValues : Refusal → RefusalValues
+refusedValues r = record { number = numberOf r; place = placeOf r }
+
+abbrev pub refusedFields : Refused → RefusalValues
+refusedFields f = record { number = f .number; place = f .place }
+
+-- a kind as three numbers
+pub record KindValues : Type 0 where
+  pub kind : ℕ
+  pub group : ℕ
+  pub restricted : ℕ
+
+abbrev pub kindNumbers : Kind → KindValues
+kindNumbers Emoji = record { kind = 1; group = 0; restricted = 0 }
+kindNumbers Ascii = record { kind = 2; group = 0; restricted = 0 }
+kindNumbers (Group g) = record { kind = 3; group = g .number; restricted = cond (g .restricted) 1 0 }
+
+abbrev pub kindFields : KindNumbers → KindValues
+kindFields f = record { kind = f .kind; group = f .group; restricted = f .restricted }
+
+-- the name call's values are its fields
+abbrev pub nameFields : WanlophengName → NameValues
+nameFields r = record { number = r .number; place = r .place; length = r .length; labels = r .labels }
+
+-- the label call's values as plain numbers
+pub record LabelNumbers : Type 0 where
+  pub number : ℕ
+  pub place : ℕ
+  pub length : ℕ
+  pub kind : KindValues
+
+abbrev pub kindOrNone : Option Kind → KindValues
+kindOrNone none = record { kind = 0; group = 0; restricted = 0 }
+kindOrNone (some k) = kindNumbers k
+
+abbrev pub labelNumbers : LabelValues → LabelNumbers
+labelNumbers v = record { number = v .number; place = v .place; length = v .length; kind = kindOrNone (v .kind) }
+
+abbrev pub labelFields : WanlophengLabel → LabelNumbers
+labelFields r =
+    record {
+      number = r .number;
+      place = r .place;
+      length = r .length;
+      kind = record { kind = r .kind; group = r .group; restricted = r .restricted };
+    }
+
+-- the answer of the soundness check
+abbrev pub soundnessNumber : Option ℕ → ℕ
+soundnessNumber none = 8
+soundnessNumber (some n) = n

@@ -1,0 +1,203 @@
+// The answers of the calls as structs of plain numbers.
+use answers::Kind;
+use answers::LabelAnswer;
+use answers::NameAnswer;
+use answers::Refusal;
+use answers::Soundness;
+ghost use mathlib.Core.Path.{_≡_};
+ghost use Rattle.answers.specs.Values.{nameValues, labelValues, brokenRule};
+ghost use Rattle.boundary.specs.Fields.{refusedValues, refusedFields, nameFields, labelFields, labelNumbers, kindNumbers, kindFields, soundnessNumber};
+
+// A refusal's number and place.
+pub struct Refused {
+    pub number: u32,
+    pub place: usize,
+}
+
+// A kind: 1 emoji, 2 ASCII, 3 a group with its number and 1 where it is restricted; other fields are 0.
+pub struct KindNumbers {
+    pub kind: u32,
+    pub group: usize,
+    pub restricted: u32,
+}
+
+// The name call: the number of the refusal or 0, its place, the length of the answer and the number of labels.
+#[repr(C)]
+pub struct WanlophengName {
+    pub number: u32,
+    pub place: usize,
+    pub length: usize,
+    pub labels: usize,
+}
+
+// The label call: the number of the refusal or 0, its place, the length of the answer, and the kind with its group; the kind is 0 beside a
+// refusal.
+#[repr(C)]
+pub struct WanlophengLabel {
+    pub number: u32,
+    pub place: usize,
+    pub length: usize,
+    pub kind: u32,
+    pub group: usize,
+    pub restricted: u32,
+}
+
+pub fn refusal_fields(r: Refusal) -> Refused
+    ensures { λ f. ⌜ refusedFields f ≡ refusedValues r ⌝ }
+{
+    match r {
+        Refusal::LayoutFault => Refused {
+            number: 1,
+            place: 0,
+        },
+        Refusal::WorkAreaTooSmall => Refused {
+            number: 2,
+            place: 0,
+        },
+        Refusal::InputTooLong => Refused {
+            number: 3,
+            place: 0,
+        },
+        Refusal::NotScalar(i) => Refused {
+            number: 4,
+            place: i,
+        },
+        Refusal::Disallowed(i) => Refused {
+            number: 5,
+            place: i,
+        },
+        Refusal::NoTokens(l) => Refused {
+            number: 6,
+            place: l,
+        },
+        Refusal::WorkedTooLong(l) => Refused {
+            number: 7,
+            place: l,
+        },
+        Refusal::LowLine(l) => Refused {
+            number: 8,
+            place: l,
+        },
+        Refusal::Hyphens(l) => Refused {
+            number: 9,
+            place: l,
+        },
+        Refusal::Fenced(l) => Refused {
+            number: 10,
+            place: l,
+        },
+        Refusal::LeadingMark(l) => Refused {
+            number: 11,
+            place: l,
+        },
+        Refusal::NoGroup(l) => Refused {
+            number: 12,
+            place: l,
+        },
+        Refusal::NsmRun(l) => Refused {
+            number: 13,
+            place: l,
+        },
+        Refusal::Confusable(l) => Refused {
+            number: 14,
+            place: l,
+        },
+        Refusal::BufferTooSmall => Refused {
+            number: 15,
+            place: 0,
+        },
+    }
+}
+
+pub fn kind_numbers(k: Kind) -> KindNumbers
+    ensures { λ f. ⌜ kindFields f ≡ kindNumbers k ⌝ }
+{
+    match k {
+        Kind::Emoji => KindNumbers {
+            kind: 1,
+            group: 0,
+            restricted: 0,
+        },
+        Kind::Ascii => KindNumbers {
+            kind: 2,
+            group: 0,
+            restricted: 0,
+        },
+        Kind::Group(g) => {
+            let restricted = g.restricted;
+            if restricted {
+                return KindNumbers {
+                    kind: 3,
+                    group: g.number,
+                    restricted: 1,
+                };
+            }
+            KindNumbers {
+                kind: 3,
+                group: g.number,
+                restricted: 0,
+            }
+        }
+    }
+}
+
+pub fn name_fields(a: NameAnswer) -> WanlophengName
+    ensures { λ r. ⌜ nameFields r ≡ nameValues a ⌝ }
+{
+    match a {
+        NameAnswer::Accepted { length, labels } => WanlophengName {
+            number: 0,
+            place: 0,
+            length,
+            labels,
+        },
+        NameAnswer::Refused(r) => {
+            let f = refusal_fields(r);
+            WanlophengName {
+                number: f.number,
+                place: f.place,
+                length: 0,
+                labels: 0,
+            }
+        }
+    }
+}
+
+pub fn label_fields(a: LabelAnswer) -> WanlophengLabel
+    ensures { λ r. ⌜ labelFields r ≡ labelNumbers (labelValues a) ⌝ }
+{
+    match a {
+        LabelAnswer::Accepted { length, kind } => {
+            let k = kind_numbers(kind);
+            WanlophengLabel {
+                number: 0,
+                place: 0,
+                length,
+                kind: k.kind,
+                group: k.group,
+                restricted: k.restricted,
+            }
+        }
+        LabelAnswer::Refused(r) => {
+            let f = refusal_fields(r);
+            WanlophengLabel {
+                number: f.number,
+                place: f.place,
+                length: 0,
+                kind: 0,
+                group: 0,
+                restricted: 0,
+            }
+        }
+    }
+}
+
+// 0 to 7 for the lowest broken rule, 8 where the table is sound.
+pub fn soundness_number(s: Soundness) -> u32
+    ensures { λ r. ⌜ r ≡ soundnessNumber (brokenRule s) ⌝ }
+{
+    match s {
+        Soundness::Sound => 8,
+        Soundness::Broken(n) => n,
+    }
+}
