@@ -1,5 +1,11 @@
 pub mod Emoji
 pub mod Matching
 pub mod Finding
+pub mod Match
 pub mod Scan
+pub mod Single
 pub mod Tokens
+pub mod Cells
+pub mod Laying
+pub mod Scanning
+pub mod Normal

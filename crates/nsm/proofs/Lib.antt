@@ -1,0 +1,6 @@
+pub mod Fitting
+pub mod Cells
+pub mod Pouring
+pub mod Reading
+pub mod Filing
+pub mod Answer

@@ -1,0 +1,11 @@
+pub mod Taking
+pub mod Finding
+pub mod Alone
+pub mod Putting
+pub mod Laying
+pub mod Grouping
+pub mod Stripping
+pub mod Texts
+pub mod Steps
+pub mod Reading
+pub mod Compacting

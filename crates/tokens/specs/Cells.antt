@@ -1,0 +1,40 @@
+-- How tokens stand in the work area: their codepoints in its first 1,024 words, and beside them, in the next 1,024, a mark for each:
+-- 0 for emoji, 1 for the first codepoint of a text token, 2 for a later one. Assumes nothing.
+use Prim.Native.Nat.{ℕ, _≤_}
+use mathlib.Core.Path.{_≡_}
+use mathlib.Core.List.{List, [], _∷_, map}
+use lib.ListN.{length, take, drop, replicate}
+use Rattle.lists.specs.Lists.{joinedMap}
+use Rattle.table.specs.Table.{Table}
+use Rattle.text.specs.Decomposition.{fourRounds}
+use Rattle.tokens.specs.Tokens.{Token, emoji, text, spelled}
+
+-- the most codepoints that the tokens of a label may have, decomposed: "worked length over 1,024"
+abbrev pub mostWorked : ℕ
+mostWorked = 1024
+
+-- the marks of a token
+abbrev pub markToken : Token → List ℕ
+markToken (emoji s) = replicate (length s) 0
+markToken (text []) = []
+markToken (text (c ∷ s)) = 1 ∷ replicate (length s) 2
+
+unfoldable pub marksOf : List Token → List ℕ
+marksOf ts = joinedMap markToken ts
+
+-- the tokens with their text decomposed, not yet in order
+unfoldable pub decomposedToken : Table → Token → Token
+unfolding fourRounds
+decomposedToken t (emoji s) = emoji s
+decomposedToken t (text s) = text (fourRounds t s)
+
+unfoldable pub decomposed : Table → List Token → List Token
+unfolding decomposedToken
+decomposed t ts = map (decomposedToken t) ts
+
+-- the tokens stand in the work area, n codepoints in all
+pub record Cells (ts : List Token) (w : List ℕ) (n : ℕ) : Type 0 where
+  pub count : n ≡ length (spelled ts)
+  pub few : n ≤ mostWorked
+  pub words : take n w ≡ spelled ts
+  pub marks : take n (drop mostWorked w) ≡ marksOf ts

@@ -1,0 +1,52 @@
+-- What the functions that put the tokens in the work area into normal form answer. Assumes nothing.
+use Prim.Native.Nat.{ℕ, zero, suc, _+_, _-_, _≤_}
+use mathlib.Core.Path.{_≡_}
+use mathlib.Core.Bool.{cond}
+use mathlib.Core.List.{List, [], _∷_, map}
+use lib.ListN.{length, getD, take, drop}
+use lib.Dec.{eqb}
+use Rattle.table.specs.Table.{Table}
+use Rattle.text.specs.Decomposition.{classOf}
+use Rattle.text.specs.Ordering.{order}
+use Rattle.text.specs.Composition.{compose}
+use Rattle.tokens.specs.Tokens.{Token, normal}
+use Rattle.tokens.specs.Cells.{decomposed, Cells}
+use Rattle.tokens.specs.Laying.{runMarks, PutAt}
+
+-- decomposed text, ordered and composed
+unfoldable pub composedText : Table → List ℕ → List ℕ
+unfolding order compose
+composedText t d = compose t (order t d)
+
+-- the text stands in front, and its classes stand in front beside it
+pub record ReadInto (t : Table) (part text text′ classes classes′ : List ℕ) : Type 0 where
+  pub text-same : length text′ ≡ length text
+  pub classes-same : length classes′ ≡ length classes
+  pub words : take (length part) text′ ≡ part
+  pub beside : take (length part) classes′ ≡ map (classOf t) part
+
+-- the text d is ordered and composed into the first r places
+pub record NormalInto (t : Table) (d text : List ℕ) (r : ℕ) : Type 0 where
+  pub same : length text ≡ length d
+  pub few : r ≤ length d
+  pub count : r ≡ length (composedText t d)
+  pub front : take r text ≡ composedText t d
+
+-- the normal form of the text from `from` up to `to` is put behind the first `at`
+pub record TextKept (t : Table) (w w′ : List ℕ) (from to at r : ℕ) : Type 0 where
+  pub few : r ≤ at + (to - from)
+  pub put : let s = composedText t (take (to - from) (drop from w)) in PutAt w w′ at s (runMarks 1 2 (length s)) r
+
+-- the codepoint at `from` is put behind the first `at`, as emoji
+pub record EmojiKept (w w′ : List ℕ) (from at r : ℕ) : Type 0 where
+  pub put : PutAt w w′ at (getD w from 0 ∷ []) (0 ∷ []) r
+
+-- how many marks in front are 2
+unfoldable pub twos : List ℕ → ℕ
+twos [] = zero
+twos (m ∷ ms) = let n = twos ms in cond (eqb m 2) (suc n) zero
+
+-- decomposed tokens that stood in n cells stand there in normal form, in r cells
+pub record NormalCells (t : Table) (w w′ : List ℕ) (n r : ℕ) : Type 0 where
+  pub same : length w′ ≡ length w
+  pub cells : (ts : List Token) → Cells (decomposed t ts) w n → Cells (normal t ts) w′ r

@@ -1,0 +1,59 @@
+-- What the steps of the scan answer, and the scan itself. Assumes nothing.
+use Prim.Native.Nat.{ℕ, _+_, _*_, _≤_}
+use mathlib.Core.Path.{_≡_}
+use mathlib.Core.Bool.{not}
+use mathlib.Core.List.{List, [], _∷_, _++_}
+use mathlib.Core.Option.{none, some}
+use lib.ListN.{length}
+use Rattle.lists.specs.Lists.{any}
+use Rattle.table.specs.Table.{Table}
+use Rattle.table.specs.Layout.{mostItems}
+use Rattle.tokens.specs.declared.cells.Run.{Run}
+use Rattle.tokens.specs.declared.scan.Tally.{Tally}
+use Rattle.tokens.specs.declared.scan.Stepped as stepped
+use Rattle.tokens.specs.declared.scan.Stepped.{Stepped}
+use Rattle.tokens.specs.declared.scan.Scanned as scanned
+use Rattle.tokens.specs.declared.scan.Scanned.{Scanned}
+use Rattle.tokens.specs.Scan.{Step, disallowed, width, stepAt, steps, firstDisallowed}
+use Rattle.tokens.specs.Tokens.{Token, isEmoji, tokensOf, worked}
+use Rattle.tokens.specs.Cells.{mostWorked, decomposed, Cells}
+use Rattle.tokens.specs.Laying.{mostFromOne, Laying}
+
+-- the step at the start of what is left of a label
+unfoldable pub firstStep : Table → List ℕ → Step
+unfolding stepAt
+firstStep t [] = disallowed
+firstStep t (c ∷ rest) = stepAt t c rest
+
+-- a step that is not disallowed is laid down
+pub record Went (t : Table) (s : Step) (w w′ : List ℕ) (run : Run) (k : ℕ) (r : Run) : Type 0 where
+  pub allowed : s ≡ disallowed → ⊥
+  pub taken : k ≡ width s
+  pub few : r .worked ≤ run .worked + mostFromOne * mostItems
+  pub lays : (ss : List Step) → Laying t ss run w → Laying t (ss ++ s ∷ []) r w′
+
+abbrev pub StepWent : Table → Step → List ℕ → List ℕ → Run → Stepped → Type 0
+StepWent t s w w′ run stepped.the-variants.Disallowed = s ≡ disallowed
+StepWent t s w w′ run (stepped.the-variants.Went k r) = Went t s w w′ run k r
+
+-- what a step answers
+pub record StepPut (t : Table) (s : Step) (w w′ : List ℕ) (run : Run) (r : Stepped) : Type 0 where
+  pub same : length w′ ≡ length w
+  pub went : StepWent t s w w′ run r
+
+-- the tokens ts are counted, and stand in the work area if they are not too many
+pub record Tallied (t : Table) (ts : List Token) (w : List ℕ) (k : Tally) : Type 0 where
+  pub worked : k .worked ≡ worked t ts
+  pub emoji : k .emoji ≡ any isEmoji ts
+  pub text : k .text ≡ any (λ x. not (isEmoji x)) ts
+  pub cells : k .worked ≤ mostWorked → Cells (decomposed t ts) w (k .worked)
+
+-- "disallowed codepoint" with its place, or else the tokens
+abbrev pub ScanIs : Table → List ℕ → List ℕ → Scanned → Type 0
+ScanIs t l w (scanned.the-variants.Disallowed i) = firstDisallowed 0 (steps t l) ≡ some i
+ScanIs t l w (scanned.the-variants.Tokens k) = (firstDisallowed 0 (steps t l) ≡ none) × Tallied t (tokensOf (steps t l)) w k
+
+-- what the scan of the label l answers
+pub record Scans (t : Table) (l w w′ : List ℕ) (r : Scanned) : Type 0 where
+  pub same : length w′ ≡ length w
+  pub is : ScanIs t l w′ r

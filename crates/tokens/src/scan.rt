@@ -1,0 +1,109 @@
+// The scan of a label into tokens, laid down in the work area.
+use crate::cells::Run;
+use crate::cells::put_emoji;
+use crate::cells::put_items;
+use crate::cells::put_text;
+use crate::emoji::Match;
+use crate::emoji::find;
+use crate::single::Single;
+use crate::single::alone;
+use table::Sections;
+ghost use Prim.Native.Nat.{_≤_};
+ghost use lib.ListN.{length};
+ghost use Rattle.table.specs.Laid.{Laid, theTable};
+ghost use Rattle.tokens.specs.Scan.{codepointStep};
+ghost use Rattle.tokens.specs.Scanning.{StepPut, firstStep, Scans};
+
+// What one step gave: a disallowed codepoint, or the run behind it and how much of the label it took.
+pub enum Stepped {
+    Disallowed,
+    Went { taken: usize, run: Run },
+}
+
+// The tokens of a label: their worked length, and whether there are emoji and text.
+pub struct Tally {
+    pub worked: usize,
+    pub emoji: bool,
+    pub text: bool,
+}
+
+// What the scan gives: the place of a disallowed codepoint, or the tokens.
+pub enum Scanned {
+    Disallowed(usize),
+    Tokens(Tally),
+}
+
+// Takes one codepoint that no emoji sequence takes.
+fn take_one(words: &[u32], ix: Sections, w: &mut [u32], run: Run, c: u32) -> Stepped
+    requires { ⌜ Laid (now words) ix ⌝ }
+    requires { ⌜ (2048 ≤ length (now w)) × (run .worked ≤ 33554432) ⌝ }
+    ensures { λ r. ⌜ StepPut (theTable (now (words .entry))) (codepointStep (theTable (now (words .entry))) c) (now (w .entry)) (now (w .exit)) run r ⌝ }
+{
+    let found = alone(words, ix, c);
+    match found {
+        Single::Valid => Stepped::Went {
+            taken: 1,
+            run: put_text(words, ix, w, run, c),
+        },
+        Single::Mapped(s) => Stepped::Went {
+            taken: 1,
+            run: put_items(words, ix, w, run, s),
+        },
+        Single::Ignored => Stepped::Went { taken: 1, run },
+        Single::Disallowed => Stepped::Disallowed,
+    }
+}
+
+// Takes one step at the start of the rest of a label: an emoji sequence, or else one codepoint.
+fn step(words: &[u32], ix: Sections, rest: &[u32], w: &mut [u32], run: Run) -> Stepped
+    requires { ⌜ Laid (now words) ix ⌝ }
+    requires { ⌜ (2048 ≤ length (now w)) × (run .worked ≤ 33554432) × (1 ≤ length (now rest)) ⌝ }
+    ensures { λ r. ⌜ StepPut (theTable (now (words .entry))) (firstStep (theTable (now (words .entry))) (now (rest .entry))) (now (w .entry)) (now (w .exit)) run r ⌝ }
+{
+    let found = find(words, ix, rest);
+    match found {
+        Match::Found {
+            number: _,
+            sequence,
+            taken,
+            selectors: _,
+        } => Stepped::Went {
+            taken,
+            run: put_emoji(words, w, run, sequence),
+        },
+        Match::Nothing => take_one(words, ix, w, run, rest[0]),
+    }
+}
+
+// Scans a label. As long as the worked length is at most 1,024 the tokens, their text decomposed, stand in the work area; past that only
+// the length goes on.
+pub fn scan(words: &[u32], ix: Sections, label: &[u32], w: &mut [u32]) -> Scanned
+    requires { ⌜ Laid (now words) ix ⌝ }
+    requires { ⌜ (2048 ≤ length (now w)) × (length (now label) ≤ 4096) ⌝ }
+    ensures { λ r. ⌜ Scans (theTable (now (words .entry))) (now (label .entry)) (now (w .entry)) (now (w .exit)) r ⌝ }
+{
+    let mut run = Run {
+        worked: 0,
+        emoji: false,
+        text: false,
+        mark: 1,
+    };
+    let mut at: usize = 0;
+    while at < label.len() {
+        let went = step(words, ix, &label[at..], w, run);
+        match went {
+            Stepped::Went { taken, run: next } => {
+                run = next;
+                at += taken;
+            }
+            Stepped::Disallowed => {
+                return Scanned::Disallowed(at);
+            }
+        }
+    }
+    Scanned::Tokens(Tally {
+        worked: run.worked,
+        emoji: run.emoji,
+        text: run.text,
+    })
+}
