@@ -3,3 +3,7 @@ pub mod Groups
 pub mod Marks
 pub mod Confusable
 pub mod Judge
+pub mod GroupPart
+pub mod Flags
+pub mod CellText
+pub mod Opening
