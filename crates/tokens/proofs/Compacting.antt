@@ -293,7 +293,7 @@ module _ (t : Table) (w₀ w : List ℕ) (n at i : ℕ) (big : 2048 ≤ length w
 
 pub compact-stop : (t : Table) (w₀ w : List ℕ) (n at i : ℕ) → 2048 ≤ length w₀ → n ≤ mostWorked → Compacting t w₀ w n at i → n ≤ i → NormalCells t w₀ w n at
 compact-stop t w₀ w n at i big few p h =
-    record { same = p .same; cells = λ ts c. done (normal t ts) (p .left ts c) }
+    record { same = p .same; few = omega (arith, p .low, p .inside); cells = λ ts c. done (normal t ts) (p .left ts c) }
   where
     done : (goal : List Token) → Left t goal w n at i → Cells goal w at
     done goal l =

@@ -2,11 +2,10 @@
 use Prim.Native.Nat.{ℕ, zero, suc, _+_, _-_, _≤_}
 use mathlib.Core.Path.{_≡_}
 use mathlib.Core.Bool.{cond}
-use mathlib.Core.List.{List, [], _∷_, map}
+use mathlib.Core.List.{List, [], _∷_}
 use lib.ListN.{length, getD, take, drop}
 use lib.Dec.{eqb}
 use Rattle.table.specs.Table.{Table}
-use Rattle.text.specs.Decomposition.{classOf}
 use Rattle.text.specs.Ordering.{order}
 use Rattle.text.specs.Composition.{compose}
 use Rattle.tokens.specs.Tokens.{Token, normal}
@@ -17,20 +16,6 @@ use Rattle.tokens.specs.Laying.{runMarks, PutAt}
 unfoldable pub composedText : Table → List ℕ → List ℕ
 unfolding order compose
 composedText t d = compose t (order t d)
-
--- the text stands in front, and its classes stand in front beside it
-pub record ReadInto (t : Table) (part text text′ classes classes′ : List ℕ) : Type 0 where
-  pub text-same : length text′ ≡ length text
-  pub classes-same : length classes′ ≡ length classes
-  pub words : take (length part) text′ ≡ part
-  pub beside : take (length part) classes′ ≡ map (classOf t) part
-
--- the text d is ordered and composed into the first r places
-pub record NormalInto (t : Table) (d text : List ℕ) (r : ℕ) : Type 0 where
-  pub same : length text ≡ length d
-  pub few : r ≤ length d
-  pub count : r ≡ length (composedText t d)
-  pub front : take r text ≡ composedText t d
 
 -- the normal form of the text from `from` up to `to` is put behind the first `at`
 pub record TextKept (t : Table) (w w′ : List ℕ) (from to at r : ℕ) : Type 0 where
@@ -49,4 +34,5 @@ twos (m ∷ ms) = let n = twos ms in cond (eqb m 2) (suc n) zero
 -- decomposed tokens that stood in n cells stand there in normal form, in r cells
 pub record NormalCells (t : Table) (w w′ : List ℕ) (n r : ℕ) : Type 0 where
   pub same : length w′ ≡ length w
+  pub few : r ≤ n
   pub cells : (ts : List Token) → Cells (decomposed t ts) w n → Cells (normal t ts) w′ r

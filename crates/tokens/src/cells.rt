@@ -10,6 +10,9 @@ ghost use Rattle.tokens.specs.Match.{SequenceFits};
 ghost use Rattle.tokens.specs.Single.{ItemsThere};
 ghost use Rattle.tokens.specs.Laying.{PutAt, runMarks, nextMark, StrippedInto, EmojiPut, TextPut, ItemsPut};
 
+// The most codepoints that the tokens of a label may have, decomposed; the marks stand so many words behind them.
+pub const MOST_WORKED: usize = 1024;
+
 // What is laid down so far: the number of codepoints, whether there are emoji and text, and the mark of the next codepoint of text.
 pub struct Run {
     pub worked: usize,
@@ -24,7 +27,7 @@ pub fn put(w: &mut [u32], n: usize, s: &[u32], first: u32, later: u32) -> usize
     ensures { λ r. ⌜ PutAt (now (w .entry)) (now (w .exit)) n (now (s .entry)) (runMarks first later (length (now (s .entry)))) r ⌝ }
 {
     let end = n + s.len();
-    if 1024 < end {
+    if MOST_WORKED < end {
         return end;
     }
     let mut mark = first;
@@ -32,7 +35,7 @@ pub fn put(w: &mut [u32], n: usize, s: &[u32], first: u32, later: u32) -> usize
     while i < s.len() {
         let j = n + i;
         w[j] = s[i];
-        w[1024 + j] = mark;
+        w[MOST_WORKED + j] = mark;
         mark = later;
         i += 1;
     }

@@ -1,42 +1,15 @@
 // The tokens in the work area, decomposed, are put into normal form: each text is ordered and composed, and what follows moves down.
+use crate::cells::MOST_WORKED;
 use crate::cells::put;
+use buffers::copy_into;
 use table::Sections;
-use text::class::class_of;
-use text::compose::compose;
-use text::order::order;
+use text::nfc::ordered_composed;
 ghost use Prim.Native.Nat.{_≤_, _<_, _+_};
 ghost use mathlib.Core.Path.{_≡_};
-ghost use mathlib.Core.List.{map};
 ghost use lib.ListN.{length, take, drop};
 ghost use Rattle.table.specs.Laid.{Laid, theTable};
-ghost use Rattle.text.specs.Decomposition.{classOf};
 ghost use Rattle.tokens.specs.Cells.{mostWorked};
-ghost use Rattle.tokens.specs.Normal.{ReadInto, NormalInto, TextKept, EmojiKept, twos, NormalCells};
-
-// Copies a text, and beside it the class of each of its codepoints.
-fn read_text(words: &[u32], ix: Sections, part: &[u32], text: &mut [u32], classes: &mut [u32])
-    requires { ⌜ Laid (now words) ix ⌝ }
-    requires { ⌜ (length (now part) ≤ length (now text)) × (length (now part) ≤ length (now classes)) ⌝ }
-    ensures { λ _. ⌜ ReadInto (theTable (now (words .entry))) (now (part .entry)) (now (text .entry)) (now (text .exit)) (now (classes .entry)) (now (classes .exit)) ⌝ }
-{
-    let mut i: usize = 0;
-    while i < part.len() {
-        let c = part[i];
-        text[i] = c;
-        classes[i] = class_of(words, ix, c);
-        i += 1;
-    }
-}
-
-// Orders and composes a text that stands beside its classes. What is left of it stands in front.
-fn normal_in(words: &[u32], ix: Sections, text: &mut [u32], classes: &mut [u32]) -> usize
-    requires { ⌜ Laid (now words) ix ⌝ }
-    requires { ⌜ now classes ≡ map (classOf (theTable (now words))) (now text) ⌝ }
-    ensures { λ r. ⌜ NormalInto (theTable (now (words .entry))) (now (text .entry)) (now (text .exit)) r ⌝ }
-{
-    order(text, classes);
-    compose(words, ix, text, classes)
-}
+ghost use Rattle.tokens.specs.Normal.{TextKept, EmojiKept, twos, NormalCells};
 
 // Puts the normal form of the text from `from` up to `to` behind the first `at` codepoints.
 fn keep_text(words: &[u32], ix: Sections, w: &mut [u32], from: usize, to: usize, at: usize) -> usize
@@ -45,10 +18,10 @@ fn keep_text(words: &[u32], ix: Sections, w: &mut [u32], from: usize, to: usize,
     ensures { λ r. ⌜ TextKept (theTable (now (words .entry))) (now (w .entry)) (now (w .exit)) from to at r ⌝ }
 {
     let n = to - from;
-    let mut text = [0u32; 1024];
-    let mut classes = [0u32; 1024];
-    read_text(words, ix, &w[from..to], &mut text, &mut classes);
-    let r = normal_in(words, ix, &mut text[..n], &mut classes[..n]);
+    let mut text = [0u32; MOST_WORKED];
+    let mut classes = [0u32; MOST_WORKED];
+    copy_into(&mut text, &w[from..to]);
+    let r = ordered_composed(words, ix, &mut text[..n], &mut classes[..n]);
     put(w, at, &text[..r], 1, 2)
 }
 
@@ -68,7 +41,7 @@ fn token_end(w: &[u32], from: usize, n: usize) -> usize
 {
     let mut i = from + 1;
     while i < n {
-        if w[1024 + i] != 2 {
+        if w[MOST_WORKED + i] != 2 {
             return i;
         }
         i += 1;
@@ -85,7 +58,7 @@ pub fn normalise(words: &[u32], ix: Sections, w: &mut [u32], n: usize) -> usize
     let mut at: usize = 0;
     let mut i: usize = 0;
     while i < n {
-        if w[1024 + i] == 0 {
+        if w[MOST_WORKED + i] == 0 {
             at = keep_emoji(w, i, at);
             i += 1;
             continue;

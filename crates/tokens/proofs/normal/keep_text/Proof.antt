@@ -1,73 +1,68 @@
--- `tokens::normal::keep_text` meets its contract: the text is read, put into normal form, and put down again. Assumes nothing.
-use native.Mathlib.Omega.{arith}
-use mathlib.Core.Path.{refl}
-use lib.ListN.{length-take}
+-- `tokens::normal::keep_text` meets its contract: the text is copied, ordered and composed, and put down again. Assumes nothing.
+use mathlib.Core.Path.{refl, sym, _∙_}
 use borrow.Author.Needs.{needs}
-use Rattle.tokens.proofs.Reading.{text-taken, text-classes, kept-inside, kept-taken, text-kept}
+use Rattle.tokens.proofs.Reading.{text-taken, classes-taken, kept-inside, kept-taken, text-kept}
 use Rattle.tokens.proofs.normal.keep_text.Tie as tie
 use Rattle.tokens.proofs.normal.keep_text.Statement.{statement}
 
 sub-n : tie.Need-sub-n
 sub-n c = search needs
 
-mul-read-text : tie.Need-mul-read-text
-mul-read-text c = search needs
+slice-aggregate-copy-into : tie.Need-slice-aggregate-copy-into
+slice-aggregate-copy-into c = search needs
 
-sub-read-text : tie.Need-sub-read-text
-sub-read-text c = search needs
+mul-copy-into : tie.Need-mul-copy-into
+mul-copy-into c = search needs
 
-part-read-text-start : tie.Need-part-read-text-start
-part-read-text-start c = search needs
+sub-copy-into : tie.Need-sub-copy-into
+sub-copy-into c = search needs
 
-part-read-text-end : tie.Need-part-read-text-end
-part-read-text-end c = search needs
+part-copy-into-start : tie.Need-part-copy-into-start
+part-copy-into-start c = search needs
 
-slice-aggregate-read-text : tie.Need-slice-aggregate-read-text
-slice-aggregate-read-text c = search needs
+part-copy-into-end : tie.Need-part-copy-into-end
+part-copy-into-end c = search needs
 
-slice-aggregate-read-text-2 : tie.Need-slice-aggregate-read-text-2
-slice-aggregate-read-text-2 c = search needs
-
-read-text-requires : tie.Need-read-text-requires
-read-text-requires c κs = search needs
+copy-into-requires : tie.Need-copy-into-requires
+copy-into-requires c κs = search needs
 
 array-borrow-prefix-text : tie.Need-array-borrow-prefix-text
 array-borrow-prefix-text c = search needs
 
-slice-aggregate-normal-in : tie.Need-slice-aggregate-normal-in
-slice-aggregate-normal-in c =
-    let rt = c .before .before .before in
-    let p = rt .before .before .before .before .before .before .before .pre .1 in
-    text-taken _ _ _ _ _ _ _ _ (p .0) (p .2) (p .3) refl (rt .read-text .ensures)
+slice-aggregate-ordered-composed : tie.Need-slice-aggregate-ordered-composed
+slice-aggregate-ordered-composed c =
+    let k = c .before .before in
+    let p = k .before .before .before .before .before .before .pre in
+    text-taken _ _ _ _ _ (p .1 .0) (p .1 .2) (p .1 .3) (k .copy-into .ensures)
 
 array-borrow-prefix-classes : tie.Need-array-borrow-prefix-classes
 array-borrow-prefix-classes c = search needs
 
-slice-aggregate-normal-in-2 : tie.Need-slice-aggregate-normal-in-2
-slice-aggregate-normal-in-2 c =
-    let rt = c .before .before .before .before in
-    let p = rt .before .before .before .before .before .before .before .pre .1 in
-    simp length-take (omega (arith, p .3, rt .read-text .ensures .classes-same))
+slice-aggregate-ordered-composed-2 : tie.Need-slice-aggregate-ordered-composed-2
+slice-aggregate-ordered-composed-2 c =
+    let k = c .before .before .before in
+    let p = k .before .before .before .before .before .before .pre in
+    classes-taken _ _ _ _ _ (p .1 .0) (p .1 .2) (p .1 .3) (k .copy-into .ensures) _ refl
 
-normal-in-requires : tie.Need-normal-in-requires
-normal-in-requires c κs =
-    let rt = c .before .before .before .before in
-    let p = rt .before .before .before .before .before .before .before .pre .1 in
-    (rt .before .before .before .before .before .before .before .pre .0, text-classes _ _ _ _ _ _ _ _ (p .0) (p .2) (p .3) refl (rt .read-text .ensures))
+ordered-composed-requires : tie.Need-ordered-composed-requires
+ordered-composed-requires c κs =
+    let k = c .before .before .before in
+    let p = k .before .before .before .before .before .before .pre in
+    (p .0, sym (text-taken _ _ _ _ _ (p .1 .0) (p .1 .2) (p .1 .3) (k .copy-into .ensures)) ∙ classes-taken _ _ _ _ _ (p .1 .0) (p .1 .2) (p .1 .3) (k .copy-into .ensures) _ refl)
 
 array-share-prefix-text : tie.Need-array-share-prefix-text
 array-share-prefix-text c =
     let m = c .before .before .before in
-    let rt = m .before .before .before .before .before in
-    let p = rt .before .before .before .before .before .before .before .pre .1 in
-    kept-inside _ _ _ _ _ _ _ _ (p .0) (p .2) (p .3) refl (rt .read-text .ensures) _ _ _ (m .normal-in .ensures)
+    let k = m .before .before .before .before in
+    let p = k .before .before .before .before .before .before .pre in
+    kept-inside _ _ _ _ _ (p .1 .0) (p .1 .2) (p .1 .3) (k .copy-into .ensures) _ _ _ _ (m .ordered-composed .ensures)
 
 slice-aggregate-put : tie.Need-slice-aggregate-put
 slice-aggregate-put c =
     let m = c .before .before .before .before in
-    let rt = m .before .before .before .before .before in
-    let p = rt .before .before .before .before .before .before .before .pre .1 in
-    kept-taken _ _ _ _ _ _ _ _ (p .0) (p .2) (p .3) refl (rt .read-text .ensures) _ _ _ (m .normal-in .ensures)
+    let k = m .before .before .before .before in
+    let p = k .before .before .before .before .before .before .pre in
+    kept-taken _ _ _ _ _ (p .1 .0) (p .1 .2) (p .1 .3) (k .copy-into .ensures) _ _ _ _ (m .ordered-composed .ensures)
 
 put-requires : tie.Need-put-requires
 put-requires c κs = search needs
@@ -78,27 +73,26 @@ same-length c = search needs
 returns : tie.Need-returns
 returns c =
     let m = c .before .before .before .before .before .before .before in
-    let rt = m .before .before .before .before .before in
-    let p = rt .before .before .before .before .before .before .before .pre .1 in
-    text-kept _ _ _ _ _ _ _ _ (p .0) (p .2) (p .3) refl (rt .read-text .ensures) _ _ _ (m .normal-in .ensures) _ _ _ (c .before .before .put .ensures)
+    let k = m .before .before .before .before in
+    let p = k .before .before .before .before .before .before .pre in
+    text-kept _ _ _ _ _ (p .1 .0) (p .1 .2) (p .1 .3) (k .copy-into .ensures) _ _ _ _ (m .ordered-composed .ensures) _ _ _ (c .before .before .put .ensures)
 
 pub keep-text-spec : {M : Type 1} → statement M
 keep-text-spec =
     tie.close
     (tie.spec
     sub-n
-    mul-read-text
-    sub-read-text
-    part-read-text-start
-    part-read-text-end
-    slice-aggregate-read-text
-    slice-aggregate-read-text-2
-    read-text-requires
+    slice-aggregate-copy-into
+    mul-copy-into
+    sub-copy-into
+    part-copy-into-start
+    part-copy-into-end
+    copy-into-requires
     array-borrow-prefix-text
-    slice-aggregate-normal-in
+    slice-aggregate-ordered-composed
     array-borrow-prefix-classes
-    slice-aggregate-normal-in-2
-    normal-in-requires
+    slice-aggregate-ordered-composed-2
+    ordered-composed-requires
     array-share-prefix-text
     slice-aggregate-put
     put-requires
