@@ -195,7 +195,7 @@ pub finished : (form : Table → List ℕ → List ℕ) (call : List ℕ → Lis
     → ((text ws : List ℕ) (room work : ℕ) → call text ws room work ≡ forming room work (formBy form text ws room work))
     → (text ws answer front tail work work′ : List ℕ) (r : FormAnswer) (n m : ℕ) → Stands form text ws answer front (length work) r → n ≡ lengthOf r
     → tail ≡ replicate (length (midOf n (length front - n) front)) 0 → work′ ≡ replicate m 0 → m ≡ length work
-    → Forms call text ws answer (putMid n (length front - n) front tail) work work′ r
+    → Forms call text ws answer (putMid n (length front - n) front tail) work work′ (formValues r)
 finished form call c text ws answer front tail work work′ r n m o e z w l =
     let v : Verdict (List ℕ) = formBy form text ws (length answer) (length work) in
     let f = formed (length answer) (length work) v r front (o .told) (o .same) in

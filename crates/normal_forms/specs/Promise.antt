@@ -9,13 +9,18 @@ use Rattle.text.specs.Ordering.{order, nfd}
 use Rattle.text.specs.Work.{Ready}
 use Rattle.normal_forms.specs.declared.FormAnswer.{FormAnswer}
 use Rattle.normal_forms.specs.declared.FormAnswer.the-variants.{Formed, LayoutFault, WorkAreaTooSmall, TextTooLong, BufferTooSmall}
-use Rattle.normal_forms.specs.Forms.{formValues, lengthOf, formWithin, formBy, Forming}
+use Rattle.normal_forms.specs.declared.export.WanlophengForm.{WanlophengForm}
+use Rattle.normal_forms.specs.Forms.{FormValues, formValues, formWithin, formBy, Forming}
 
--- The call for a form: its answer r, and every word of the answer buffer and of the work area, before the call and after it (′).
-pub record Forms (call : List ℕ → List ℕ → ℕ → ℕ → Forming) (text words answer answer′ work work′ : List ℕ) (r : FormAnswer) : Type 0 where
-  pub values : formValues r ≡ call text words (length answer) (length work) .values
+-- The call for a form: the values v that it answers, and every word of the answer buffer and of the work area, before the call and after it (′).
+pub record Forms (call : List ℕ → List ℕ → ℕ → ℕ → Forming) (text words answer answer′ work work′ : List ℕ) (v : FormValues) : Type 0 where
+  pub values : v ≡ call text words (length answer) (length work) .values
   pub answer-is : answer′ ≡ call text words (length answer) (length work) .answer
   pub work-is : work′ ≡ call text words (length answer) (length work) .work
+
+-- the values that the fields of an exported answer stand for
+abbrev pub formFields : WanlophengForm → FormValues
+formFields r = record { number = r .number; length = r .length }
 
 -- A verdict and an answer say the same, and the text that is accepted stands at the front of a buffer.
 abbrev pub Told : Verdict (List ℕ) → List ℕ → FormAnswer → Type 0

@@ -1,4 +1,6 @@
 // NFD and NFC of a text, by a table. specs/Forms.antt states what they answer.
+pub mod export;
+
 use table::Layout;
 use table::Sections;
 ghost use mathlib.Core.Path.{_≡_};
@@ -10,7 +12,7 @@ ghost use Rattle.text.specs.Decomposition.{classOf, fourRounds};
 ghost use Rattle.text.specs.Ordering.{nfd};
 ghost use Rattle.text.specs.Composition.{nfc};
 ghost use Rattle.text.specs.Rounds.{Appended};
-ghost use Rattle.normal_forms.specs.Forms.{mostText, lengthOf, nfdCall, nfcCall};
+ghost use Rattle.normal_forms.specs.Forms.{mostText, formValues, lengthOf, nfdCall, nfcCall};
 ghost use Rattle.normal_forms.specs.Promise.{Arranged, Standing, Stands, Forms};
 
 // The most codepoints of a text. Full decomposition makes at most 256 of each.
@@ -64,7 +66,13 @@ fn arrange(words: &[u32], ix: Sections, text: &mut [u32], classes: &mut [u32])
 }
 
 // NFD at the front of `answer`, with its classes at the front of `work`.
-fn decomposed(words: &[u32], ix: Sections, text: &[u32], answer: &mut [u32], work: &mut [u32]) -> FormAnswer
+fn decomposed(
+    words: &[u32],
+    ix: Sections,
+    text: &[u32],
+    answer: &mut [u32],
+    work: &mut [u32],
+) -> FormAnswer
     requires { ⌜ Laid (now words) ix ⌝ }
     ensures { λ r. ⌜ Standing (theTable (now (words .entry))) (now (text .entry)) (now (answer .entry)) (now (answer .exit)) (now (work .entry)) (now (work .exit)) r ⌝ }
 {
@@ -124,7 +132,7 @@ fn length_of(found: FormAnswer) -> usize
 
 // NFD of the text into `answer`; zeros follow, and a refusal leaves zeros alone. The work area is zeros in the end.
 pub fn nfd(text: &[u32], words: &[u32], answer: &mut [u32], work: &mut [u32]) -> FormAnswer
-    ensures { λ r. ⌜ Forms nfdCall (now (text .entry)) (now (words .entry)) (now (answer .entry)) (now (answer .exit)) (now (work .entry)) (now (work .exit)) r ⌝ }
+    ensures { λ r. ⌜ Forms nfdCall (now (text .entry)) (now (words .entry)) (now (answer .entry)) (now (answer .exit)) (now (work .entry)) (now (work .exit)) (formValues r) ⌝ }
 {
     let found = nfd_front(text, words, answer, work);
     let n = length_of(found);
@@ -135,7 +143,7 @@ pub fn nfd(text: &[u32], words: &[u32], answer: &mut [u32], work: &mut [u32]) ->
 
 // NFC of the text into `answer`; zeros follow, and a refusal leaves zeros alone. The work area is zeros in the end.
 pub fn nfc(text: &[u32], words: &[u32], answer: &mut [u32], work: &mut [u32]) -> FormAnswer
-    ensures { λ r. ⌜ Forms nfcCall (now (text .entry)) (now (words .entry)) (now (answer .entry)) (now (answer .exit)) (now (work .entry)) (now (work .exit)) r ⌝ }
+    ensures { λ r. ⌜ Forms nfcCall (now (text .entry)) (now (words .entry)) (now (answer .entry)) (now (answer .exit)) (now (work .entry)) (now (work .exit)) (formValues r) ⌝ }
 {
     let found = nfc_front(text, words, answer, work);
     let n = length_of(found);

@@ -1,0 +1,26 @@
+-- `wanlopheng_nfd`: the promise of `nfd`, with its values in the fields. Assumes nothing.
+use mathlib.Core.Path.{_∙_}
+use borrow.Author.Needs.{needs}
+use Rattle.normal_forms.proofs.export.wanlopheng_nfd.Statement.{statement}
+use Rattle.normal_forms.proofs.export.wanlopheng_nfd.Tie as tie
+
+nfd-requires : tie.Need-nfd-requires
+nfd-requires c κs = search needs
+
+form-fields-requires : tie.Need-form-fields-requires
+form-fields-requires c κs = search needs
+
+same-length : tie.Need-same-length
+same-length c = search needs
+
+same-length-2 : tie.Need-same-length-2
+same-length-2 c = search needs
+
+returns : tie.Need-returns
+returns c =
+    let u = c .before .before .before .before .before .nfd .ensures in
+    record { values = c .form-fields .ensures ∙ u .values; answer-is = u .answer-is; work-is = u .work-is }
+
+pub wanlopheng-nfd-spec : {M : Type 1} → statement M
+wanlopheng-nfd-spec =
+    tie.close (tie.spec nfd-requires form-fields-requires same-length same-length-2 returns)

@@ -1,0 +1,64 @@
+// The calls for C and Rust, each with the promise of the call that it hands on. include/wanlopheng.h declares them.
+use crate::FormAnswer;
+ghost use mathlib.Core.Path.{_≡_};
+ghost use Rattle.normal_forms.specs.Forms.{formValues, nfdCall, nfcCall};
+ghost use Rattle.normal_forms.specs.Promise.{Forms, formFields};
+
+// The refusal number, 0 where there is none, and the length of the form.
+#[repr(C)]
+pub struct WanlophengForm {
+    pub number: u32,
+    pub length: usize,
+}
+
+fn form_fields(answer: FormAnswer) -> WanlophengForm
+    ensures { λ r. ⌜ formFields r ≡ formValues answer ⌝ }
+{
+    match answer {
+        FormAnswer::Formed(length) => WanlophengForm { number: 0, length },
+        FormAnswer::LayoutFault => WanlophengForm {
+            number: 1,
+            length: 0,
+        },
+        FormAnswer::WorkAreaTooSmall => WanlophengForm {
+            number: 2,
+            length: 0,
+        },
+        FormAnswer::TextTooLong => WanlophengForm {
+            number: 3,
+            length: 0,
+        },
+        FormAnswer::BufferTooSmall => WanlophengForm {
+            number: 15,
+            length: 0,
+        },
+    }
+}
+
+// NFD of a text.
+#[no_mangle]
+pub extern "C" fn wanlopheng_nfd(
+    text: &[u32],
+    words: &[u32],
+    answer: &mut [u32],
+    work: &mut [u32],
+) -> WanlophengForm
+    ensures { λ r. ⌜ Forms nfdCall (now (text .entry)) (now (words .entry)) (now (answer .entry)) (now (answer .exit)) (now (work .entry)) (now (work .exit)) (formFields r) ⌝ }
+{
+    let found = crate::nfd(text, words, answer, work);
+    form_fields(found)
+}
+
+// NFC of a text.
+#[no_mangle]
+pub extern "C" fn wanlopheng_nfc(
+    text: &[u32],
+    words: &[u32],
+    answer: &mut [u32],
+    work: &mut [u32],
+) -> WanlophengForm
+    ensures { λ r. ⌜ Forms nfcCall (now (text .entry)) (now (words .entry)) (now (answer .entry)) (now (answer .exit)) (now (work .entry)) (now (work .exit)) (formFields r) ⌝ }
+{
+    let found = crate::nfc(text, words, answer, work);
+    form_fields(found)
+}
