@@ -2,6 +2,7 @@
 //! archive is all that is assumed here: everything behind them is proved, for
 //! every input.
 
+pub mod normal_forms;
 mod raw;
 
 /// What unpacking answers. `number` is 0, or 20, 21 or 22 for a refusal;
