@@ -33,7 +33,7 @@ use Rattle.normal_forms.specs.declared.FormAnswer.{FormAnswer}
 use Rattle.normal_forms.specs.declared.FormAnswer.the-variants.{Formed, LayoutFault, WorkAreaTooSmall, TextTooLong, BufferTooSmall}
 use Rattle.normal_forms.proofs.FormAnswer.{the-type}
 use Rattle.normal_forms.specs.Forms.{mostText, formValues, lengthOf, formWithin, formBy, forming, nfdCall, nfcCall, Forming, FormValues}
-use Rattle.normal_forms.specs.Promise.{Forms, Told, Stands, Arranged, Ordered, RefusedAs, Standing}
+use Rattle.normal_forms.specs.Promise.{Forms, Told, Stands, Cleared, Arranged, Ordered, RefusedAs, Standing}
 
 -- the text and its classes, sorted by these, are the text in order with its own classes
 pub arranged : (t : Table) (d ks text classes : List ℕ) → ks ≡ map (classOf t) d → text ≡ sortBy ks d → classes ≡ sortBy ks ks → Arranged t d text classes
@@ -187,24 +187,24 @@ told-fits (refused n p) r front told =
     let z : lengthOf r ≡ 0 = ap (λ (u : FormValues). u .length) told in
     omega arith
 
-pub stands-fits : (form : Table → List ℕ → List ℕ) (text ws answer front : List ℕ) (work : ℕ) (r : FormAnswer) (n : ℕ) → Stands form text ws answer front work r → n ≡ lengthOf r → n ≤ length front
-stands-fits form text ws answer front work r n o e = rw e (told-fits (formBy form text ws (length answer) work) r front (o .told))
+pub stands-fits : (form : Table → List ℕ → List ℕ) (text ws answer front : List ℕ) (work : ℕ) (r : FormAnswer) → Stands form text ws answer front work r → lengthOf r ≤ length front
+stands-fits form text ws answer front work r o = told-fits (formBy form text ws (length answer) work) r front (o .told)
 
--- The end of a call: what is behind the form is cleared (`tail` came back of it), and so is the work area.
+-- what is behind the first n words is cleared (`tail` came back of it), and so is the work area
+pub cleared : (r n : ℕ) (front tail work work′ : List ℕ) → n ≡ r → tail ≡ replicate (length (midOf n (length front - n) front)) 0 → work′ ≡ replicate (length work) 0
+    → Cleared r front (putMid n (length front - n) front tail) work work′
+cleared r n front tail work work′ e z w = record { answer-is = rw (z, put-filled n front 0, e); work-is = w }
+
+-- the end of a call
 pub finished : (form : Table → List ℕ → List ℕ) (call : List ℕ → List ℕ → ℕ → ℕ → Forming)
     → ((text ws : List ℕ) (room work : ℕ) → call text ws room work ≡ forming room work (formBy form text ws room work))
-    → (text ws answer front tail work work′ : List ℕ) (r : FormAnswer) (n m : ℕ) → Stands form text ws answer front (length work) r → n ≡ lengthOf r
-    → tail ≡ replicate (length (midOf n (length front - n) front)) 0 → work′ ≡ replicate m 0 → m ≡ length work
-    → Forms call text ws answer (putMid n (length front - n) front tail) work work′ (formValues r)
-finished form call c text ws answer front tail work work′ r n m o e z w l =
+    → (text ws answer front answer′ work left work′ : List ℕ) (r : FormAnswer) → Stands form text ws answer front (length work) r → length left ≡ length work
+    → Cleared (lengthOf r) front answer′ left work′ → Forms call text ws answer answer′ work work′ (formValues r)
+finished form call c text ws answer front answer′ work left work′ r o l z =
     let v : Verdict (List ℕ) = formBy form text ws (length answer) (length work) in
     let f = formed (length answer) (length work) v r front (o .told) (o .same) in
     let here = c text ws (length answer) (length work) in
-    record {
-      values = rw here (f .0);
-      answer-is = rw (here, z, put-filled n front 0, e) (f .1);
-      work-is = rw (here, w, l) (f .2);
-    }
+    record { values = rw here (f .0); answer-is = rw (here, z .answer-is) (f .1); work-is = rw (here, z .work-is, l) (f .2) }
 
 pub nfd-is : (text ws : List ℕ) (room work : ℕ) → nfdCall text ws room work ≡ forming room work (formBy nfd text ws room work)
 unfolding nfdCall

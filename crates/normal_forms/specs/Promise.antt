@@ -1,8 +1,8 @@
 -- What the functions of this crate promise, in the terms of Forms.antt. Assumes nothing.
-use Prim.Native.Nat.{ℕ, _≤_}
+use Prim.Native.Nat.{ℕ, _-_, _≤_}
 use mathlib.Core.Path.{_≡_}
-use mathlib.Core.List.{List}
-use lib.ListN.{length, take}
+use mathlib.Core.List.{List, _++_}
+use lib.ListN.{length, take, replicate}
 use Rattle.answers.specs.Verdict.{Verdict, accepted, refused}
 use Rattle.table.specs.Table.{Table}
 use Rattle.text.specs.Ordering.{order, nfd}
@@ -31,6 +31,11 @@ Told (refused n p) buffer r = formValues r ≡ record { number = n; length = 0 }
 pub record Stands (form : Table → List ℕ → List ℕ) (text words answer answer′ : List ℕ) (work : ℕ) (r : FormAnswer) : Type 0 where
   pub told : Told (formBy form text words (length answer) work) answer′ r
   pub same : length answer′ ≡ length answer
+
+-- the first n words of the answer buffer stay, zeros stand behind them, and the work area is zeros
+pub record Cleared (n : ℕ) (answer answer′ work work′ : List ℕ) : Type 0 where
+  pub answer-is : answer′ ≡ take n answer ++ replicate (length answer - n) 0
+  pub work-is : work′ ≡ replicate (length work) 0
 
 -- the text d is put into order, with its classes beside it
 pub record Arranged (t : Table) (d text classes : List ℕ) : Type 0 where

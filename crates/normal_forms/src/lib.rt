@@ -13,7 +13,7 @@ ghost use Rattle.text.specs.Ordering.{nfd};
 ghost use Rattle.text.specs.Composition.{nfc};
 ghost use Rattle.text.specs.Rounds.{Appended, Decomposed};
 ghost use Rattle.normal_forms.specs.Forms.{mostText, formValues, lengthOf, nfdCall, nfcCall};
-ghost use Rattle.normal_forms.specs.Promise.{Arranged, Standing, Stands, Forms};
+ghost use Rattle.normal_forms.specs.Promise.{Arranged, Standing, Stands, Cleared, Forms};
 
 // The most codepoints of a text. Full decomposition makes at most 256 of each.
 const MOST_TEXT: usize = 4294967296;
@@ -152,14 +152,22 @@ fn length_of(found: FormAnswer) -> usize
     }
 }
 
+// What is behind the form becomes zeros, and so does the work area.
+fn clear_rest(found: FormAnswer, answer: &mut [u32], work: &mut [u32])
+    requires { ⌜ lengthOf found ≤ length (now answer) ⌝ }
+    ensures { λ _. ⌜ Cleared (lengthOf found) (now (answer .entry)) (now (answer .exit)) (now (work .entry)) (now (work .exit)) ⌝ }
+{
+    let n = length_of(found);
+    buffers::clear(&mut answer[n..]);
+    buffers::clear(work);
+}
+
 // NFD of the text into `answer`; zeros follow, and a refusal leaves zeros alone. The work area is zeros in the end.
 pub fn nfd(text: &[u32], words: &[u32], answer: &mut [u32], work: &mut [u32]) -> FormAnswer
     ensures { λ r. ⌜ Forms nfdCall (now (text .entry)) (now (words .entry)) (now (answer .entry)) (now (answer .exit)) (now (work .entry)) (now (work .exit)) (formValues r) ⌝ }
 {
     let found = nfd_front(text, words, answer, work);
-    let n = length_of(found);
-    buffers::clear(&mut answer[n..]);
-    buffers::clear(work);
+    clear_rest(found, answer, work);
     found
 }
 
@@ -168,8 +176,6 @@ pub fn nfc(text: &[u32], words: &[u32], answer: &mut [u32], work: &mut [u32]) ->
     ensures { λ r. ⌜ Forms nfcCall (now (text .entry)) (now (words .entry)) (now (answer .entry)) (now (answer .exit)) (now (work .entry)) (now (work .exit)) (formValues r) ⌝ }
 {
     let found = nfc_front(text, words, answer, work);
-    let n = length_of(found);
-    buffers::clear(&mut answer[n..]);
-    buffers::clear(work);
+    clear_rest(found, answer, work);
     found
 }
