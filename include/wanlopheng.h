@@ -1,8 +1,9 @@
-/* The calls of Wanlopheng for C. Link libboundary.a, which `rt staticlib boundary` writes (x86-64).
+/* The calls of Wanlopheng for C. Link libboundary.a, which `rt staticlib boundary` writes (x86-64), and for NFD and NFC
+ * libnormal_forms.a, which `rt staticlib normal_forms` writes.
  *
  * A slice crosses as a pointer and a number of elements. The pointer is not null and is aligned, also where there are no
- * elements; the elements can be read, those of the answer also written, and the answer overlaps nothing else that is
- * handed over. That is all that a caller owes. No call keeps a pointer.
+ * elements; the elements can be read, those of the answer and of the work area also written, and these two overlap nothing
+ * else that is handed over. That is all that a caller owes. No call keeps a pointer.
  */
 #ifndef WANLOPHENG_H
 #define WANLOPHENG_H
@@ -25,6 +26,23 @@ struct wanlopheng_unpack wanlopheng_unpack(const uint8_t *file, size_t file_leng
 
 /* 1 where the words of a table have a layout fault, 0 where they hold a table. */
 uint32_t wanlopheng_layout_fault(const uint32_t *words, size_t words_length);
+
+/* What the calls for NFD and NFC answer. The full decomposition of the text needs room in the answer and in the work area,
+ * for NFC too. */
+struct wanlopheng_form {
+    uint32_t number; /* 0: done. 1: the words have a layout fault. 3: over 2^32 codepoints. 2: the work area is too small.
+                        15: the answer is too small. Tried in this order. */
+    size_t length;   /* the number of codepoints; 0 beside a refusal */
+};
+
+/* NFD of a text by the words of a table. After success the answer holds it and then zeros, after a refusal zeros alone; the
+ * work area holds zeros. */
+struct wanlopheng_form wanlopheng_nfd(const uint32_t *text, size_t text_length, const uint32_t *words, size_t words_length,
+                                      uint32_t *answer, size_t answer_length, uint32_t *work, size_t work_length);
+
+/* NFC of a text, likewise. */
+struct wanlopheng_form wanlopheng_nfc(const uint32_t *text, size_t text_length, const uint32_t *words, size_t words_length,
+                                      uint32_t *answer, size_t answer_length, uint32_t *work, size_t work_length);
 
 #ifdef __cplusplus
 }

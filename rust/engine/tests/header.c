@@ -1,8 +1,28 @@
-/* What header.rs compiles: the header as C reads it, and a call through it. */
+/* What header.rs compiles: the header as C reads it, and calls through it. */
 #include "wanlopheng.h"
 
 static int differs(struct wanlopheng_unpack r, uint32_t number, size_t count) {
     return r.number != number || r.count != count;
+}
+
+static int other(struct wanlopheng_form r, uint32_t number, size_t length) {
+    return r.number != number || r.length != length;
+}
+
+/* NFD and NFC by a table in which E0 is 61 300 and 300 has class 230. */
+static int forms(void) {
+    const uint32_t table[] = {0, 0, 0, 0, 0, 0, 4, 0xE0, 2, 0x61, 0x300, 0, 1, 0, 3, 0x300, 0x300, 230, 0, 0};
+    const uint32_t text[] = {0xE0};
+    uint32_t answer[3] = {7, 7, 7}, work[2] = {7, 7};
+    if (other(wanlopheng_nfd(text, 1, table, 20, answer, 3, work, 2), 0, 2)) return 11;
+    if (answer[0] != 0x61 || answer[1] != 0x300 || answer[2] != 0 || work[0] != 0 || work[1] != 0) return 12;
+    answer[1] = answer[2] = work[1] = 7;
+    if (other(wanlopheng_nfc(text, 1, table, 20, answer, 3, work, 2), 0, 1)) return 13;
+    if (answer[0] != 0xE0 || answer[1] != 0 || answer[2] != 0 || work[0] != 0 || work[1] != 0) return 14;
+    if (other(wanlopheng_nfd(text, 1, table, 20, answer, 1, work, 2), 15, 0) || answer[0] != 0) return 15;
+    if (other(wanlopheng_nfc(text, 1, table, 20, answer, 1, work, 1), 2, 0)) return 16;
+    if (other(wanlopheng_nfc(text, 1, table, 19, answer, 3, work, 2), 1, 0)) return 17;
+    return 0;
 }
 
 int main(void) {
@@ -18,5 +38,5 @@ int main(void) {
     const uint32_t table[] = {0, 0, 0, 0, 0, 0, 0, 0, 1, 0, 0, 0, 0};
     if (wanlopheng_layout_fault(table, 13) != 0) return 7;
     if (wanlopheng_layout_fault(table, 12) != 1) return 8;
-    return 0;
+    return forms();
 }

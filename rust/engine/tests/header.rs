@@ -1,4 +1,4 @@
-//! include/wanlopheng.h, compiled as C and linked to the proved library.
+//! include/wanlopheng.h, compiled as C and linked to the proved libraries.
 
 use std::path::Path;
 use std::process::Command;
@@ -12,6 +12,7 @@ fn c_calls_the_library_through_its_header() {
         .arg(here.join("../../include"))
         .arg(here.join("tests/header.c"))
         .arg(here.join("../../target/staticlib/libboundary.a"))
+        .arg(here.join("../../target/staticlib/libnormal_forms.a"))
         .arg("-o")
         .arg(&program)
         .status()
