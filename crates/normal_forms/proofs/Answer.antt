@@ -3,24 +3,21 @@ use Prim.Native.Nat.{ℕ, _+_, _-_, _≤_, _<_}
 use native.Mathlib.Omega.{arith}
 use mathlib.Core.Path.{_≡_, refl, sym, ap, _∙_, subst}
 use mathlib.Core.Logic.{⊎-elim}
-use mathlib.Core.Bool.{Bool, true, false}
 use mathlib.Core.Option.{Option, none, some}
 use mathlib.Core.List.{List, [], _∷_, _++_, map}
-use lib.ListN.{length, take, drop, replicate, length-map, length-append}
+use lib.ListN.{length, take, drop, replicate, length-map}
 use lib.Seq.{sets-eq, take-at, take-append-le, length-front, length-sets, length-take-le}
 use types.Run.{OneOf}
 use denote.Enum.Declared.{tagOf}
 use borrow.Author.Tests.{le-leb, lt-leb}
 use borrow.Rule.Slice.PartMut.{midOf, putMid}
 use Rattle.buffers.proofs.Parts.{put-filled}
-use Rattle.lists.specs.Lists.{isSome, onSome}
 use Rattle.answers.specs.Verdict.{Verdict, accepted, refused}
 use Rattle.table.specs.declared.Sections.{Sections}
-use Rattle.table.specs.declared.Layout.{Layout}
 use Rattle.table.specs.declared.Layout.the-variants.{Fault, Found}
 use Rattle.table.specs.Table.{Table}
 use Rattle.table.specs.Layout.{parse}
-use Rattle.table.specs.Laid.{Laid, layoutOf, theTable}
+use Rattle.table.specs.Laid.{layoutOf, theTable}
 use Rattle.text.specs.Decomposition.{classOf, fourRounds}
 use Rattle.text.specs.Ordering.{order, nfd}
 use Rattle.text.specs.Composition.{compose, nfc}

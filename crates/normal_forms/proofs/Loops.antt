@@ -3,10 +3,10 @@
 use Prim.Native.Nat.{ℕ, zero, suc, _+_, _^_, _≤_, _<_}
 use native.Mathlib.Numerals.{add-one}
 use native.Mathlib.Omega.{arith}
-use mathlib.Core.Path.{_≡_, refl, sym, ap, _∙_}
+use mathlib.Core.Path.{_≡_, refl, sym, _∙_}
 use mathlib.Core.List.{List, [], _∷_, _++_, map, map-append, append-nil}
 use lib.ListN.{length, getD, take, set, drop-of-length-le}
-use lib.Seq.{take-suc, take-all, take-length}
+use lib.Seq.{take-suc, take-all}
 use Rattle.buffers.proofs.Front.{Front, front-more}
 use Rattle.table.specs.Table.{Table}
 use Rattle.text.specs.declared.decompose.Parts.{Parts}

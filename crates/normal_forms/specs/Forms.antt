@@ -59,7 +59,7 @@ pub record Forming : Type 0 where
   pub answer : List ℕ
   pub work : List ℕ
 
--- "After success the answer buffer holds the answer and then zeros, the work area zeros"; after a refusal "both buffers are then all zeros"
+-- "After success the answer buffer holds the answer and then zeros, the work area zeros"; after a refusal "Both buffers are then all zeros."
 abbrev pub forming : ℕ → ℕ → Verdict (List ℕ) → Forming
 forming room work (accepted s) = record { values = record { number = 0; length = length s }; answer = s ++ replicate (room - length s) 0; work = replicate work 0 }
 forming room work (refused n p) = record { values = record { number = n; length = 0 }; answer = replicate room 0; work = replicate work 0 }

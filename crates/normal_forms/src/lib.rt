@@ -27,8 +27,8 @@ pub enum FormAnswer {
     BufferTooSmall,
 }
 
-// Writes the four rounds of c at `at`, if there is room, and answers the place behind them. What one round leaves as it is, the later
-// ones leave too, so that most codepoints are looked up once.
+// Writes the four rounds of c at `at`, as far as there is room, and answers the place behind them. What one round leaves as it is, the
+// later ones leave too, so that most codepoints are looked up once.
 fn append(words: &[u32], ix: Sections, out: &mut [u32], at: usize, c: u32) -> usize
     requires { ⌜ Laid (now words) ix ⌝ }
     requires { ⌜ at ≤ 2 ^ 40 ⌝ }

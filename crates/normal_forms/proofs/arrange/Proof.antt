@@ -1,5 +1,4 @@
 -- `arrange`: the classes of the text, and then both sorted by them. Assumes nothing.
-use native.Mathlib.Omega.{arith}
 use borrow.Author.Needs.{needs}
 use Rattle.normal_forms.proofs.Answer.{arranged}
 use Rattle.normal_forms.proofs.arrange.Statement.{statement}
