@@ -8,7 +8,7 @@ use crate::emoji::find;
 use crate::single::Single;
 use crate::single::alone;
 use table::Sections;
-ghost use Prim.Native.Nat.{_≤_};
+ghost use Prim.Native.Nat.{_≤_, _^_};
 ghost use lib.ListN.{length};
 ghost use Rattle.table.specs.Laid.{Laid, theTable};
 ghost use Rattle.tokens.specs.Scan.{codepointStep};
@@ -36,7 +36,7 @@ pub enum Scanned {
 // Takes one codepoint that no emoji sequence takes.
 fn take_one(words: &[u32], ix: Sections, w: &mut [u32], run: Run, c: u32) -> Stepped
     requires { ⌜ Laid (now words) ix ⌝ }
-    requires { ⌜ (2048 ≤ length (now w)) × (run .worked ≤ 33554432) ⌝ }
+    requires { ⌜ (2048 ≤ length (now w)) × (run .worked ≤ 2 ^ 25) ⌝ }
     ensures { λ r. ⌜ StepPut (theTable (now (words .entry))) (codepointStep (theTable (now (words .entry))) c) (now (w .entry)) (now (w .exit)) run r ⌝ }
 {
     let found = alone(words, ix, c);
@@ -57,7 +57,7 @@ fn take_one(words: &[u32], ix: Sections, w: &mut [u32], run: Run, c: u32) -> Ste
 // Takes one step at the start of the rest of a label: an emoji sequence, or else one codepoint.
 fn step(words: &[u32], ix: Sections, rest: &[u32], w: &mut [u32], run: Run) -> Stepped
     requires { ⌜ Laid (now words) ix ⌝ }
-    requires { ⌜ (2048 ≤ length (now w)) × (run .worked ≤ 33554432) × (1 ≤ length (now rest)) ⌝ }
+    requires { ⌜ (2048 ≤ length (now w)) × (run .worked ≤ 2 ^ 25) × (1 ≤ length (now rest)) ⌝ }
     ensures { λ r. ⌜ StepPut (theTable (now (words .entry))) (firstStep (theTable (now (words .entry))) (now (rest .entry))) (now (w .entry)) (now (w .exit)) run r ⌝ }
 {
     let found = find(words, ix, rest);
