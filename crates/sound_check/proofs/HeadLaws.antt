@@ -1,0 +1,214 @@
+-- Laws of rule 6, head by head. Assumes nothing.
+use Prim.Native.Nat.{ℕ, zero, suc, _+_, _-_, _<_, _≤_, _/_, _%_}
+use native.Mathlib.Omega.{arith}
+use mathlib.Core.Path.{_≡_, refl, sym, _∙_, ap}
+use mathlib.Core.Bool.{Bool, true, false, not, _&&_, _||_, cond, false≢true}
+use mathlib.Core.List.{List, [], _∷_, _++_, map}
+use mathlib.Core.Option.{Option, none, some, Option·map, Option·getD}
+use lib.ListN.{length, getD, take, drop, length-take}
+use lib.Seq.{sets, sets-eq, take-append-seam}
+use lib.Dec.{leb, eqb}
+use borrow.Author.Tests.{eq-eqb, ne-eqb, eqb-true, eqb-false, le-leb, leb-true}
+use Rattle.lists.specs.Lists.{all, mem, firstWith, joinedMap, isSome, sameList, distinct}
+use Rattle.lists.specs.Laws.{Every, every-imp, every-all, all-every, every-member, found-member, same-list, joined-self, joined-fixed, both}
+use Rattle.table.specs.declared.Span.{Span}
+use Rattle.table.specs.declared.Sections.{Sections}
+use Rattle.table.specs.declared.Items.{Items}
+use Rattle.table.specs.declared.Items.the-variants.{At, Nothing}
+use Rattle.table.specs.Table.{ClassRange, Headed, Table}
+use Rattle.table.specs.Layout.{mostItems, mostParts, inFront, countFits, headed}
+use Rattle.table.specs.Lookup.{itemsOf}
+use Rattle.table.specs.Laid.{Laid, theTable, within}
+use Rattle.table.specs.Part.{ItemsFound, headsIn}
+use Rattle.table.proofs.SectionLaws.{laid-reads}
+use Rattle.table.proofs.Lookups.{onlyIf-some, inFront-some}
+use Rattle.table.proofs.Records.{count-fits}
+use Rattle.table.proofs.Searches.{items-there, items-missing}
+use Rattle.text.specs.Hangul.{firstSyllable, isSyllable, jamoOf}
+use Rattle.text.specs.Decomposition.{single, round, fourRounds}
+use Rattle.text.specs.Rounds.{Decomposed}
+use Rattle.soundness.specs.Pairs.{decomposesFully, plainHead, sparesHangul, rule6}
+use Rattle.sound_check.specs.Parts.{recordsIn, asHeaded}
+use Rattle.sound_check.specs.Heads.{isStable, headsOf, recordOf, headFits, headsFit}
+
+-- a replacement of one item, or of another number of items
+module _ (t : Table) (c n : ℕ) (items : List ℕ) (is : take n items ≡ single t c) (h : n ≤ length items) where
+  pub stable-other : (n ≡ 1 → ⊥) → false ≡ isStable t c
+  unfolding isStable
+  stable-other e =
+      let k : length (single t c) ≡ n = ap length (sym is) ∙ simp length-take (omega arith) in
+      go (single t c) k
+    where
+      go : (s : List ℕ) → length s ≡ n → false ≡ sameList s (c ∷ [])
+      go [] k = refl
+      go (x ∷ []) k = absurd (e (sym k))
+      go (x ∷ y ∷ s) k = ends (eqb x c)
+        where
+          ends : (b : Bool) → false ≡ b && false
+          ends true = refl
+          ends false = refl
+
+  pub stable-one : n ≡ 1 → eqb (getD items 0 0) c ≡ isStable t c
+  unfolding isStable
+  stable-one e = rw (← is, e) (go items (omega arith))
+    where
+      go : (l : List ℕ) → 1 ≤ length l → eqb (getD l 0 0) c ≡ sameList (take 1 l) (c ∷ [])
+      go [] k = absurd (omega arith)
+      go (x ∷ l) k = ends (eqb x c)
+        where
+          ends : (b : Bool) → b ≡ b && true
+          ends true = refl
+          ends false = refl
+
+-- a record has at least one item
+hasItems : Headed → Bool
+hasItems r = leb 1 (length (r .items))
+
+records-filled : (k most : ℕ) (ws : List ℕ) (rs : List Headed) → headed k most ws ≡ some rs → all hasItems rs ≡ true
+unfolding headed hasItems
+records-filled zero most [] rs e = let z : rs ≡ [] = cc in rw z
+records-filled zero most (w ∷ ws) rs e = absurd (let z : _≡_ {A = ℕ} 0 1 = cc in omega arith)
+records-filled (suc k) most [] rs e = let z : rs ≡ [] = cc in rw z
+records-filled (suc k) most (a ∷ []) rs e = absurd (let z : _≡_ {A = ℕ} 0 1 = cc in omega arith)
+records-filled (suc k) most (a ∷ n ∷ ws) rs e =
+    let r : Headed = record { head = a; items = take n ws } in
+    let p = onlyIf-some (countFits most n ws) (inFront r (headed k most (drop n ws))) rs e in
+    let q = inFront-some r (headed k most (drop n ws)) rs (p .1) in
+    let f = count-fits most n ws (p .0) in
+    let l : 1 ≤ length (take n ws) = simp length-take (omega (arith, f .low, f .room)) in
+    rw (q .2) (both (leb 1 (length (take n ws))) (all hasItems (q .0)) (le-leb _ _ l) (records-filled k most (drop n ws) (q .0) (q .1)))
+
+items-filled : (rs : List Headed) (c : ℕ) → all hasItems rs ≡ true → 1 ≤ length (Option·getD (itemsOf rs c) (c ∷ []))
+unfolding itemsOf hasItems
+items-filled rs c h = go (firstWith (λ (r : Headed). eqb (r .head) c) rs) refl
+  where
+    go : (o : Option Headed) → firstWith (λ (r : Headed). eqb (r .head) c) rs ≡ o → 1 ≤ length (Option·getD (Option·map (λ (r : Headed). r .items) o) (c ∷ []))
+    go none e = omega arith
+    go (some r) e = leb-true _ _ (every-member (λ (r : Headed). hasItems r ≡ true) rs (all-every hasItems rs h) (found-member _ rs r e .0))
+
+jamo-filled : (n : ℕ) → 1 ≤ length (jamoOf n)
+jamo-filled n = go (eqb (n % 28) 0)
+  where
+    go : (b : Bool) → 1 ≤ length (cond b ((0x1100 + n / 588) ∷ (0x1161 + n % 588 / 28) ∷ []) ((0x1100 + n / 588) ∷ (0x1161 + n % 588 / 28) ∷ (0x11A7 + n % 28) ∷ []))
+    go true = omega arith
+    go false = omega arith
+
+-- a replacement has at least one codepoint
+pub single-filled : (ws : List ℕ) (ix : Sections) → Laid ws ix → (c : ℕ) → 1 ≤ length (single (theTable ws) c)
+unfolding single
+single-filled ws ix l c = go (isSyllable c)
+  where
+    go : (b : Bool) → 1 ≤ length (cond b (jamoOf (c - firstSyllable)) (Option·getD (itemsOf (theTable ws .decompositions) c) (c ∷ [])))
+    go true = jamo-filled (c - firstSyllable)
+    go false = items-filled (theTable ws .decompositions) c (records-filled _ mostParts _ _ (laid-reads ws ix l .decompositions))
+
+same-itself : (s : List ℕ) → sameList s s ≡ true
+same-itself [] = refl
+same-itself (x ∷ s) = rw (eq-eqb x x refl) (same-itself s)
+
+-- a round changes nothing exactly where no codepoint decomposes further
+module _ (t : Table) (filled : (c : ℕ) → 1 ≤ length (single t c)) where
+  fixed-stable : (s : List ℕ) → sameList (joinedMap (single t) s) s ≡ true → all (isStable t) s ≡ true
+  unfolding isStable
+  fixed-stable s e =
+      let f : Every (λ x. single t x ≡ x ∷ []) s = joined-fixed (single t) filled s (same-list _ _ e) in
+      every-all (isStable t) s (every-imp s (λ x k. rw k (same-itself (x ∷ []))) f)
+
+  stable-fixed : (s : List ℕ) → all (isStable t) s ≡ true → sameList (joinedMap (single t) s) s ≡ true
+  unfolding isStable
+  stable-fixed s e =
+      let f : Every (λ x. single t x ≡ x ∷ []) s = every-imp s (λ x k. same-list _ _ k) (all-every (isStable t) s e) in
+      rw (joined-self (single t) s f) (same-itself s)
+
+  agree : (a b : Bool) → (a ≡ true → b ≡ true) → (b ≡ true → a ≡ true) → a ≡ b
+  agree true b f g = sym (f refl)
+  agree false true f g = g refl
+  agree false false f g = refl
+
+  pub fully-is : (c : ℕ) → all (isStable t) (fourRounds t (c ∷ [])) ≡ decomposesFully t c
+  unfolding decomposesFully round
+  fully-is c = let s = fourRounds t (c ∷ []) in agree _ _ (stable-fixed s) (fixed-stable s)
+
+-- what is written from the start of a list, where there is room
+pub written-front : (t : Table) (c : ℕ) (out new : List ℕ) (r : ℕ) → Decomposed t c out new 0 r → 256 ≤ length out → take r new ≡ fourRounds t (c ∷ [])
+written-front t c out new r d h =
+    let s : List ℕ = fourRounds t (c ∷ []) in
+    let room : 0 + length s ≤ length out = omega (arith, d .written .end, d .few) in
+    let e : new ≡ s ++ drop (0 + length s) out = d .written .put ∙ sets-eq s out 0 room in
+    rw (d .written .end, e) (go s (drop (0 + length s) out))
+  where
+    go : (s r : List ℕ) → take (0 + length s) (s ++ r) ≡ s
+    go s r = let z : 0 + length s ≡ length s = omega arith in rw z (take-append-seam s r)
+
+eqb-turn : (a b : ℕ) → eqb a b ≡ eqb b a
+eqb-turn a b = go (eqb b a) refl
+  where
+    go : (t : Bool) → eqb b a ≡ t → eqb a b ≡ t
+    go true e = eq-eqb a b (sym (eqb-true b a e))
+    go false e = ne-eqb a b (λ f. eqb-false b a e (sym f))
+
+-- a head is one of the heads exactly where its record is found
+pub found-head : (rs : List Headed) (c : ℕ) → isSome (itemsOf rs c) ≡ mem c (headsOf rs)
+unfolding itemsOf
+found-head [] c = refl
+found-head (r ∷ rs) c = rw (eqb-turn c (r .head)) (go (eqb (r .head) c) (found-head rs c))
+  where
+    go : (b : Bool) → isSome (Option·map (λ (r : Headed). r .items) (firstWith (λ (r : Headed). eqb (r .head) c) rs)) ≡ mem c (headsOf rs)
+        → isSome (Option·map (λ (r : Headed). r .items) (cond b (some r) (firstWith (λ (r : Headed). eqb (r .head) c) rs))) ≡ b || mem c (headsOf rs)
+    go true e = refl
+    go false e = e
+
+module _ (part : List ℕ) (c : ℕ) (r : Items) (i : ItemsFound part mostItems (itemsOf (headsIn part) c) r) where
+  head-is : isSome (itemsOf (headsIn part) c) ≡ mem c (headsOf (recordsIn asHeaded part))
+  unfolding headsIn recordsIn
+  head-is = found-head (headsIn part) c
+
+  pub head-there : (s : Span) → r ≡ At s → true ≡ mem c (headsOf (recordsIn asHeaded part))
+  head-there s e = ap isSome (sym (items-there part mostItems _ r i s e .same)) ∙ head-is
+
+  pub head-missing : r ≡ Nothing → false ≡ mem c (headsOf (recordsIn asHeaded part))
+  head-missing e = ap isSome (sym (items-missing part mostItems _ r i e)) ∙ head-is
+
+-- the first head, and the later ones
+module _ (t : Table) (h : ℕ) (s : List ℕ) (later : List Headed) where
+  heads-step : (d m p : Bool) → decomposesFully t h ≡ d → mem h (headsOf later) ≡ m → plainHead h ≡ p
+      → headsFit t (recordOf h s ∷ later) ≡ cond (p && not m && d) (headsFit t later) false
+  unfolding headsFit
+  heads-step true false true e f g = rw (e, f, g)
+  heads-step true false false e f g = rw (e, f, g) (ends (all (decomposesFully t) (headsOf later) && distinct (headsOf later)))
+    where
+      ends : (a : Bool) → a && false ≡ false
+      ends true = refl
+      ends false = refl
+  heads-step true true p e f g = rw (e, f) (ends (all (decomposesFully t) (headsOf later)) p)
+    where
+      ends : (a p : Bool) → a && false && (plainHead h && all plainHead (headsOf later)) ≡ cond (p && false && true) (headsFit t later) false
+      ends true true = refl
+      ends true false = refl
+      ends false true = refl
+      ends false false = refl
+  heads-step false m p e f g = rw e (ends m p)
+    where
+      ends : (m p : Bool) → false ≡ cond (p && not m && false) (headsFit t later) false
+      ends true true = refl
+      ends true false = refl
+      ends false true = refl
+      ends false false = refl
+
+  heads-split : headsFit t (recordOf h s ∷ later) ≡ cond (headFits t h later) (headsFit t later) false
+  unfolding headFits
+  heads-split = heads-step (decomposesFully t h) (mem h (headsOf later)) (plainHead h) refl refl refl
+
+  pub head-broken : headFits t h later ≡ false → false ≡ headsFit t (recordOf h s ∷ later)
+  head-broken e = rw (heads-split, e)
+
+  pub head-later : headFits t h later ≡ true → headsFit t (recordOf h s ∷ later) ≡ headsFit t later
+  head-later e = rw (heads-split, e)
+
+pub heads-none : (t : Table) → true ≡ headsFit t []
+unfolding headsFit
+heads-none t = refl
+
+pub rule6-is : (t : Table) (rs : List Headed) → rs ≡ t .decompositions → rule6 t ≡ headsFit t rs && all sparesHangul (t .classes)
+unfolding headsFit rule6
+rule6-is t rs e = rw e

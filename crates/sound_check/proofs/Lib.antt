@@ -1,0 +1,10 @@
+pub mod Walks
+pub mod ScalarLaws
+pub mod SectionsHold
+pub mod StripLaws
+pub mod ApartLaws
+pub mod PairLaws
+pub mod HeadLaws
+pub mod CoverLaws
+pub mod EndLaws
+pub mod CheckLaws

@@ -1,0 +1,42 @@
+-- `soundness::apart::parts_at` meets its contract. Assumes nothing.
+use mathlib.Core.Path.{sym, _∙_}
+use lib.ListN.{length-take}
+use borrow.Author.Needs.{needs}
+use native.Mathlib.Omega.{arith}
+use Rattle.sound_check.proofs.apart.parts_at.Statement.{statement}
+use Rattle.sound_check.proofs.apart.parts_at.Tie as tie
+
+slice-aggregate-stands-alone : tie.Need-slice-aggregate-stands-alone
+slice-aggregate-stands-alone c = simp length-take (omega arith)
+
+stands-alone-requires : tie.Need-stands-alone-requires
+stands-alone-requires c κs = (c .before .before .before .before .pre .0, c .before .before .before .before .pre .1 .0)
+
+mul-can-start : tie.Need-mul-can-start
+mul-can-start c = search needs
+
+shared-slice-read-can-start : tie.Need-shared-slice-read-can-start
+shared-slice-read-can-start c = search needs
+
+can-start-requires : tie.Need-can-start-requires
+can-start-requires c κs =
+    (c .before .before .before .before .before .before .before .pre .0, c .before .before .before .before .before .before .before .pre .1 .0)
+
+returns : tie.Need-returns
+returns c =
+    rw (sym (c .before .before .before .stands-alone .ensures) ∙ c .before .before .if1 .taken) (c .can-start .ensures)
+
+returns-2 : tie.Need-returns-2
+returns-2 c = rw (sym (c .before .stands-alone .ensures) ∙ c .if1 .left)
+
+pub parts-at-spec : {M : Type 1} → statement M
+parts-at-spec =
+    tie.close
+    (tie.spec
+    slice-aggregate-stands-alone
+    stands-alone-requires
+    mul-can-start
+    shared-slice-read-can-start
+    can-start-requires
+    returns
+    returns-2)

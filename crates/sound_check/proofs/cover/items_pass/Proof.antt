@@ -1,0 +1,64 @@
+-- `soundness::cover::items_pass` meets its contract, by the laws of a walk over items. Assumes nothing.
+use Prim.Native.Nat.{_-_}
+use mathlib.Core.Path.{sym, _∙_}
+use borrow.Author.Tests.{not-true, not-false}
+use lib.ListN.{length}
+use Rattle.table.proofs.Lookups.{Walk, walk-start}
+use Rattle.lists.specs.Lists.{all}
+use Rattle.table.specs.Laid.{theTable}
+use Rattle.sound_check.specs.Cover.{passes}
+use Rattle.sound_check.proofs.Walks.{items-broken, items-on, items-done}
+use borrow.Author.Needs.{needs}
+use Rattle.sound_check.proofs.cover.items_pass.Statement.{statement}
+use Rattle.sound_check.proofs.cover.items_pass.Tie as tie
+
+abbrev Inv-loop : tie.InvT-loop
+Inv-loop words ix w items i₀ i = Walk (all (passes (theTable words) w)) items i
+
+abbrev μ-loop : tie.MeasureT-loop
+μ-loop words ix w items i₀ i = length items - i
+
+loop-holds : tie.Need-loop-holds Inv-loop μ-loop
+loop-holds c = walk-start _ _
+
+mul-passes : tie.Need-mul-passes Inv-loop μ-loop
+mul-passes c = search needs
+
+shared-slice-read-passes : tie.Need-shared-slice-read-passes Inv-loop μ-loop
+shared-slice-read-passes c = search needs
+
+passes-requires : tie.Need-passes-requires Inv-loop μ-loop
+passes-requires c κs = c .before .before .before .before .before .pre
+
+returns : tie.Need-returns Inv-loop μ-loop
+returns c =
+    items-broken _ _ (c .before .before .before .before .loop .i) (c .before .before .before .before .loop .inv) (c .before .before .before .loop-test .taken) (sym (c .before .passes .ensures) ∙ not-true _ (c .if1 .taken))
+
+add-i : tie.Need-add-i Inv-loop μ-loop
+add-i c = search needs
+
+loop-less : tie.Need-loop-less Inv-loop μ-loop
+loop-less c = search needs
+
+loop-again : tie.Need-loop-again Inv-loop μ-loop
+loop-again c =
+    items-on _ _ (c .before .before .before .before .loop .i) (c .before .before .before .before .loop .inv) (c .before .before .before .loop-test .taken) (sym (c .before .passes .ensures) ∙ not-false _ (c .if1 .left))
+
+returns-2 : tie.Need-returns-2 Inv-loop μ-loop
+returns-2 c = items-done _ _ (c .before .loop .i) (c .before .loop .inv) (c .loop-test .left)
+
+pub items-pass-spec : {M : Type 1} → statement M
+items-pass-spec =
+    tie.close
+    (tie.spec
+    Inv-loop
+    μ-loop
+    loop-holds
+    mul-passes
+    shared-slice-read-passes
+    passes-requires
+    returns
+    add-i
+    loop-less
+    loop-again
+    returns-2)

@@ -1,0 +1,5 @@
+pub mod Parts
+pub mod Strips
+pub mod Heads
+pub mod Cover
+pub mod Differences
