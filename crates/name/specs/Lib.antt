@@ -1,2 +1,6 @@
 pub mod Label
 pub mod Name
+pub mod Admission
+pub mod Parts
+pub mod Judged
+pub mod Calls

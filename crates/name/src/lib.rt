@@ -1,1 +1,6 @@
-// The label call and the name call.
+// The name call and the label call.
+mod admit;
+mod part;
+mod one;
+pub mod name_call;
+pub mod label_call;

@@ -1,0 +1,96 @@
+-- Refusals 1 to 4: the search for a codepoint that is no scalar value, and the ends of the tests. Assumes nothing.
+use Prim.Native.Nat.{ℕ, suc, _+_, _<_, _≤_}
+use native.Mathlib.Numerals.{add-one}
+use native.Mathlib.Omega.{arith}
+use mathlib.Core.Path.{_≡_, refl, sym, _∙_}
+use mathlib.Core.Bool.{Bool, true, false, not, cond}
+use mathlib.Core.List.{List, [], _∷_}
+use mathlib.Core.Option.{Option, none, some}
+use lib.ListN.{length, getD, drop, drop-of-length-le}
+use lib.Dec.{leb, ltb}
+use borrow.Author.Tests.{lt-leb, le-leb, lt-ltb, le-ltb, leb-true, leb-false}
+use Rattle.lists.specs.Lists.{placeWith, isSome, onSome}
+use Rattle.answers.specs.Verdict.{Verdict, accepted, refused}
+use Rattle.table.specs.Table.{Table}
+use Rattle.table.specs.Layout.{parse}
+use Rattle.table.specs.Laid.{Laid, theTable, layoutOf, sectionsOf}
+use Rattle.table.specs.declared.Sections.{Sections}
+use Rattle.table.specs.declared.Layout.{Layout}
+use Rattle.table.specs.declared.Layout.the-variants.{Fault, Found}
+use Rattle.table.proofs.Lookups.{drop-next}
+use Rattle.table.proofs.SectionLaws.{laid-parse}
+use Rattle.text.specs.Scalar.{isScalar}
+use Rattle.name.specs.Label.{admitted, leastWork, mostInput}
+use Rattle.name.specs.Admission.{Admits}
+
+-- the three ways in which the test of a scalar value ends
+pub scalar-over : (c : ℕ) → 0x10FFFF < c → false ≡ isScalar c
+scalar-over c h = rw (lt-leb c 0x10FFFF h)
+
+pub scalar-low : (c : ℕ) → c ≤ 0x10FFFF → c < 0xD800 → true ≡ isScalar c
+scalar-low c h k = rw (le-leb c 0x10FFFF h, lt-leb 0xD800 c k)
+
+pub scalar-rest : (c : ℕ) → c ≤ 0x10FFFF → 0xD800 ≤ c → ltb 0xDFFF c ≡ isScalar c
+scalar-rest c h k = rw (le-leb c 0x10FFFF h, le-leb 0xD800 c k) (go (leb c 0xDFFF) refl)
+  where
+    go : (b : Bool) → leb c 0xDFFF ≡ b → ltb 0xDFFF c ≡ not b
+    go true e = le-ltb 0xDFFF c (leb-true c 0xDFFF e)
+    go false e = lt-ltb 0xDFFF c (leb-false c 0xDFFF e)
+
+-- none of the first i elements passes the test
+pub record Search (p : ℕ → Bool) (s : List ℕ) (i : ℕ) : Type 0 where
+  pub inside : i ≤ length s
+  pub same : placeWith p 0 s ≡ placeWith p i (drop i s)
+
+module _ (p : ℕ → Bool) (s : List ℕ) where
+  pub search-start : Search p s 0
+  search-start = record { inside = omega arith; same = refl }
+
+  module _ (i : ℕ) (l : Search p s i) where
+    pub search-stop : length s ≤ i → none ≡ placeWith p 0 s
+    search-stop h = sym (l .same ∙ rw (drop-of-length-le s {i = i} h))
+
+    module _ (h : i < length s) where
+      pub search-hit : p (getD s i 0) ≡ true → some i ≡ placeWith p 0 s
+      search-hit e = sym (l .same ∙ rw (drop-next s i h, e))
+
+      pub search-more : p (getD s i 0) ≡ false → Search p s (i + 1)
+      search-more e = record { inside = omega arith; same = l .same ∙ rw (drop-next s i h, e, add-one i) }
+
+module _ (words input : List ℕ) (work : ℕ) where
+  -- 1
+  pub admitted-fault : Fault ≡ layoutOf words → admitted words work input ≡ refused 1 0
+  unfolding layoutOf admitted
+  admitted-fault e = go (parse words) refl e
+    where
+      go : (o : Option Table) → parse words ≡ o → Fault ≡ cond (isSome o) (Found (sectionsOf words)) Fault → admitted words work input ≡ refused 1 0
+      go none f g = rw f
+      go (some t) f g = absurd (let z : _≡_ {A = ℕ} 0 1 = cc in omega arith)
+
+  module _ (ix : Sections) (laid : Laid words ix) where
+    -- 2
+    pub admitted-work : work < leastWork → admitted words work input ≡ refused 2 0
+    unfolding admitted
+    admitted-work h = rw (laid-parse words ix laid, lt-ltb work leastWork h)
+
+    module _ (h : leastWork ≤ work) where
+      -- 3
+      pub admitted-long : mostInput < length input → admitted words work input ≡ refused 3 0
+      unfolding admitted
+      admitted-long k = rw (laid-parse words ix laid, le-ltb work leastWork h, lt-ltb mostInput (length input) k)
+
+      module _ (k : length input ≤ mostInput) where
+        -- 4
+        pub admitted-scalar : (i : ℕ) → some i ≡ placeWith (λ c. not (isScalar c)) 0 input → admitted words work input ≡ refused 4 i
+        unfolding admitted
+        admitted-scalar i e = rw (laid-parse words ix laid, le-ltb work leastWork h, le-ltb mostInput (length input) k, ← e)
+
+        pub admitted-all : none ≡ placeWith (λ c. not (isScalar c)) 0 input → Admits words input work ix
+        unfolding admitted
+        admitted-all e =
+            record {
+              admits = rw (laid-parse words ix laid, le-ltb work leastWork h, le-ltb mostInput (length input) k, ← e);
+              laid = laid;
+              enough = h;
+              short = k;
+            }

@@ -1,0 +1,78 @@
+-- `judge_tokens`: each return is one end of the tests 6 to 14. Assumes nothing.
+use native.Mathlib.Omega.{arith}
+use mathlib.Core.Path.{_≡_}
+use mathlib.Core.Bool.{true}
+use mathlib.Core.Logic.{_⊎_, inl, inr, ⊎-elim}
+use borrow.Author.Tests.{not-true, not-false}
+use borrow.Author.Needs.{needs}
+use Rattle.tokens.proofs.normal.normalise.Reads as normalise-reads
+use Rattle.name.proofs.Judging.{tokens-none, tokens-long, tokens-over, tokens-refused, tokens-accepted}
+use Rattle.name.proofs.one.judge_tokens.Statement.{statement}
+use Rattle.name.proofs.one.judge_tokens.Tie as tie
+use Rattle.name.proofs.one.judge_tokens.Reads as reads
+use Rattle.name.proofs.one.judge_tokens.Lts as lts
+use Rattle.name.proofs.one.judge_cells.Reads as judge-cells-reads
+
+-- there are tokens, once 6 has not been given
+here : (c : tie.Joined1) → (c .before .before .before .before .args .tally .emoji ≡ true) ⊎ (c .before .before .before .before .args .tally .text ≡ true)
+here c = ⊎-elim (λ w. inr (not-false _ (w .2 .left))) (λ w. inl (not-false _ (w .left))) (c .if1 .came)
+
+returns : tie.Need-returns
+returns c = tokens-none _ _ _ _ _ (not-true _ (c .before .before .if1 .taken)) (not-true _ (c .if2 .taken))
+
+returns-2 : tie.Need-returns-2
+returns-2 c = tokens-over _ _ _ _ _ (here (c .before .before)) (c .if3 .taken)
+
+add-if4 : tie.Need-add-if4
+add-if4 c = search needs
+
+returns-3 : tie.Need-returns-3
+returns-3 c = tokens-long _ _ _ _ _ (here (c .before .before .before .before)) (c .if4 .taken)
+
+normalise-requires : tie.Need-normalise-requires
+normalise-requires c κs = search needs
+
+judge-cells-requires : tie.Need-judge-cells-requires
+judge-cells-requires c κs =
+    let m = c .before .before .before .normalise .ensures in
+    let p = c .before .before .before .before .before .before .before .before .before .before .before .before .before .pre in
+    (p .0, (omega (arith, m .same, p .1 .0), omega (arith, m .few)))
+
+enum-known-judged : tie.Need-enum-known-judged
+enum-known-judged c = search needs
+
+enum-known-judged-2 : tie.Need-enum-known-judged-2
+enum-known-judged-2 c = search needs
+
+same-length : tie.Need-same-length
+same-length c = search needs
+
+returns-4 : tie.Need-returns-4
+returns-4 c =
+    let s = c .before .before .before .before .before .before .before .before .before .before .before in
+    tokens-accepted _ _ _ _ _ (here (s .before .before .before .before)) (s .if4 .left) _ _ _ (c .before .before .before .before .before .before .before .before .before .normalise .ensures) _ (c .before .before .before .before .before .judge-cells .ensures) _ (c .before .judged .given .1)
+
+same-length-2 : tie.Need-same-length-2
+same-length-2 c = search needs
+
+returns-5 : tie.Need-returns-5
+returns-5 c =
+    let s = c .before .before .before .before .before .before .before .before .before .before .before in
+    tokens-refused _ _ _ _ _ (here (s .before .before .before .before)) (s .if4 .left) _ _ _ (c .before .before .before .before .before .before .before .before .before .normalise .ensures) _ (c .before .before .before .before .before .judge-cells .ensures) _ (c .before .judged2 .given .1)
+
+pub judge-tokens-spec : {M : Type 1} → statement M
+judge-tokens-spec =
+    tie.close
+    (tie.spec
+    returns
+    returns-2
+    add-if4
+    returns-3
+    normalise-requires
+    judge-cells-requires
+    enum-known-judged
+    enum-known-judged-2
+    same-length
+    returns-4
+    same-length-2
+    returns-5)

@@ -1,0 +1,80 @@
+// The label call: its answer, and each word of both buffers.
+use answers::LabelAnswer;
+use answers::Refusal;
+use crate::admit::Admission;
+use crate::admit::admit;
+use crate::one::Judgement;
+use crate::one::judge_label;
+use crate::part::label_end;
+use crate::part::put_label;
+use table::Sections;
+use tokens::scan::Scanned;
+use tokens::scan::scan;
+ghost use Prim.Native.Nat.{_≤_};
+ghost use lib.ListN.{length};
+ghost use Rattle.table.specs.Laid.{Laid, theTable};
+ghost use Rattle.name.specs.Label.{oneLabel};
+ghost use Rattle.name.specs.Calls.{LabelCalls, LabelJudged, BeforeStop, labelBefore15};
+
+// The place of refusal 5 in a part that a stop stands behind: in the part, or at the stop.
+fn before_stop(words: &[u32], ix: Sections, part: &[u32], w: &mut [u32]) -> usize
+    requires { ⌜ Laid (now words) ix ⌝ }
+    requires { ⌜ (2048 ≤ length (now w)) × (length (now part) ≤ 4096) ⌝ }
+    ensures { λ r. ⌜ BeforeStop (theTable (now (words .entry))) (now (part .entry)) (now (w .entry)) (now (w .exit)) r ⌝ }
+{
+    let scanned = scan(words, ix, part, w);
+    match scanned {
+        Scanned::Disallowed(i) => i,
+        Scanned::Tokens(_) => part.len(),
+    }
+}
+
+// Judges the one label of the label call: a stop in it is refused as 5.
+fn judge_one(words: &[u32], ix: Sections, input: &[u32], answer: &mut [u32], w: &mut [u32]) -> LabelAnswer
+    requires { ⌜ Laid (now words) ix ⌝ }
+    requires { ⌜ (2048 ≤ length (now w)) × (length (now input) ≤ 4096) ⌝ }
+    ensures { λ r. ⌜ LabelJudged (oneLabel (theTable (now (words .entry))) (now (input .entry))) (now (answer .entry)) (now (answer .exit)) (now (w .entry)) (now (w .exit)) r ⌝ }
+{
+    let end = label_end(input, 0);
+    if end < input.len() {
+        let at = before_stop(words, ix, &input[..end], w);
+        return LabelAnswer::Refused(Refusal::Disallowed(at));
+    }
+    let judged = judge_label(words, ix, input, 0, 0, 0, w);
+    match judged {
+        Judgement::Accepted { length, kind, worked: _ } => {
+            let end = put_label(answer, 0, true, &w[..length]);
+            LabelAnswer::Accepted { length: end, kind }
+        }
+        Judgement::Refused(f) => LabelAnswer::Refused(f),
+    }
+}
+
+// Judges a label as far as 14.
+fn judge_input(words: &[u32], input: &[u32], answer: &mut [u32], work: &mut [u32]) -> LabelAnswer
+    ensures { λ r. ⌜ LabelJudged (labelBefore15 (now (words .entry)) (now (input .entry)) (length (now (work .entry)))) (now (answer .entry)) (now (answer .exit)) (now (work .entry)) (now (work .exit)) r ⌝ }
+{
+    let admitted = admit(words, input, work.len());
+    match admitted {
+        Admission::Found(ix) => judge_one(words, ix, input, answer, work),
+        Admission::Refused(f) => LabelAnswer::Refused(f),
+    }
+}
+
+// Normalises one label into `answer`, and answers its length and its kind; both buffers are left as by the name call.
+pub fn label(input: &[u32], words: &[u32], answer: &mut [u32], work: &mut [u32]) -> LabelAnswer
+    ensures { λ r. ⌜ LabelCalls (now (words .entry)) (now (input .entry)) (now (answer .entry)) (now (answer .exit)) (now (work .entry)) (now (work .exit)) r ⌝ }
+{
+    let judged = judge_input(words, input, answer, work);
+    buffers::clear(work);
+    let LabelAnswer::Accepted { length, kind: _ } = judged else {
+        buffers::clear(answer);
+        return judged;
+    };
+    if length > answer.len() {
+        buffers::clear(answer);
+        return LabelAnswer::Refused(Refusal::BufferTooSmall);
+    }
+    buffers::clear(&mut answer[length..]);
+    judged
+}
