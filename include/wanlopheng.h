@@ -24,6 +24,33 @@ struct wanlopheng_unpack {
 /* Unpacks a table file. After success the answer holds the file's words and then zeros, after a refusal zeros alone. */
 struct wanlopheng_unpack wanlopheng_unpack(const uint8_t *file, size_t file_length, uint32_t *answer, size_t answer_length);
 
+/* What the name call answers. */
+struct wanlopheng_name {
+    uint32_t number; /* 0: accepted. 1 to 15: the refusal. */
+    size_t place;    /* the place of the refusal: an index of the name for 4 and 5, a label for 6 to 14, else 0 */
+    size_t length;   /* the length of the normal form; 0 beside a refusal */
+    size_t labels;   /* the number of labels; 0 beside a refusal */
+};
+
+/* Normalises a name. After success the answer holds the normal form and then zeros, after a refusal zeros alone; the work area,
+ * of at least 2,048 words, holds zeros either way. An answer of 1,024 words holds every normal form. */
+struct wanlopheng_name wanlopheng_name(const uint32_t *input, size_t input_length, const uint32_t *words, size_t words_length,
+                                       uint32_t *answer, size_t answer_length, uint32_t *work, size_t work_length);
+
+/* What the label call answers. */
+struct wanlopheng_label {
+    uint32_t number;     /* 0: accepted. 1 to 15: the refusal. */
+    size_t place;        /* the place of the refusal: an index of the label for 4 and 5, else 0 */
+    size_t length;       /* the length of the normal form; 0 beside a refusal */
+    uint32_t kind;       /* 1: emoji. 2: ASCII. 3: a group. 0 beside a refusal. */
+    size_t group;        /* the number of the group, counted from 0; 0 for other kinds */
+    uint32_t restricted; /* 1: the group is restricted */
+};
+
+/* Normalises one label; the buffers as for a name. */
+struct wanlopheng_label wanlopheng_label(const uint32_t *input, size_t input_length, const uint32_t *words, size_t words_length,
+                                         uint32_t *answer, size_t answer_length, uint32_t *work, size_t work_length);
+
 /* 1 where the words of a table have a layout fault, 0 where they hold a table. */
 uint32_t wanlopheng_layout_fault(const uint32_t *words, size_t words_length);
 

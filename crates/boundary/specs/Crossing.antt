@@ -8,7 +8,12 @@ use Rattle.lists.specs.Lists.{isSome}
 use Rattle.answers.specs.Values.{UnpackValues}
 use Rattle.unpack.specs.Unpack.{unpackCall}
 use Rattle.table.specs.Layout.{parse}
+use Rattle.name.specs.Label.{labelCall}
+use Rattle.name.specs.Name.{nameCall}
 use Rattle.boundary.specs.declared.WanlophengUnpack.{WanlophengUnpack}
+use Rattle.boundary.specs.declared.fields.WanlophengName.{WanlophengName}
+use Rattle.boundary.specs.declared.fields.WanlophengLabel.{WanlophengLabel}
+use Rattle.boundary.specs.Fields.{nameFields, labelFields, labelNumbers}
 
 -- the values that the fields stand for
 abbrev pub unpackFields : WanlophengUnpack → UnpackValues
@@ -18,6 +23,18 @@ unpackFields r = record { number = r .number; count = r .count }
 pub record UnpackCrosses (file before after : List ℕ) (r : WanlophengUnpack) : Type 0 where
   pub values : unpackFields r ≡ unpackCall file (length before) .values
   pub answer : after ≡ unpackCall file (length before) .answer
+
+-- The name call: every field of its answer r, and every word of both buffers.
+pub record NameCrosses (words input before after work work′ : List ℕ) (r : WanlophengName) : Type 0 where
+  pub values : nameFields r ≡ nameCall words input (length before) (length work) .values
+  pub answer : after ≡ nameCall words input (length before) (length work) .answer
+  pub cleared : work′ ≡ nameCall words input (length before) (length work) .work
+
+-- The label call: the same.
+pub record LabelCrosses (words input before after work work′ : List ℕ) (r : WanlophengLabel) : Type 0 where
+  pub values : labelFields r ≡ labelNumbers (labelCall words input (length before) (length work) .values)
+  pub answer : after ≡ labelCall words input (length before) (length work) .answer
+  pub cleared : work′ ≡ labelCall words input (length before) (length work) .work
 
 -- 1 where the words have a layout fault, 0 where they hold a table
 unfoldable pub layoutFault : List ℕ → ℕ

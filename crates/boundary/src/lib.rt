@@ -3,10 +3,11 @@
 pub mod fields;
 
 use answers::Unpacked;
+use crate::fields::{WanlophengLabel, WanlophengName, label_fields, name_fields};
 use table::Layout;
 ghost use mathlib.Core.Path.{_≡_};
 ghost use Rattle.answers.specs.Values.{unpackValues};
-ghost use Rattle.boundary.specs.Crossing.{unpackFields, UnpackCrosses, layoutFault};
+ghost use Rattle.boundary.specs.Crossing.{unpackFields, UnpackCrosses, NameCrosses, LabelCrosses, layoutFault};
 
 // The refusal number, 0 where the file is unpacked, and the number of words.
 #[repr(C)]
@@ -42,6 +43,24 @@ pub extern "C" fn wanlopheng_unpack(file: &[u8], answer: &mut [u32]) -> Wanlophe
 {
     let found = unpack::unpack(file, answer);
     unpack_fields(found)
+}
+
+// Normalises a name.
+#[no_mangle]
+pub extern "C" fn wanlopheng_name(input: &[u32], words: &[u32], answer: &mut [u32], work: &mut [u32]) -> WanlophengName
+    ensures { λ r. ⌜ NameCrosses (now (words .entry)) (now (input .entry)) (now (answer .entry)) (now (answer .exit)) (now (work .entry)) (now (work .exit)) r ⌝ }
+{
+    let found = name::call::name(input, words, answer, work);
+    name_fields(found)
+}
+
+// Normalises one label.
+#[no_mangle]
+pub extern "C" fn wanlopheng_label(input: &[u32], words: &[u32], answer: &mut [u32], work: &mut [u32]) -> WanlophengLabel
+    ensures { λ r. ⌜ LabelCrosses (now (words .entry)) (now (input .entry)) (now (answer .entry)) (now (answer .exit)) (now (work .entry)) (now (work .exit)) r ⌝ }
+{
+    let found = name::call::label(input, words, answer, work);
+    label_fields(found)
 }
 
 // Whether the words of a table have a layout fault: 1 where they do, 0 where they hold a table.

@@ -32,3 +32,87 @@ pub fn layout_fault(words: &[u32]) -> bool {
     let fault = unsafe { raw::wanlopheng_layout_fault(words.as_ptr(), words.len()) };
     fault != 0
 }
+
+/// What the name call answers. `number` is 0, or the number of the refusal;
+/// beside a refusal `length` and `labels` are 0.
+#[derive(Clone, Copy, Debug, PartialEq, Eq)]
+pub struct Name {
+    pub number: u32,
+    pub place: usize,
+    pub length: usize,
+    pub labels: usize,
+}
+
+/// What a label consists of.
+#[derive(Clone, Copy, Debug, PartialEq, Eq)]
+pub enum Kind {
+    Emoji,
+    Ascii,
+    Group { number: usize, restricted: bool },
+}
+
+/// What the label call answers. `number` is 0, or the number of the refusal;
+/// beside a refusal `length` is 0 and there is no kind.
+#[derive(Clone, Copy, Debug, PartialEq, Eq)]
+pub struct Label {
+    pub number: u32,
+    pub place: usize,
+    pub length: usize,
+    pub kind: Option<Kind>,
+}
+
+/// Normalises a name. After success `answer` holds the normal form and then
+/// zeros, after a refusal zeros; `work` holds zeros either way.
+pub fn name(input: &[u32], table: &[u32], answer: &mut [u32], work: &mut [u32]) -> Name {
+    // SAFETY: the slices are lent for the call, each with its own length.
+    let r = unsafe {
+        raw::wanlopheng_name(
+            input.as_ptr(),
+            input.len(),
+            table.as_ptr(),
+            table.len(),
+            answer.as_mut_ptr(),
+            answer.len(),
+            work.as_mut_ptr(),
+            work.len(),
+        )
+    };
+    Name {
+        number: r.number,
+        place: r.place,
+        length: r.length,
+        labels: r.labels,
+    }
+}
+
+/// Normalises one label; the buffers as for a name.
+pub fn label(input: &[u32], table: &[u32], answer: &mut [u32], work: &mut [u32]) -> Label {
+    // SAFETY: the slices are lent for the call, each with its own length.
+    let r = unsafe {
+        raw::wanlopheng_label(
+            input.as_ptr(),
+            input.len(),
+            table.as_ptr(),
+            table.len(),
+            answer.as_mut_ptr(),
+            answer.len(),
+            work.as_mut_ptr(),
+            work.len(),
+        )
+    };
+    let kind = match r.kind {
+        1 => Some(Kind::Emoji),
+        2 => Some(Kind::Ascii),
+        3 => Some(Kind::Group {
+            number: r.group,
+            restricted: r.restricted != 0,
+        }),
+        _ => None,
+    };
+    Label {
+        number: r.number,
+        place: r.place,
+        length: r.length,
+        kind,
+    }
+}
