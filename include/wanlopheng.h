@@ -51,6 +51,9 @@ struct wanlopheng_label {
 struct wanlopheng_label wanlopheng_label(const uint32_t *input, size_t input_length, const uint32_t *words, size_t words_length,
                                          uint32_t *answer, size_t answer_length, uint32_t *work, size_t work_length);
 
+/* Checks the words of a table for soundness: 0 is a layout fault, 1 to 7 the lowest broken rule, 8 sound. */
+uint32_t wanlopheng_soundness(const uint32_t *words, size_t words_length);
+
 /* 1 where the words of a table have a layout fault, 0 where they hold a table. */
 uint32_t wanlopheng_layout_fault(const uint32_t *words, size_t words_length);
 

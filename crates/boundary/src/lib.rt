@@ -2,11 +2,17 @@
 // A slice crosses as a pointer and a number of elements, an answer as a struct of plain numbers.
 pub mod fields;
 
+use crate::fields::WanlophengLabel;
+use crate::fields::WanlophengName;
+use crate::fields::label_fields;
+use crate::fields::name_fields;
+use crate::fields::soundness_number;
 use answers::Unpacked;
-use crate::fields::{WanlophengLabel, WanlophengName, label_fields, name_fields};
 use table::Layout;
 ghost use mathlib.Core.Path.{_≡_};
 ghost use Rattle.answers.specs.Values.{unpackValues};
+ghost use Rattle.soundness.specs.Soundness.{soundnessOf};
+ghost use Rattle.boundary.specs.Fields.{soundnessNumber};
 ghost use Rattle.boundary.specs.Crossing.{unpackFields, UnpackCrosses, NameCrosses, LabelCrosses, layoutFault};
 
 // The refusal number, 0 where the file is unpacked, and the number of words.
@@ -47,20 +53,39 @@ pub extern "C" fn wanlopheng_unpack(file: &[u8], answer: &mut [u32]) -> Wanlophe
 
 // Normalises a name.
 #[no_mangle]
-pub extern "C" fn wanlopheng_name(input: &[u32], words: &[u32], answer: &mut [u32], work: &mut [u32]) -> WanlophengName
+pub extern "C" fn wanlopheng_name(
+    input: &[u32],
+    words: &[u32],
+    answer: &mut [u32],
+    work: &mut [u32],
+) -> WanlophengName
     ensures { λ r. ⌜ NameCrosses (now (words .entry)) (now (input .entry)) (now (answer .entry)) (now (answer .exit)) (now (work .entry)) (now (work .exit)) r ⌝ }
 {
-    let found = name::call::name(input, words, answer, work);
+    let found = name::name_call::name(input, words, answer, work);
     name_fields(found)
 }
 
 // Normalises one label.
 #[no_mangle]
-pub extern "C" fn wanlopheng_label(input: &[u32], words: &[u32], answer: &mut [u32], work: &mut [u32]) -> WanlophengLabel
+pub extern "C" fn wanlopheng_label(
+    input: &[u32],
+    words: &[u32],
+    answer: &mut [u32],
+    work: &mut [u32],
+) -> WanlophengLabel
     ensures { λ r. ⌜ LabelCrosses (now (words .entry)) (now (input .entry)) (now (answer .entry)) (now (answer .exit)) (now (work .entry)) (now (work .exit)) r ⌝ }
 {
-    let found = name::call::label(input, words, answer, work);
+    let found = name::label_call::label(input, words, answer, work);
     label_fields(found)
+}
+
+// Checks a table for soundness: 0 to 7 is the lowest broken rule, 8 is sound.
+#[no_mangle]
+pub extern "C" fn wanlopheng_soundness(words: &[u32]) -> u32
+    ensures { λ r. ⌜ r ≡ soundnessNumber (soundnessOf (now (words .entry))) ⌝ }
+{
+    let found = sound_check::soundness(words);
+    soundness_number(found)
 }
 
 // Whether the words of a table have a layout fault: 1 where they do, 0 where they hold a table.

@@ -144,9 +144,9 @@ module _ (t : Table) (done place : ℕ) (k : Tally) (w : List ℕ) where
       verdict-is : (ts : List Token) → Parted ts → Tallied t ts w k → judge t place (normal t ts) ≡ verdictOf r
       verdict-is ts p a =
           let at : judgeAt t place (codesIn v n) (marksIn v n) (any isEmoji (normal t ts)) (anyText (normal t ts)) ≡ judge t place (normal t ts) =
-              judge-cells t place (normal t ts) v n (cells ts a) (normal-parted t ts p) in
+          judge-cells t place (normal t ts) v n (cells ts a) (normal-parted t ts p) in
           let there : judgeAt t place (codesIn v n) (marksIn v n) (k .emoji) (k .text) ≡ judge t place (normal t ts) =
-              rw (emoji-kept t ts, text-kept t ts, ← a .emoji, ← a .text) at at in
+          rw (emoji-kept t ts, text-kept t ts, ← a .emoji, ← a .text) at at in
           sym there ∙ sym (j .verdict)
 
       judged-is : (ts : List Token) → Parted ts → Tallied t ts w k
@@ -165,19 +165,19 @@ module _ (t : Table) (done place : ℕ) (k : Tally) (w : List ℕ) where
           record {
             same = same-size;
             is =
-              λ ts p a.
-              let front : take n x ≡ take n v =
-                  sym (take-take n mostWorked x (cells ts a .few)) ∙ ap (λ (y : List ℕ). take n y) (j .kept) ∙ take-take n mostWorked v (cells ts a .few) in
-              record {
-                label = record { tokens = normal t ts; kind = kind; worked = worked t ts };
-                verdict = judged-is ts p a ∙ rw e;
-                few = cells ts a .few;
-                count = cells ts a .count;
-                words = front ∙ cells ts a .words;
-                kind = refl;
-                long = a .worked;
-                room = h;
-              };
+                λ ts p a.
+                let front : take n x ≡ take n v =
+                sym (take-take n mostWorked x (cells ts a .few)) ∙ ap (λ (y : List ℕ). take n y) (j .kept) ∙ take-take n mostWorked v (cells ts a .few) in
+                record {
+                  label = record { tokens = normal t ts; kind = kind; worked = worked t ts };
+                  verdict = judged-is ts p a ∙ rw e;
+                  few = cells ts a .few;
+                  count = cells ts a .count;
+                  words = front ∙ cells ts a .words;
+                  kind = refl;
+                  long = a .worked;
+                  room = h;
+                };
           }
 
 -- whether 13 does not apply, asked only where the group is not whitelisted

@@ -107,7 +107,7 @@ module _ (name : List ℕ) (at end : ℕ) (l : LabelEnds name at end) where
       go true e =
           let h : end < length name = omega (arith, leb-true (end + 1) (length name) e) in
           let parts : split stop (drop at name) ≡ split stop (labelAt name at end) ++ split stop (drop (end + 1) name) =
-              ap (split stop) (label-stop h) ∙ split-joined stop (labelAt name at end) (drop (end + 1) name) in
+          ap (split stop) (label-stop h) ∙ split-joined stop (labelAt name at end) (drop (end + 1) name) in
           rw (inside, parts, split-last (labelAt name at end) (l .none))
       go false e =
           let h : length name ≤ end = omega (arith, leb-false (end + 1) (length name) e) in
@@ -167,14 +167,14 @@ module _ (before mid : List ℕ) (at : ℕ) (first : Bool) (from : ℕ) (p : Put
     put-copied part h e =
         let front : length (take from mid) ≡ from = length-take-le from mid (omega arith) in
         let whole : putMid from (length mid - from) mid part ≡ take from mid ++ (label ++ drop (length label) (drop from mid)) =
-            put-tail from mid part ∙ ap (λ (x : List ℕ). take from mid ++ x) (e ∙ rw (mid-tail from mid)) in
+        put-tail from mid part ∙ ap (λ (x : List ℕ). take from mid ++ x) (e ∙ rw (mid-tail from mid)) in
         let sum : from + length label ≡ length (take from mid ++ label) = rw (length-append, front) in
         let taken : take (from + length label) (take from mid ++ (label ++ drop (length label) (drop from mid))) ≡ take from mid ++ label =
-            rw (← append-assoc, sum) (take-append-seam (take from mid ++ label) (drop (length label) (drop from mid))) in
+        rw (← append-assoc, sum) (take-append-seam (take from mid ++ label) (drop (length label) (drop from mid))) in
         record {
           same = ap length whole ∙ rw (length-append, length-append, front, length-drop, length-drop) (omega (arith, p .same));
           ends = ends;
           written = λ k.
-            ap (λ (x : List ℕ). take (from + length label) x) whole ∙ taken
-            ∙ rw (p .written (omega (arith, p .same)), append-assoc, append-nil) refl;
+              ap (λ (x : List ℕ). take (from + length label) x) whole ∙ taken
+              ∙ rw (p .written (omega (arith, p .same)), append-assoc, append-nil) refl;
         }

@@ -141,13 +141,13 @@ module _ (t : Table) (input before w₀ : List ℕ) where
           same = l .same;
           same-work = l .same-work;
           is =
-            record {
-              labels = l .so-far;
-              verdict = l .verdict ∙ rw (rest, append-nil);
-              long = l .long;
-              written = λ k. l .written (omega (arith, l .same));
-              counted = sym (l .parts ∙ rw rest (omega arith));
-            };
+              record {
+                labels = l .so-far;
+                verdict = l .verdict ∙ rw (rest, append-nil);
+                long = l .long;
+                written = λ k. l .written (omega (arith, l .same));
+                counted = sym (l .parts ∙ rw rest (omega arith));
+              };
         }
 
     module _ (end : ℕ) (e : LabelEnds input at end) (w′ : List ℕ) (r : Judgement) (j : Judges t at done place (labelAt input at end) w w′ r) where
@@ -157,9 +157,9 @@ module _ (t : Table) (input before w₀ : List ℕ) where
             same = l .same;
             same-work = j .same ∙ l .same-work;
             is =
-              l .verdict ∙ rw (parts-next input at end e)
-              (labels-refused t at done place (labelAt input at end) (partsFrom input (end + 1)) (l .so-far) (numberOf f) (placeOf f)
-              (judged-refused t at done place (labelAt input at end) w w′ r f er j));
+                l .verdict ∙ rw (parts-next input at end e)
+                (labels-refused t at done place (labelAt input at end) (partsFrom input (end + 1)) (l .so-far) (numberOf f) (placeOf f)
+                (judged-refused t at done place (labelAt input at end) w w′ r f er j));
           }
 
       pub pass-more : (n : ℕ) (k : Kind) (worked : ℕ) → r ≡ Accepted n k worked → (after′ : List ℕ) (len′ : ℕ)
@@ -170,23 +170,23 @@ module _ (t : Table) (input before w₀ : List ℕ) where
           let xs : List Label = l .so-far in
           let size : length (labelAt input at end) ≡ end - at = label-length input at end e in
           let more : nameAnswer (xs ++ x ∷ []) ≡ nameAnswer xs ++ (between (eqb place 0) ++ take n w′) =
-              answer-more xs x ∙ ap (λ (b : Bool). nameAnswer xs ++ (between b ++ answer x)) (ap (λ (m : ℕ). eqb m 0) (sym (l .counted)))
-              ∙ ap (λ (y : List ℕ). nameAnswer xs ++ (between (eqb place 0) ++ y)) (sym (a .words)) in
+          answer-more xs x ∙ ap (λ (b : Bool). nameAnswer xs ++ (between b ++ answer x)) (ap (λ (m : ℕ). eqb m 0) (sym (l .counted)))
+          ∙ ap (λ (y : List ℕ). nameAnswer xs ++ (between (eqb place 0) ++ y)) (sym (a .words)) in
           let count : length (take n w′) ≡ n = ap length (a .words) ∙ sym (a .count) in
           let total : length (nameAnswer (xs ++ x ∷ [])) ≡ length (nameAnswer xs) + length (between (eqb place 0) ++ take n w′) =
-              ap length more ∙ length-append (nameAnswer xs) (between (eqb place 0) ++ take n w′) in
+          ap length more ∙ length-append (nameAnswer xs) (between (eqb place 0) ++ take n w′) in
           let long : len′ ≡ length (nameAnswer (xs ++ x ∷ [])) = omega (arith, p .ends, l .long, total) in
           record {
             so-far = xs ++ x ∷ [];
             verdict =
-              l .verdict ∙ rw (parts-next input at end e)
-              (labels-more t at done place (labelAt input at end) (partsFrom input (end + 1)) xs x (end + 1) (done + (worked + 1)) (place + 1)
-              (a .verdict) (omega (arith, size, e .from)) (omega (arith, a .long)) (omega arith));
+                l .verdict ∙ rw (parts-next input at end e)
+                (labels-more t at done place (labelAt input at end) (partsFrom input (end + 1)) xs x (end + 1) (done + (worked + 1)) (place + 1)
+                (a .verdict) (omega (arith, size, e .from)) (omega (arith, a .long)) (omega arith));
             counted = rw length-append (omega (arith, l .counted));
             parts = l .parts ∙ rw (parts-next input at end e) (omega arith);
             long = long;
             written = λ h.
-              p .written (omega (arith, l .same)) ∙ rw (l .written (omega (arith, p .ends))) (sym more);
+                p .written (omega (arith, l .same)) ∙ rw (l .written (omega (arith, p .ends))) (sym more);
             same = p .same ∙ l .same;
             same-work = j .same ∙ l .same-work;
             inside = omega (arith, e .to);
@@ -250,11 +250,11 @@ module _ (t : Table) (input before w₀ : List ℕ) where
             same = p .same;
             same-work = j .same;
             is =
-              record {
-                label = a .label;
-                verdict = whole ∙ a .verdict;
-                long = sum ∙ ap length (a .words);
-                written = λ q. p .written (omega (arith, p .same)) ∙ a .words;
-                kind = a .kind;
-              };
+                record {
+                  label = a .label;
+                  verdict = whole ∙ a .verdict;
+                  long = sum ∙ ap length (a .words);
+                  written = λ q. p .written (omega (arith, p .same)) ∙ a .words;
+                  kind = a .kind;
+                };
           }

@@ -1,6 +1,7 @@
 // Refusals 1 to 4, "tried in order over the whole name".
 use answers::Refusal;
-use table::{Layout, Sections};
+use table::Layout;
+use table::Sections;
 ghost use mathlib.Core.Path.{_≡_};
 ghost use mathlib.Core.Bool.{not};
 ghost use Rattle.lists.specs.Lists.{placeWith};

@@ -1,12 +1,12 @@
 // The label call: its answer, and each word of both buffers.
-use answers::LabelAnswer;
-use answers::Refusal;
 use crate::admit::Admission;
 use crate::admit::admit;
 use crate::one::Judgement;
 use crate::one::judge_label;
 use crate::part::label_end;
 use crate::part::put_label;
+use answers::LabelAnswer;
+use answers::Refusal;
 use table::Sections;
 use tokens::scan::Scanned;
 use tokens::scan::scan;
@@ -30,7 +30,13 @@ fn before_stop(words: &[u32], ix: Sections, part: &[u32], w: &mut [u32]) -> usiz
 }
 
 // Judges the one label of the label call: a stop in it is refused as 5.
-fn judge_one(words: &[u32], ix: Sections, input: &[u32], answer: &mut [u32], w: &mut [u32]) -> LabelAnswer
+fn judge_one(
+    words: &[u32],
+    ix: Sections,
+    input: &[u32],
+    answer: &mut [u32],
+    w: &mut [u32],
+) -> LabelAnswer
     requires { ⌜ Laid (now words) ix ⌝ }
     requires { ⌜ (2048 ≤ length (now w)) × (length (now input) ≤ 4096) ⌝ }
     ensures { λ r. ⌜ LabelJudged (oneLabel (theTable (now (words .entry))) (now (input .entry))) (now (answer .entry)) (now (answer .exit)) (now (w .entry)) (now (w .exit)) r ⌝ }
@@ -42,7 +48,11 @@ fn judge_one(words: &[u32], ix: Sections, input: &[u32], answer: &mut [u32], w: 
     }
     let judged = judge_label(words, ix, input, 0, 0, 0, w);
     match judged {
-        Judgement::Accepted { length, kind, worked: _ } => {
+        Judgement::Accepted {
+            length,
+            kind,
+            worked: _,
+        } => {
             let end = put_label(answer, 0, true, &w[..length]);
             LabelAnswer::Accepted { length: end, kind }
         }

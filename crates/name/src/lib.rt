@@ -1,6 +1,6 @@
 // The name call and the label call.
 mod admit;
-mod part;
-mod one;
-pub mod name_call;
 pub mod label_call;
+pub mod name_call;
+mod one;
+mod part;

@@ -1,12 +1,12 @@
 // The name call: its answer, and each word of both buffers.
-use answers::NameAnswer;
-use answers::Refusal;
 use crate::admit::Admission;
 use crate::admit::admit;
 use crate::one::Judgement;
 use crate::one::judge_label;
 use crate::part::label_end;
 use crate::part::put_label;
+use answers::NameAnswer;
+use answers::Refusal;
 use table::Sections;
 ghost use Prim.Native.Nat.{_≤_};
 ghost use lib.ListN.{length};
@@ -15,7 +15,13 @@ ghost use Rattle.name.specs.Name.{labelsOf, labelsVerdict};
 ghost use Rattle.name.specs.Calls.{NameCalls, NameJudged, nameBefore15};
 
 // Judges the labels of a name from the left, and writes the answer of each into the part behind the last stop.
-fn judge_labels(words: &[u32], ix: Sections, name: &[u32], answer: &mut [u32], w: &mut [u32]) -> NameAnswer
+fn judge_labels(
+    words: &[u32],
+    ix: Sections,
+    name: &[u32],
+    answer: &mut [u32],
+    w: &mut [u32],
+) -> NameAnswer
     requires { ⌜ Laid (now words) ix ⌝ }
     requires { ⌜ (2048 ≤ length (now w)) × (length (now name) ≤ 4096) ⌝ }
     ensures { λ r. ⌜ NameJudged (now (name .entry)) (labelsVerdict (theTable (now (words .entry))) 0 0 0 (labelsOf (now (name .entry)))) (now (answer .entry)) (now (answer .exit)) (now (w .entry)) (now (w .exit)) r ⌝ }
@@ -31,7 +37,11 @@ fn judge_labels(words: &[u32], ix: Sections, name: &[u32], answer: &mut [u32], w
         let end = label_end(name, at);
         let judged = judge_label(words, ix, &name[at..end], at, done, place, w);
         match judged {
-            Judgement::Accepted { length, kind: _, worked } => {
+            Judgement::Accepted {
+                length,
+                kind: _,
+                worked,
+            } => {
                 len = put_label(answer, len, place == 0, &w[..length]);
                 done += worked + 1;
                 place += 1;

@@ -29,7 +29,15 @@ pub enum Judgement {
 }
 
 // 13 and 14, in the group that holds the text.
-fn judge_in_group(words: &[u32], ix: Sections, text: &[u32], number: usize, restricted: bool, whitelisted: bool, place: usize) -> Judged
+fn judge_in_group(
+    words: &[u32],
+    ix: Sections,
+    text: &[u32],
+    number: usize,
+    restricted: bool,
+    whitelisted: bool,
+    place: usize,
+) -> Judged
     requires { ⌜ Laid (now words) ix ⌝ }
     ensures { λ r. ⌜ verdictOf r ≡ inGroup (theTable (now (words .entry))) place (now (text .entry)) number restricted whitelisted ⌝ }
 {
@@ -41,7 +49,15 @@ fn judge_in_group(words: &[u32], ix: Sections, text: &[u32], number: usize, rest
 }
 
 // 8 to 14 and the kind, on tokens in normal form, n codepoints; `emoji` and `text` say whether there are tokens of that kind.
-fn judge_cells(words: &[u32], ix: Sections, w: &mut [u32], n: usize, emoji: bool, text: bool, place: usize) -> Judged
+fn judge_cells(
+    words: &[u32],
+    ix: Sections,
+    w: &mut [u32],
+    n: usize,
+    emoji: bool,
+    text: bool,
+    place: usize,
+) -> Judged
     requires { ⌜ Laid (now words) ix ⌝ }
     requires { ⌜ (2048 ≤ length (now w)) × (n ≤ 1024) ⌝ }
     ensures { λ r. ⌜ CellsJudged (theTable (now (words .entry))) place n emoji text (now (w .entry)) (now (w .exit)) r ⌝ }
@@ -49,15 +65,35 @@ fn judge_cells(words: &[u32], ix: Sections, w: &mut [u32], n: usize, emoji: bool
     let opened = judge_opening(words, ix, w, n, emoji, text, place);
     match opened {
         Opening::Ended(judged) => judged,
-        Opening::InGroup { length, number, restricted, whitelisted } => {
+        Opening::InGroup {
+            length,
+            number,
+            restricted,
+            whitelisted,
+        } => {
             let end = 1024 + length;
-            judge_in_group(words, ix, &w[1024..end], number, restricted, whitelisted, place)
+            judge_in_group(
+                words,
+                ix,
+                &w[1024..end],
+                number,
+                restricted,
+                whitelisted,
+                place,
+            )
         }
     }
 }
 
 // 6 to 14 on the tokens that the scan has laid down.
-fn judge_tokens(words: &[u32], ix: Sections, tally: Tally, done: usize, place: usize, w: &mut [u32]) -> Judgement
+fn judge_tokens(
+    words: &[u32],
+    ix: Sections,
+    tally: Tally,
+    done: usize,
+    place: usize,
+    w: &mut [u32],
+) -> Judgement
     requires { ⌜ Laid (now words) ix ⌝ }
     requires { ⌜ (2048 ≤ length (now w)) × (done ≤ 1025) ⌝ }
     ensures { λ r. ⌜ TokensJudged (theTable (now (words .entry))) done place tally (now (w .entry)) (now (w .exit)) r ⌝ }
@@ -87,7 +123,15 @@ fn judge_tokens(words: &[u32], ix: Sections, tally: Tally, done: usize, place: u
 
 // Judges the label that starts at `start` of the name and has the number `place`; `done` is the worked length before it. The answer of
 // an accepted label stands in front in the work area.
-pub fn judge_label(words: &[u32], ix: Sections, label: &[u32], start: usize, done: usize, place: usize, w: &mut [u32]) -> Judgement
+pub fn judge_label(
+    words: &[u32],
+    ix: Sections,
+    label: &[u32],
+    start: usize,
+    done: usize,
+    place: usize,
+    w: &mut [u32],
+) -> Judgement
     requires { ⌜ Laid (now words) ix ⌝ }
     requires { ⌜ (2048 ≤ length (now w)) × (length (now label) ≤ 4096) × (start ≤ 4096) × (done ≤ 1025) ⌝ }
     ensures { λ r. ⌜ Judges (theTable (now (words .entry))) start done place (now (label .entry)) (now (w .entry)) (now (w .exit)) r ⌝ }

@@ -116,3 +116,20 @@ pub fn label(input: &[u32], table: &[u32], answer: &mut [u32], work: &mut [u32])
         kind,
     }
 }
+
+/// What the soundness check answers.
+#[derive(Clone, Copy, Debug, PartialEq, Eq)]
+pub enum Soundness {
+    Sound,
+    /// The lowest broken rule, 0 for a layout fault.
+    Broken(u32),
+}
+
+/// Checks the words of a table for soundness.
+pub fn soundness(words: &[u32]) -> Soundness {
+    // SAFETY: the slice is lent for the call, with its length.
+    match unsafe { raw::wanlopheng_soundness(words.as_ptr(), words.len()) } {
+        8 => Soundness::Sound,
+        rule => Soundness::Broken(rule),
+    }
+}

@@ -54,5 +54,7 @@ extern "C" {
         answer_length: usize,
     ) -> WanlophengUnpack;
 
+    pub fn wanlopheng_soundness(words: *const u32, words_length: usize) -> u32;
+
     pub fn wanlopheng_layout_fault(words: *const u32, words_length: usize) -> u32;
 }

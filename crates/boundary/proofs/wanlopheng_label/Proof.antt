@@ -19,7 +19,7 @@ same-length-2 c = search needs
 
 returns : tie.Need-returns
 returns c =
-    let u = c .before .before .before .before .label .ensures in
+    let u = c .before .before .before .before .before .label .ensures in
     record { values = c .label-fields .ensures ∙ ap labelNumbers (u .values); answer = u .answer; cleared = u .cleared }
 
 pub wanlopheng-label-spec : {M : Type 1} → statement M

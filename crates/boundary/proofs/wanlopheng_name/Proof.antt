@@ -18,7 +18,7 @@ same-length-2 c = search needs
 
 returns : tie.Need-returns
 returns c =
-    let u = c .before .before .before .before .name .ensures in
+    let u = c .before .before .before .before .before .name .ensures in
     record { values = c .name-fields .ensures ∙ u .values; answer = u .answer; cleared = u .cleared }
 
 pub wanlopheng-name-spec : {M : Type 1} → statement M
