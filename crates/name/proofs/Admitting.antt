@@ -1,21 +1,20 @@
 -- Refusals 1 to 4: the search for a codepoint that is no scalar value, and the ends of the tests. Assumes nothing.
-use Prim.Native.Nat.{ℕ, suc, _+_, _<_, _≤_}
+use Prim.Native.Nat.{ℕ, _+_, _<_, _≤_}
 use native.Mathlib.Numerals.{add-one}
 use native.Mathlib.Omega.{arith}
 use mathlib.Core.Path.{_≡_, refl, sym, _∙_}
 use mathlib.Core.Bool.{Bool, true, false, not, cond}
-use mathlib.Core.List.{List, [], _∷_}
+use mathlib.Core.List.{List}
 use mathlib.Core.Option.{Option, none, some}
 use lib.ListN.{length, getD, drop, drop-of-length-le}
 use lib.Dec.{leb, ltb}
 use borrow.Author.Tests.{lt-leb, le-leb, lt-ltb, le-ltb, leb-true, leb-false}
-use Rattle.lists.specs.Lists.{placeWith, isSome, onSome}
-use Rattle.answers.specs.Verdict.{Verdict, accepted, refused}
+use Rattle.lists.specs.Lists.{placeWith, isSome}
+use Rattle.answers.specs.Verdict.{refused}
 use Rattle.table.specs.Table.{Table}
 use Rattle.table.specs.Layout.{parse}
-use Rattle.table.specs.Laid.{Laid, theTable, layoutOf, sectionsOf}
+use Rattle.table.specs.Laid.{Laid, layoutOf, sectionsOf}
 use Rattle.table.specs.declared.Sections.{Sections}
-use Rattle.table.specs.declared.Layout.{Layout}
 use Rattle.table.specs.declared.Layout.the-variants.{Fault, Found}
 use Rattle.table.proofs.Lookups.{drop-next}
 use Rattle.table.proofs.SectionLaws.{laid-parse}

@@ -1,16 +1,16 @@
 -- The ends of the name call and of the label call, each from what was judged before the buffers are cleared. Assumes nothing.
 use Prim.Native.Nat.{ℕ, _-_, _<_, _≤_}
 use native.Mathlib.Omega.{arith}
-use mathlib.Core.Path.{_≡_, refl, sym, ap, _∙_, subst}
-use mathlib.Core.Bool.{Bool, true, false, cond}
-use mathlib.Core.List.{List, [], _∷_, _++_}
+use mathlib.Core.Path.{_≡_, refl, ap, _∙_}
+use mathlib.Core.Bool.{true, false}
+use mathlib.Core.List.{List, _++_}
 use lib.ListN.{length, take, replicate}
 use lib.Dec.{ltb}
 use borrow.Author.Tests.{lt-ltb, le-ltb}
 use borrow.Rule.Slice.PartMut.{midOf, putMid}
 use Rattle.buffers.proofs.Parts.{put-filled}
 use Rattle.answers.specs.Verdict.{Verdict, accepted, refused, next}
-use Rattle.answers.specs.Values.{numberOf, placeOf, nameValues, labelValues}
+use Rattle.answers.specs.Values.{numberOf, placeOf}
 use Rattle.answers.specs.declared.Kind.{Kind}
 use Rattle.answers.specs.declared.Refusal.{Refusal}
 use Rattle.answers.specs.declared.Refusal.the-variants.{BufferTooSmall}
@@ -18,13 +18,12 @@ use Rattle.answers.specs.declared.NameAnswer.{NameAnswer}
 use Rattle.answers.specs.declared.NameAnswer.the-variants as name
 use Rattle.answers.specs.declared.LabelAnswer.{LabelAnswer}
 use Rattle.answers.specs.declared.LabelAnswer.the-variants as label
-use Rattle.table.specs.Table.{Table}
 use Rattle.table.specs.Laid.{theTable}
 use Rattle.table.specs.declared.Sections.{Sections}
 use Rattle.name.specs.declared.admit.Admission.{Admission}
 use Rattle.name.specs.declared.admit.Admission.the-variants.{Refused, Found}
 use Rattle.name.specs.Admission.{Admits, AdmissionIs}
-use Rattle.name.specs.Label.{Label, answer, admitted, fitting, filled, oneLabel, labelResult, labelCallVerdict, labelCall}
+use Rattle.name.specs.Label.{answer, admitted, fitting, oneLabel, labelResult, labelCallVerdict, labelCall}
 use Rattle.name.specs.Name.{labelsOf, labelsVerdict, nameAnswer, nameVerdict, nameResult, nameCall}
 use Rattle.name.specs.Calls.{NameCalls, LabelCalls, nameBefore15, labelBefore15, NamePasses, NameIs, NameJudged, LabelPasses, LabelIs, LabelJudged}
 

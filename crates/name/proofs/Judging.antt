@@ -2,25 +2,23 @@
 use Prim.Native.Nat.{ℕ, zero, suc, pred, _+_, _-_, _<_, _≤_}
 use native.Mathlib.Omega.{arith}
 use mathlib.Core.Path.{_≡_, refl, sym, ap, _∙_}
-use mathlib.Core.Bool.{Bool, true, false, not, _&&_, _||_, cond, false≢true}
+use mathlib.Core.Bool.{Bool, true, false, not, _||_, false≢true}
 use mathlib.Core.List.{List, [], _∷_}
 use mathlib.Core.Logic.{_⊎_, inl, inr, ⊎-elim}
-use mathlib.Core.Option.{Option, none, some, Option·map, Option·some-injective}
+use mathlib.Core.Option.{none, some, Option·map, Option·some-injective}
 use lib.ListN.{length, take, drop}
 use lib.Seq.{take-take}
-use lib.Dec.{ltb}
 use borrow.Author.Tests.{lt-ltb, le-ltb}
-use Rattle.lists.specs.Lists.{any, isEmpty, onSome}
-use Rattle.answers.specs.Verdict.{Verdict, accepted, refused, next}
-use Rattle.answers.specs.Values.{numberOf, placeOf}
+use Rattle.lists.specs.Lists.{any, isEmpty}
+use Rattle.answers.specs.Verdict.{accepted, refused, next}
 use Rattle.answers.specs.declared.Kind.{Kind}
 use Rattle.answers.specs.declared.Refusal.{Refusal}
 use Rattle.answers.specs.declared.Refusal.the-variants.{Disallowed, NoTokens, WorkedTooLong}
 use Rattle.table.specs.Table.{Table}
 use Rattle.tokens.specs.Scan.{Step, emoji, text, ignored, disallowed, width, stepAt, stepsFrom, steps, firstDisallowed}
 use Rattle.tokens.specs.Tokens as tokens
-use Rattle.tokens.specs.Tokens.{Token, isEmoji, tokensOf, worked, normal, spelled}
-use Rattle.tokens.specs.Cells.{Cells, decomposed}
+use Rattle.tokens.specs.Tokens.{Token, isEmoji, tokensOf, worked, normal}
+use Rattle.tokens.specs.Cells.{Cells}
 use Rattle.tokens.specs.Normal.{NormalCells}
 use Rattle.tokens.specs.Scanning.{Tallied, ScanIs, Scans}
 use Rattle.tokens.specs.declared.scan.Tally.{Tally}
@@ -37,8 +35,8 @@ use Rattle.label.proofs.VerdictLaws.{Parted, anyText, judge-cells}
 use Rattle.label.proofs.PartedLaws.{tokens-parted, emoji-kept, text-kept, normal-parted}
 use Rattle.name.specs.declared.one.Judgement.{Judgement}
 use Rattle.name.specs.declared.one.Judgement.the-variants.{Accepted, Refused}
-use Rattle.name.specs.Label.{Label, answer, judged, labelVerdict, mostWorked}
-use Rattle.name.specs.Judged.{Accepts, JudgementIs, Judges, TokensJudged, CellsJudged}
+use Rattle.name.specs.Label.{judged, labelVerdict, mostWorked}
+use Rattle.name.specs.Judged.{Judges, TokensJudged, CellsJudged}
 
 -- a disallowed codepoint is found from every start, so much further on
 disallowed-moves : (s at : ℕ) (ss : List Step) → firstDisallowed (s + at) ss ≡ Option·map (λ i. s + i) (firstDisallowed at ss)

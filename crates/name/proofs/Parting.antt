@@ -3,16 +3,15 @@ use Prim.Native.Nat.{ℕ, suc, _+_, _-_, _<_, _≤_}
 use native.Mathlib.Numerals.{add-one}
 use native.Mathlib.Omega.{arith}
 use mathlib.Core.Path.{_≡_, refl, sym, ap, _∙_}
-use mathlib.Core.Bool.{Bool, true, false, not, _&&_, cond}
+use mathlib.Core.Bool.{Bool, true, false, not, cond}
 use mathlib.Core.List.{List, [], _∷_, _++_, append-nil, append-assoc}
-use mathlib.Core.Logic.{_⊎_, inl, inr, ⊎-elim}
-use mathlib.Core.Option.{Option, none, some}
-use lib.ListN.{length, getD, take, drop, set, length-append, length-take, length-drop, length-set, take-append-drop}
-use lib.Seq.{take-all, take-suc, take-suc-set, getD-drop, drop-drop, take-append-add, length-take-le, take-append-seam}
+use mathlib.Core.Option.{none, some}
+use lib.ListN.{length, getD, take, drop, set, length-append, length-drop, length-set, take-append-drop}
+use lib.Seq.{take-all, take-suc, take-suc-set, getD-drop, drop-drop, length-take-le, take-append-seam}
 use lib.Dec.{eqb, leb}
-use borrow.Author.Tests.{eq-eqb, ne-eqb, le-leb, lt-leb, leb-true, leb-false, not-true}
+use borrow.Author.Tests.{ne-eqb, le-leb, lt-leb, leb-true, leb-false, not-true}
 use borrow.Rule.Slice.PartMut.{midOf, putMid}
-use Rattle.lists.specs.Lists.{all, placeWith, takeWith, ontoFirst, split}
+use Rattle.lists.specs.Lists.{placeWith, takeWith, split}
 use Rattle.lists.specs.Laws.{both-left, both-right, both}
 use Rattle.lists.specs.Splits.{split-joined}
 use Rattle.buffers.proofs.Parts.{mid-tail, put-tail}

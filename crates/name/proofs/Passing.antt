@@ -3,23 +3,21 @@
 use Prim.Native.Nat.{ℕ, suc, _+_, _-_, _*_, _<_, _≤_}
 use native.Mathlib.Omega.{arith}
 use mathlib.Core.Path.{_≡_, refl, sym, ap, _∙_}
-use mathlib.Core.Bool.{Bool, true, false, not, cond}
+use mathlib.Core.Bool.{Bool, true}
 use mathlib.Core.List.{List, [], _∷_, _++_, map, map-append, append-nil}
-use mathlib.Core.Option.{Option, none, some, Option·getD}
-use lib.ListN.{length, take, drop, length-append, length-take}
+use mathlib.Core.Option.{none, Option·getD}
+use lib.ListN.{length, take, drop, length-append}
 use lib.Seq.{append-snoc}
 use lib.Dec.{eqb}
 use borrow.Author.Tests.{ne-eqb}
-use Rattle.lists.specs.Lists.{onSome, placeWith, takeWith, joinWith}
+use Rattle.lists.specs.Lists.{joinWith}
 use Rattle.lists.specs.Splits.{joinWith-append}
 use Rattle.answers.specs.Verdict.{Verdict, accepted, refused, next}
 use Rattle.answers.specs.Values.{numberOf, placeOf}
 use Rattle.answers.specs.declared.Kind.{Kind}
 use Rattle.answers.specs.declared.Refusal.{Refusal}
 use Rattle.answers.specs.declared.Refusal.the-variants.{Disallowed}
-use Rattle.answers.specs.declared.NameAnswer.{NameAnswer}
 use Rattle.answers.specs.declared.NameAnswer.the-variants as name
-use Rattle.answers.specs.declared.LabelAnswer.{LabelAnswer}
 use Rattle.answers.specs.declared.LabelAnswer.the-variants as label
 use Rattle.table.specs.Table.{Table}
 use Rattle.tokens.specs.Scan.{steps, firstDisallowed}
@@ -32,8 +30,8 @@ use Rattle.name.specs.declared.one.Judgement.the-variants.{Accepted, Ref
 use Rattle.name.specs.Label.{Label, stop, answer, labelVerdict, oneLabel, mostWorked}
 use Rattle.name.specs.Name.{labelsOf, labelsVerdict, nameAnswer}
 use Rattle.name.specs.Parts.{labelAt, noStop, LabelEnds, partsFrom, between, Put}
-use Rattle.name.specs.Judged.{Accepts, JudgementIs, Judges}
-use Rattle.name.specs.Calls.{NamePasses, NameJudged, LabelPasses, LabelJudged, BeforeStop}
+use Rattle.name.specs.Judged.{Accepts, Judges}
+use Rattle.name.specs.Calls.{NameJudged, LabelJudged, BeforeStop}
 use Rattle.name.proofs.Parting.{label-length, label-stop, label-last, parts-next, parts-all, parts-empty, parts-none, place-stop, place-none, take-stop, between-few}
 
 -- what a judgement says, once it is known which it is

@@ -4,7 +4,7 @@ use mathlib.Core.Path.{_≡_}
 use mathlib.Core.List.{List}
 use mathlib.Core.Option.{Option, none, some}
 use lib.ListN.{length}
-use Rattle.answers.specs.Verdict.{Verdict, accepted, refused}
+use Rattle.answers.specs.Verdict.{accepted, refused}
 use Rattle.answers.specs.Values.{numberOf, placeOf}
 use Rattle.table.specs.Laid.{Laid, theTable}
 use Rattle.table.specs.declared.Sections.{Sections}

@@ -13,7 +13,6 @@ use Rattle.answers.specs.declared.LabelAnswer.{LabelAnswer}
 use Rattle.answers.specs.declared.LabelAnswer.the-variants as label
 use Rattle.table.specs.Table.{Table}
 use Rattle.tokens.specs.Scan.{steps, firstDisallowed}
-use Rattle.tokens.specs.Tokens.{spelled}
 use Rattle.name.specs.Label.{Label, answer, admitted, oneLabel, labelCall}
 use Rattle.name.specs.Name.{labelsOf, labelsVerdict, nameAnswer, nameCall}
 

@@ -10,7 +10,7 @@ use Rattle.answers.specs.Values.{numberOf, placeOf}
 use Rattle.answers.specs.declared.Kind.{Kind}
 use Rattle.table.specs.Table.{Table}
 use Rattle.tokens.specs.declared.scan.Tally.{Tally}
-use Rattle.tokens.specs.Tokens.{Token, isEmoji, spelled}
+use Rattle.tokens.specs.Tokens.{Token, isEmoji}
 use Rattle.tokens.specs.Scanning.{Tallied}
 use Rattle.label.specs.declared.Judged.{Judged}
 use Rattle.label.specs.CellText.{codesIn, marksIn}

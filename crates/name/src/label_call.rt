@@ -48,11 +48,7 @@ fn judge_one(
     }
     let judged = judge_label(words, ix, input, 0, 0, 0, w);
     match judged {
-        Judgement::Accepted {
-            length,
-            kind,
-            worked: _,
-        } => {
+        Judgement::Accepted { length, kind, .. } => {
             let end = put_label(answer, 0, true, &w[..length]);
             LabelAnswer::Accepted { length: end, kind }
         }

@@ -14,7 +14,7 @@ ghost use Rattle.table.specs.Laid.{Laid, theTable};
 ghost use Rattle.name.specs.Name.{labelsOf, labelsVerdict};
 ghost use Rattle.name.specs.Calls.{NameCalls, NameJudged, nameBefore15};
 
-// Judges the labels of a name from the left, and writes the answer of each into the part behind the last stop.
+// Judges the labels of a name from the left, and writes the answer of each into the part behind the last stop. The empty name has none.
 fn judge_labels(
     words: &[u32],
     ix: Sections,
@@ -37,19 +37,13 @@ fn judge_labels(
         let end = label_end(name, at);
         let judged = judge_label(words, ix, &name[at..end], at, done, place, w);
         match judged {
-            Judgement::Accepted {
-                length,
-                kind: _,
-                worked,
-            } => {
+            Judgement::Accepted { length, worked, .. } => {
                 len = put_label(answer, len, place == 0, &w[..length]);
                 done += worked + 1;
                 place += 1;
                 at = end + 1;
             }
-            Judgement::Refused(f) => {
-                return NameAnswer::Refused(f);
-            }
+            Judgement::Refused(f) => return NameAnswer::Refused(f),
         }
     }
     NameAnswer::Accepted {

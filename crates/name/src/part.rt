@@ -1,5 +1,4 @@
 // The labels of a name, and their places in the answer buffer.
-ghost use mathlib.Core.Path.{_≡_};
 ghost use Prim.Native.Nat.{_≤_, _^_};
 ghost use mathlib.Core.List.{[]};
 ghost use lib.ListN.{length};

@@ -8,3 +8,4 @@ pub mod HeadLaws
 pub mod CoverLaws
 pub mod EndLaws
 pub mod CheckLaws
+pub mod ClimbLaws

@@ -11,6 +11,7 @@ use Rattle.table.specs.Lookup.{inRanges, holds}
 use Rattle.table.specs.Part.{inPairs}
 use Rattle.text.specs.Hangul.{firstSyllable, syllableCount}
 use Rattle.text.specs.Decomposition.{fourRounds}
+use Rattle.text.specs.Rounds.{rounds}
 use Rattle.sound_check.specs.declared.cover.Wanted.{Wanted}
 use Rattle.sound_check.specs.declared.cover.Wanted.the-variants.{Valid, Other}
 use Rattle.soundness.specs.Valid.{countedFrom, groupCharacters}
@@ -81,3 +82,7 @@ between a b c = leb a c && leb c b
 
 abbrev pub headPasses : Table → Wanted → Headed → Bool
 headPasses t w r = groupPasses t w (r .head)
+
+-- where the answer is yes, c is among what n rounds make of the groups' characters
+pub record Reached (t : Table) (n c : ℕ) (r : Bool) : Type 0 where
+  pub so : r ≡ true → mem c (rounds n t (groupCharacters t)) ≡ true

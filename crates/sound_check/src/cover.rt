@@ -1,4 +1,5 @@
 // Rule 2: valid is exactly the groups' characters and those of their full decompositions.
+use crate::climb::climbs;
 use table::Sections;
 use table::Span;
 use table::lookup::counted;
@@ -18,7 +19,7 @@ ghost use Rattle.text.specs.Decomposition.{fourRounds};
 ghost use Rattle.soundness.specs.Scalars.{rule1};
 ghost use Rattle.soundness.specs.Valid.{rule2};
 ghost use Rattle.sound_check.specs.Parts.{recordsIn, Holds, asHeaded};
-ghost use Rattle.sound_check.specs.Cover.{inGroups, passes, between, headPasses, groupPasses, syllables, spelledPass, spelled, pointFits, NextEnd, NextPoint, PointsFit, GroupsPart};
+ghost use Rattle.sound_check.specs.Cover.{inGroups, passes, between, headPasses, groupPasses, syllables, spelledPass, spelled, pointFits, NextEnd, NextPoint, PointsFit, GroupsPart, Reached};
 
 // What is wanted of a codepoint: that it is valid, or another than this one.
 pub enum Wanted {
@@ -63,7 +64,7 @@ fn decomposed_passes(words: &[u32], ix: Sections, w: Wanted, c: u32) -> bool
 }
 
 // Whether some group of a part holds c.
-fn in_groups(part: &[u32], c: u32) -> bool
+pub fn in_groups(part: &[u32], c: u32) -> bool
     requires { ⌜ Holds groups (now part) ⌝ }
     ensures { λ r. ⌜ r ≡ inGroups c (recordsIn groups (now (part .entry))) ⌝ }
 {
@@ -148,13 +149,29 @@ fn spelled_pass(words: &[u32], ix: Sections, gs: &[u32], w: Wanted) -> bool
     syllables_pass(words, ix, gs, w)
 }
 
-// Whether c, which no group holds, is in the full decomposition of a group's character.
+fn climbs_of(words: &[u32], ix: Sections, gs: &[u32], s: Span, c: u32) -> bool
+    requires { ⌜ Laid (now words) ix ⌝ }
+    requires { ⌜ GroupsPart (theTable (now words)) (now gs) ⌝ }
+    requires { ⌜ Fits (now words) s ⌝ }
+    requires { ⌜ Holds asHeaded (within s (now words)) ⌝ }
+    ensures { λ r. ⌜ Reached (theTable (now (words .entry))) 4 c r ⌝ }
+{
+    let from = s.from;
+    let to = s.to;
+    climbs(words, ix, gs, &words[from..to], c, 4)
+}
+
+// Whether c, which no group holds, is in the full decomposition of a group's character. The way up from c says yes in most
+// cases; else the decompositions of all of the groups' heads and syllables are asked.
 fn is_spelled(words: &[u32], ix: Sections, gs: &[u32], c: u32) -> bool
     requires { ⌜ Laid (now words) ix ⌝ }
     requires { ⌜ GroupsPart (theTable (now words)) (now gs) ⌝ }
     requires { ⌜ inGroups c (theTable (now words) .groups) ≡ false ⌝ }
     ensures { λ r. ⌜ r ≡ spelled (theTable (now (words .entry))) c ⌝ }
 {
+    if climbs_of(words, ix, gs, ix.decompositions, c) {
+        return true;
+    }
     !spelled_pass(words, ix, gs, Wanted::Other(c))
 }
 

@@ -19,7 +19,7 @@ ghost use Rattle.sound_check.specs.Parts.{recordsIn, Holds, asHeaded, al
 ghost use Rattle.sound_check.specs.Heads.{isStable, headsOf, headFits, headsFit, sparesTriple};
 
 // Whether c decomposes no further.
-fn is_stable(words: &[u32], ix: Sections, c: u32) -> bool
+pub fn is_stable(words: &[u32], ix: Sections, c: u32) -> bool
     requires { ⌜ Laid (now words) ix ⌝ }
     ensures { λ r. ⌜ r ≡ isStable (theTable (now (words .entry))) c ⌝ }
 {

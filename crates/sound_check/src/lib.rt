@@ -1,5 +1,6 @@
 // The soundness check of a name table.
 pub mod apart;
+pub mod climb;
 pub mod cover;
 pub mod heads;
 pub mod pairs;

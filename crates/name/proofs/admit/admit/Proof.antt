@@ -3,13 +3,9 @@ use mathlib.Core.Path.{sym, _∙_}
 use denote.Ref.{now}
 use borrow.Author.Needs.{needs}
 use Rattle.table.specs.Laid.{Laid}
-use Rattle.table.proofs.laid.layout.Reads as layout-reads
 use Rattle.name.proofs.Admitting.{admitted-fault, admitted-work, admitted-long, admitted-scalar, admitted-all}
 use Rattle.name.proofs.admit.admit.Statement.{statement}
 use Rattle.name.proofs.admit.admit.Tie as tie
-use Rattle.name.proofs.admit.admit.Reads as reads
-use Rattle.name.proofs.admit.admit.Lts as lts
-use Rattle.name.proofs.admit.first_not_scalar.Reads as first-not-scalar-reads
 
 -- the sections are found, once the match has said so
 laid : (c : tie.After-known-told) → Laid (now (c .before .before .before .before .before .before .args .words)) (c .before .ix .given .0 .0)

@@ -1,6 +1,5 @@
 -- `first_not_scalar`: none of the first i codepoints is found. Assumes nothing.
 use Prim.Native.Nat.{_-_}
-use native.Mathlib.Omega.{arith}
 use mathlib.Core.Bool.{not}
 use lib.ListN.{length}
 use borrow.Author.Needs.{needs}
@@ -8,9 +7,6 @@ use Rattle.text.specs.Scalar.{isScalar}
 use Rattle.name.proofs.Admitting.{Search, search-start, search-stop, search-hit, search-more}
 use Rattle.name.proofs.admit.first_not_scalar.Statement.{statement}
 use Rattle.name.proofs.admit.first_not_scalar.Tie as tie
-use Rattle.name.proofs.admit.first_not_scalar.Reads as reads
-use Rattle.name.proofs.admit.first_not_scalar.Lts as lts
-use Rattle.name.proofs.admit.is_scalar.Reads as is-scalar-reads
 
 abbrev Inv-loop : tie.InvT-loop
 Inv-loop input i₀ i = Search (λ c. not (isScalar c)) input i

@@ -2,8 +2,6 @@
 use Rattle.name.proofs.Admitting.{scalar-over, scalar-low, scalar-rest}
 use Rattle.name.proofs.admit.is_scalar.Statement.{statement}
 use Rattle.name.proofs.admit.is_scalar.Tie as tie
-use Rattle.name.proofs.admit.is_scalar.Reads as reads
-use Rattle.name.proofs.admit.is_scalar.Lts as lts
 
 returns : tie.Need-returns
 returns c = scalar-over _ (c .if1 .taken)

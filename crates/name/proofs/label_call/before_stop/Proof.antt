@@ -1,11 +1,8 @@
 -- `before_stop`: the scan's place, or the end of the part. Assumes nothing.
 use borrow.Author.Needs.{needs}
-use Rattle.tokens.proofs.scan.scan.Reads as scan-reads
 use Rattle.name.proofs.Passing.{stop-disallowed, stop-tokens}
 use Rattle.name.proofs.label_call.before_stop.Statement.{statement}
 use Rattle.name.proofs.label_call.before_stop.Tie as tie
-use Rattle.name.proofs.label_call.before_stop.Reads as reads
-use Rattle.name.proofs.label_call.before_stop.Lts as lts
 
 scan-requires : tie.Need-scan-requires
 scan-requires c κs = search needs

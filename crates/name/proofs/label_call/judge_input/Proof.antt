@@ -1,13 +1,8 @@
 -- `judge_input`: 1 to 4, then the label. Assumes nothing.
-use native.Mathlib.Omega.{arith}
 use borrow.Author.Needs.{needs}
 use Rattle.name.proofs.Answering.{admits, label-admitted, label-not-admitted}
 use Rattle.name.proofs.label_call.judge_input.Statement.{statement}
 use Rattle.name.proofs.label_call.judge_input.Tie as tie
-use Rattle.name.proofs.label_call.judge_input.Reads as reads
-use Rattle.name.proofs.label_call.judge_input.Lts as lts
-use Rattle.name.proofs.admit.admit.Reads as admit-reads
-use Rattle.name.proofs.label_call.judge_one.Reads as judge-one-reads
 
 admit-requires : tie.Need-admit-requires
 admit-requires c κs = search needs

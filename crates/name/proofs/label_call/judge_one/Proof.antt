@@ -7,12 +7,6 @@ use borrow.Author.Needs.{needs}
 use Rattle.name.proofs.Passing.{judged-room, judged-count, judged-short, one-disallowed, one-refused, one-accepted}
 use Rattle.name.proofs.label_call.judge_one.Statement.{statement}
 use Rattle.name.proofs.label_call.judge_one.Tie as tie
-use Rattle.name.proofs.label_call.judge_one.Reads as reads
-use Rattle.name.proofs.label_call.judge_one.Lts as lts
-use Rattle.name.proofs.label_call.before_stop.Reads as before-stop-reads
-use Rattle.name.proofs.one.judge_label.Reads as judge-label-reads
-use Rattle.name.proofs.part.label_end.Reads as label-end-reads
-use Rattle.name.proofs.part.put_label.Reads as put-label-reads
 
 label-end-requires : tie.Need-label-end-requires
 label-end-requires c κs = search needs

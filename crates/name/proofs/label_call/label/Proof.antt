@@ -1,12 +1,8 @@
 -- `label`: each return is one end of the label call. Assumes nothing.
 use borrow.Author.Needs.{needs}
-use Rattle.buffers.proofs.clear.Reads as clear-reads
 use Rattle.name.proofs.Answering.{label-ends-refused, label-ends-over, label-ends-accepted}
 use Rattle.name.proofs.label_call.label.Statement.{statement}
 use Rattle.name.proofs.label_call.label.Tie as tie
-use Rattle.name.proofs.label_call.label.Reads as reads
-use Rattle.name.proofs.label_call.label.Lts as lts
-use Rattle.name.proofs.label_call.judge_input.Reads as judge-input-reads
 
 judge-input-requires : tie.Need-judge-input-requires
 judge-input-requires c κs = search needs

@@ -10,11 +10,6 @@ use Rattle.name.proofs.Parting.{label-length}
 use Rattle.name.proofs.Passing.{judged-room, judged-count, judged-short, judged-worked, Passed, pass-start, pass-empty, pass-done, pass-refused, pass-more}
 use Rattle.name.proofs.name_call.judge_labels.Statement.{statement}
 use Rattle.name.proofs.name_call.judge_labels.Tie as tie
-use Rattle.name.proofs.name_call.judge_labels.Reads as reads
-use Rattle.name.proofs.name_call.judge_labels.Lts as lts
-use Rattle.name.proofs.one.judge_label.Reads as judge-label-reads
-use Rattle.name.proofs.part.label_end.Reads as label-end-reads
-use Rattle.name.proofs.part.put_label.Reads as put-label-reads
 
 abbrev Inv-loop : tie.InvT-loop
 Inv-loop words ix name answer₀ w₀ at₀ done₀ place₀ len₀ answer w at done place len = Passed (theTable words) name answer₀ answer w₀ w at done place len

@@ -1,13 +1,8 @@
 -- `judge_name`: 1 to 4, then the labels. Assumes nothing.
-use native.Mathlib.Omega.{arith}
 use borrow.Author.Needs.{needs}
 use Rattle.name.proofs.Answering.{admits, name-admitted, name-not-admitted}
 use Rattle.name.proofs.name_call.judge_name.Statement.{statement}
 use Rattle.name.proofs.name_call.judge_name.Tie as tie
-use Rattle.name.proofs.name_call.judge_name.Reads as reads
-use Rattle.name.proofs.name_call.judge_name.Lts as lts
-use Rattle.name.proofs.admit.admit.Reads as admit-reads
-use Rattle.name.proofs.name_call.judge_labels.Reads as judge-labels-reads
 
 admit-requires : tie.Need-admit-requires
 admit-requires c κs = search needs

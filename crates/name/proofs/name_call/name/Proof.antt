@@ -1,12 +1,8 @@
 -- `name`: each return is one end of the name call. Assumes nothing.
 use borrow.Author.Needs.{needs}
-use Rattle.buffers.proofs.clear.Reads as clear-reads
 use Rattle.name.proofs.Answering.{name-ends-refused, name-ends-over, name-ends-accepted}
 use Rattle.name.proofs.name_call.name.Statement.{statement}
 use Rattle.name.proofs.name_call.name.Tie as tie
-use Rattle.name.proofs.name_call.name.Reads as reads
-use Rattle.name.proofs.name_call.name.Lts as lts
-use Rattle.name.proofs.name_call.judge_name.Reads as judge-name-reads
 
 judge-name-requires : tie.Need-judge-name-requires
 judge-name-requires c κs = search needs

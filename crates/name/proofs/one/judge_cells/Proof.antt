@@ -1,13 +1,9 @@
 -- `judge_cells`: the verdict comes from the first step, or from the group that it found. Assumes nothing.
 use native.Mathlib.Omega.{arith}
 use borrow.Author.Needs.{needs}
-use Rattle.label.proofs.judging.judge_opening.Reads as judge-opening-reads
 use Rattle.name.proofs.Judging.{cells-ended, text-fits, cells-in-group}
 use Rattle.name.proofs.one.judge_cells.Statement.{statement}
 use Rattle.name.proofs.one.judge_cells.Tie as tie
-use Rattle.name.proofs.one.judge_cells.Reads as reads
-use Rattle.name.proofs.one.judge_cells.Lts as lts
-use Rattle.name.proofs.one.judge_in_group.Reads as judge-in-group-reads
 
 judge-opening-requires : tie.Need-judge-opening-requires
 judge-opening-requires c κs = search needs

@@ -6,13 +6,9 @@ use borrow.Author.Needs.{needs}
 use Rattle.table.specs.Laid.{theTable}
 use Rattle.label.specs.Marks.{nsmFits}
 use Rattle.label.proofs.VerdictLaws.{verdict-group}
-use Rattle.label.proofs.judging.judge_group.Reads as judge-group-reads
 use Rattle.name.proofs.Judging.{fits-asked, fits-known}
 use Rattle.name.proofs.one.judge_in_group.Statement.{statement}
 use Rattle.name.proofs.one.judge_in_group.Tie as tie
-use Rattle.name.proofs.one.judge_in_group.Reads as reads
-use Rattle.name.proofs.one.judge_in_group.Lts as lts
-use Rattle.nsm.proofs.runs.nsm_fits.Reads as nsm-fits-reads
 
 nsm-fits-requires : tie.Need-nsm-fits-requires
 nsm-fits-requires c κs = search needs

@@ -1,13 +1,9 @@
 -- `judge_label`: 5 by the scan, the rest by its tokens. Assumes nothing.
 use native.Mathlib.Omega.{arith}
 use borrow.Author.Needs.{needs}
-use Rattle.tokens.proofs.scan.scan.Reads as scan-reads
 use Rattle.name.proofs.Judging.{scan-inside, scan-refused, scan-judged}
 use Rattle.name.proofs.one.judge_label.Statement.{statement}
 use Rattle.name.proofs.one.judge_label.Tie as tie
-use Rattle.name.proofs.one.judge_label.Reads as reads
-use Rattle.name.proofs.one.judge_label.Lts as lts
-use Rattle.name.proofs.one.judge_tokens.Reads as judge-tokens-reads
 
 scan-requires : tie.Need-scan-requires
 scan-requires c κs = search needs

@@ -5,13 +5,9 @@ use mathlib.Core.Bool.{true}
 use mathlib.Core.Logic.{_⊎_, inl, inr, ⊎-elim}
 use borrow.Author.Tests.{not-true, not-false}
 use borrow.Author.Needs.{needs}
-use Rattle.tokens.proofs.normal.normalise.Reads as normalise-reads
 use Rattle.name.proofs.Judging.{tokens-none, tokens-long, tokens-over, tokens-refused, tokens-accepted}
 use Rattle.name.proofs.one.judge_tokens.Statement.{statement}
 use Rattle.name.proofs.one.judge_tokens.Tie as tie
-use Rattle.name.proofs.one.judge_tokens.Reads as reads
-use Rattle.name.proofs.one.judge_tokens.Lts as lts
-use Rattle.name.proofs.one.judge_cells.Reads as judge-cells-reads
 
 -- there are tokens, once 6 has not been given
 here : (c : tie.Joined1) → (c .before .before .before .before .args .tally .emoji ≡ true) ⊎ (c .before .before .before .before .args .tally .text ≡ true)

@@ -6,8 +6,6 @@ use borrow.Author.Needs.{needs}
 use Rattle.name.proofs.Parting.{put-first, put-stop, put-none}
 use Rattle.name.proofs.part.after_stop.Statement.{statement}
 use Rattle.name.proofs.part.after_stop.Tie as tie
-use Rattle.name.proofs.part.after_stop.Reads as reads
-use Rattle.name.proofs.part.after_stop.Lts as lts
 
 returns : tie.Need-returns
 returns c = put-first _ _ _ (c .if1 .taken)

@@ -1,13 +1,10 @@
 -- `label_end`: no stop stands from the label's start up to i. Assumes nothing.
 use Prim.Native.Nat.{_-_}
-use native.Mathlib.Omega.{arith}
 use lib.ListN.{length}
 use borrow.Author.Needs.{needs}
 use Rattle.name.proofs.Parting.{Seeking, seek-start, seek-hit, seek-end, seek-more}
 use Rattle.name.proofs.part.label_end.Statement.{statement}
 use Rattle.name.proofs.part.label_end.Tie as tie
-use Rattle.name.proofs.part.label_end.Reads as reads
-use Rattle.name.proofs.part.label_end.Lts as lts
 
 abbrev Inv-loop : tie.InvT-loop
 Inv-loop input at i₀ i = Seeking input at i

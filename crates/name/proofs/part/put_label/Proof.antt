@@ -1,13 +1,9 @@
 -- `put_label`: the label is copied into the part behind the stop. Assumes nothing.
 use native.Mathlib.Omega.{arith}
 use borrow.Author.Needs.{needs}
-use Rattle.buffers.proofs.copy_into.Reads as copy-into-reads
 use Rattle.name.proofs.Parting.{put-near, put-over, put-copied}
 use Rattle.name.proofs.part.put_label.Statement.{statement}
 use Rattle.name.proofs.part.put_label.Tie as tie
-use Rattle.name.proofs.part.put_label.Reads as reads
-use Rattle.name.proofs.part.put_label.Lts as lts
-use Rattle.name.proofs.part.after_stop.Reads as after-stop-reads
 
 after-stop-requires : tie.Need-after-stop-requires
 after-stop-requires c κs = search needs
