@@ -128,3 +128,34 @@ fn both_tables_are_sound() {
         assert_eq!(engine::soundness(&made.words), engine::Soundness::Sound);
     }
 }
+
+/// The errors met in the field: each case fails on a version that makes the
+/// error.
+#[test]
+fn errors_met_in_the_field() {
+    let words = gen::small_table().to_words();
+    let (mut answer, mut work) = ([7; 9], [7; 2_048]);
+    let mut call = |name: &[u32]| {
+        let r = engine::name(name, &words, &mut answer, &mut work);
+        assert!(work.iter().all(|&w| w == 0));
+        (r.number, r.place, answer)
+    };
+    let form = |s: &[u32]| {
+        let mut a = [0; 9];
+        a[..s.len()].copy_from_slice(s);
+        a
+    };
+    // Composing the whole label: the mark after an emoji starts a text.
+    assert_eq!(call(&[0x61, 0x1F4A9, 0x300]), (11, 0, [0; 9]));
+    // Ignoring FE0F first: this is no family.
+    assert_eq!(call(&[0x1F468, 0xFE0F, 0x200D, 0x2764, 0x200D, 0x1F468]), (5, 2, [0; 9]));
+    // Mapping an item twice, or before valid is asked.
+    assert_eq!(call(&[0x5A]), (0, 0, form(&[0x7A])));
+    assert_eq!(call(&[0x7A]), (0, 0, form(&[0x7A])));
+    // Stopping the look-alike test at the first confused character.
+    assert_eq!(call(&[0x442]), (14, 0, [0; 9]));
+    assert_eq!(call(&[0x442, 0x4D5]), (0, 0, form(&[0x442, 0x4D5])));
+    // Leaving the old tail of a longer answer.
+    assert_eq!(call(&[0x61, 0x62, 0x63, 0x64]), (0, 0, form(&[0x61, 0x62, 0x63, 0x64])));
+    assert_eq!(call(&[0x62]), (0, 0, form(&[0x62])));
+}

@@ -25,6 +25,26 @@ static int forms(void) {
     return 0;
 }
 
+/* The name, label and soundness calls by a table that has 61 alone, to which 41 is mapped. */
+static int calls(void) {
+    const uint32_t table[] = {2, 0x61, 0x61, 0, 0, 0, 0, 3, 0x41, 1, 0x61, 0, 0, 1, 0, 0, 4, 1, 2, 0x61, 0x61, 0};
+    const uint32_t name[] = {0x41, 0x2E, 0x61, 0x41};
+    uint32_t answer[6] = {7, 7, 7, 7, 7, 7}, work[2048];
+    for (size_t i = 0; i < 2048; i++) work[i] = 7;
+    struct wanlopheng_name r = wanlopheng_name(name, 4, table, 22, answer, 6, work, 2048);
+    if (r.number != 0 || r.place != 0 || r.length != 4 || r.labels != 2) return 21;
+    if (answer[0] != 0x61 || answer[1] != 0x2E || answer[2] != 0x61 || answer[3] != 0x61 || answer[4] || answer[5]) return 22;
+    for (size_t i = 0; i < 2048; i++) if (work[i] != 0) return 23;
+    r = wanlopheng_name(name, 4, table, 22, answer, 3, work, 2048);
+    if (r.number != 15 || r.place != 0 || r.length != 0 || r.labels != 0 || answer[0] || answer[1] || answer[2]) return 24;
+    struct wanlopheng_label l = wanlopheng_label(name, 1, table, 22, answer, 6, work, 2048);
+    if (l.number != 0 || l.length != 1 || l.kind != 2 || l.group != 0 || l.restricted != 0 || answer[0] != 0x61) return 25;
+    l = wanlopheng_label(name, 4, table, 22, answer, 6, work, 2048);
+    if (l.number != 5 || l.place != 1 || l.length != 0 || l.kind != 0 || answer[0] != 0) return 26;
+    if (wanlopheng_soundness(table, 22) != 8 || wanlopheng_soundness(table, 21) != 0) return 27;
+    return 0;
+}
+
 int main(void) {
     const uint8_t file[] = {1, 0, 0, 0, 2, 1, 2, 3, 4, 0, 0, 0, 9};
     uint32_t answer[3] = {7, 7, 7};
@@ -38,5 +58,6 @@ int main(void) {
     const uint32_t table[] = {0, 0, 0, 0, 0, 0, 0, 0, 1, 0, 0, 0, 0};
     if (wanlopheng_layout_fault(table, 13) != 0) return 7;
     if (wanlopheng_layout_fault(table, 12) != 1) return 8;
-    return forms();
+    int failed = calls();
+    return failed != 0 ? failed : forms();
 }
