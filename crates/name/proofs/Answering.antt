@@ -2,10 +2,8 @@
 use Prim.Native.Nat.{ℕ, _-_, _<_, _≤_}
 use native.Mathlib.Omega.{arith}
 use mathlib.Core.Path.{_≡_, refl, ap, _∙_}
-use mathlib.Core.Bool.{true, false}
 use mathlib.Core.List.{List, _++_}
 use lib.ListN.{length, take, replicate}
-use lib.Dec.{ltb}
 use borrow.Author.Tests.{lt-ltb, le-ltb}
 use borrow.Rule.Slice.PartMut.{midOf, putMid}
 use Rattle.buffers.proofs.Parts.{put-filled}
@@ -31,6 +29,18 @@ use Rattle.name.specs.Calls.{NameCalls, LabelCalls, nameBefore15, labelB
 next-next : {A B C : Type 0} (v : Verdict A) (f : A → Verdict B) (g : B → Verdict C) → next v (λ a. next (f a) g) ≡ next (next v f) g
 next-next (accepted a) f g = refl
 next-next (refused n p) f g = refl
+
+-- 15, where the answer is longer than the room, and only there
+module _ {A : Type 0} (room len : ℕ) (a : A) where
+  fitting-over : room < len → fitting room len a ≡ refused 15 0
+  fitting-over h = rw (lt-ltb room len h)
+
+  fitting-short : len ≤ room → fitting room len a ≡ accepted a
+  fitting-short h = rw (le-ltb room len h)
+
+-- zeros, as many as a list of the same length has elements
+zeros-as : (s a b : List ℕ) → length a ≡ length b → s ≡ replicate (length a) 0 → s ≡ replicate (length b) 0
+zeros-as s a b e z = z ∙ ap (λ (n : ℕ). replicate n 0) e
 
 -- 15 comes last
 module _ (words input : List ℕ) (room work : ℕ) where
@@ -68,14 +78,20 @@ module _ (words input before after work work′ : List ℕ) (cleared : work′ �
     pub name-over : (count : ℕ) → NamePasses input (nameBefore15 words input (length work)) mid n count
         → after ≡ replicate (length before) 0 → NameCalls words input before after work work′ (name.Refused BufferTooSmall)
     name-over count p z =
-        let long : ltb (length before) (length (nameAnswer (p .labels))) ≡ true = lt-ltb (length before) (length (nameAnswer (p .labels))) (omega (arith, p .long)) in
-        name-refused BufferTooSmall (name-last words input (length before) (length work) ∙ rw (p .verdict, long)) z
+        let ls = p .labels in
+        name-refused BufferTooSmall
+        (name-last words input (length before) (length work)
+        ∙ rw (p .verdict) (fitting-over (length before) (length (nameAnswer ls)) ls (omega (arith, p .long))))
+        z
 
     pub label-over : (k : Kind) → LabelPasses (labelBefore15 words input (length work)) mid n k
         → after ≡ replicate (length before) 0 → LabelCalls words input before after work work′ (label.Refused BufferTooSmall)
     label-over k p z =
-        let long : ltb (length before) (length (answer (p .label))) ≡ true = lt-ltb (length before) (length (answer (p .label))) (omega (arith, p .long)) in
-        label-refused BufferTooSmall (label-last words input (length before) (length work) ∙ rw (p .verdict, long)) z
+        let l = p .label in
+        label-refused BufferTooSmall
+        (label-last words input (length before) (length work)
+        ∙ rw (p .verdict) (fitting-over (length before) (length (answer l)) l (omega (arith, p .long))))
+        z
 
   -- accepted: the answer, and zeros behind it
   module _ (mid : List ℕ) (n : ℕ) (fits : n ≤ length before) (same : length mid ≡ length before) where
@@ -83,8 +99,10 @@ module _ (words input before after work work′ : List ℕ) (cleared : work′ �
         → after ≡ take n mid ++ replicate (length mid - n) 0 → NameCalls words input before after work work′ (name.Accepted n count)
     unfolding nameCall nameResult
     name-accepted count p z =
-        let short : ltb (length before) (length (nameAnswer (p .labels))) ≡ false = le-ltb (length before) (length (nameAnswer (p .labels))) (omega (arith, p .long)) in
-        let v : nameVerdict words input (length before) (length work) ≡ accepted (p .labels) = name-last words input (length before) (length work) ∙ rw (p .verdict, short) in
+        let ls = p .labels in
+        let v : nameVerdict words input (length before) (length work) ≡ accepted ls =
+        name-last words input (length before) (length work)
+        ∙ rw (p .verdict) (fitting-short (length before) (length (nameAnswer ls)) ls (omega (arith, p .long))) in
         record {
           values = rw (v, p .long, p .counted);
           answer = z ∙ rw (v, p .written (omega (arith, same)), same, p .long);
@@ -95,8 +113,10 @@ module _ (words input before after work work′ : List ℕ) (cleared : work′ �
         → after ≡ take n mid ++ replicate (length mid - n) 0 → LabelCalls words input before after work work′ (label.Accepted n k)
     unfolding labelCall labelResult
     label-accepted k p z =
-        let short : ltb (length before) (length (answer (p .label))) ≡ false = le-ltb (length before) (length (answer (p .label))) (omega (arith, p .long)) in
-        let v : labelCallVerdict words input (length before) (length work) ≡ accepted (p .label) = label-last words input (length before) (length work) ∙ rw (p .verdict, short) in
+        let l = p .label in
+        let v : labelCallVerdict words input (length before) (length work) ≡ accepted l =
+        label-last words input (length before) (length work)
+        ∙ rw (p .verdict) (fitting-short (length before) (length (answer l)) l (omega (arith, p .long))) in
         record {
           values = rw (v, p .long, p .kind);
           answer = z ∙ rw (v, p .written (omega (arith, same)), same, p .long);
@@ -137,7 +157,7 @@ module _ (words input before work : List ℕ) (r : Admission) (h : AdmissionIs w
 module _ (words input before mid work used work′ : List ℕ) (cleared : work′ ≡ replicate (length used) 0) where
   module _ (r : NameAnswer) (j : NameJudged input (nameBefore15 words input (length work)) before mid work used r) where
     clear : work′ ≡ replicate (length work) 0
-    clear = cleared ∙ ap (λ (n : ℕ). replicate n 0) (j .same-work)
+    clear = zeros-as work′ used work (j .same-work) cleared
 
     passes : (n count : ℕ) → r ≡ name.Accepted n count → NamePasses input (nameBefore15 words input (length work)) mid n count
     passes n count e = rw e at (j .is)
@@ -146,14 +166,14 @@ module _ (words input before mid work used work′ : List ℕ) (cleared : work�
         → NameCalls words input before after work work′ r
     name-ends-refused f e after z =
         let is : NameIs input (nameBefore15 words input (length work)) mid (name.Refused f) = rw e at (j .is) in
-        rw e (name-refused-before words input before after work work′ clear f is (z ∙ ap (λ (n : ℕ). replicate n 0) (j .same)))
+        rw e (name-refused-before words input before after work work′ clear f is (zeros-as after mid before (j .same) z))
 
     module _ (n count : ℕ) (e : r ≡ name.Accepted n count) where
       pub name-ends-over : length mid < n → (after : List ℕ) → after ≡ replicate (length mid) 0
           → NameCalls words input before after work work′ (name.Refused BufferTooSmall)
       name-ends-over h after z =
           name-over words input before after work work′ clear mid n (omega (arith, j .same)) count (passes n count e)
-          (z ∙ ap (λ (m : ℕ). replicate m 0) (j .same))
+          (zeros-as after mid before (j .same) z)
 
       pub name-ends-accepted : n ≤ length mid → (tail : List ℕ) → tail ≡ replicate (length (midOf n (length mid - n) mid)) 0
           → NameCalls words input before (putMid n (length mid - n) mid tail) work work′ (name.Accepted n count)
@@ -164,7 +184,7 @@ module _ (words input before mid work used work′ : List ℕ) (cleared : work�
   -- and those of the label call
   module _ (r : LabelAnswer) (j : LabelJudged (labelBefore15 words input (length work)) before mid work used r) where
     label-clear : work′ ≡ replicate (length work) 0
-    label-clear = cleared ∙ ap (λ (n : ℕ). replicate n 0) (j .same-work)
+    label-clear = zeros-as work′ used work (j .same-work) cleared
 
     label-passes : (n : ℕ) (k : Kind) → r ≡ label.Accepted n k → LabelPasses (labelBefore15 words input (length work)) mid n k
     label-passes n k e = rw e at (j .is)
@@ -173,14 +193,14 @@ module _ (words input before mid work used work′ : List ℕ) (cleared : work�
         → LabelCalls words input before after work work′ r
     label-ends-refused f e after z =
         let is : LabelIs (labelBefore15 words input (length work)) mid (label.Refused f) = rw e at (j .is) in
-        rw e (label-refused-before words input before after work work′ label-clear f is (z ∙ ap (λ (n : ℕ). replicate n 0) (j .same)))
+        rw e (label-refused-before words input before after work work′ label-clear f is (zeros-as after mid before (j .same) z))
 
     module _ (n : ℕ) (k : Kind) (e : r ≡ label.Accepted n k) where
       pub label-ends-over : length mid < n → (after : List ℕ) → after ≡ replicate (length mid) 0
           → LabelCalls words input before after work work′ (label.Refused BufferTooSmall)
       label-ends-over h after z =
           label-over words input before after work work′ label-clear mid n (omega (arith, j .same)) k (label-passes n k e)
-          (z ∙ ap (λ (m : ℕ). replicate m 0) (j .same))
+          (zeros-as after mid before (j .same) z)
 
       pub label-ends-accepted : n ≤ length mid → (tail : List ℕ) → tail ≡ replicate (length (midOf n (length mid - n) mid)) 0
           → LabelCalls words input before (putMid n (length mid - n) mid tail) work work′ (label.Accepted n k)
