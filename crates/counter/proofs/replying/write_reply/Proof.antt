@@ -1,0 +1,69 @@
+-- `write_reply`: the line is read, the name normalised and its line written. Assumes nothing.
+use mathlib.Core.Path.{refl, sym}
+use lib.Seq.{length-take-le}
+use Rattle.counter.proofs.Replies.{read-of, unread, reply-room, reply-text}
+use native.Mathlib.Omega.{arith}
+use borrow.Author.Needs.{needs}
+use Rattle.counter.proofs.replying.write_reply.Statement.{statement}
+use Rattle.counter.proofs.replying.write_reply.Tie as tie
+
+slice-aggregate-read-line : tie.Need-slice-aggregate-read-line
+slice-aggregate-read-line c = search needs
+
+read-line-requires : tie.Need-read-line-requires
+read-line-requires c κs = search needs
+
+enum-known-read : tie.Need-enum-known-read
+enum-known-read c = search needs
+
+enum-told : tie.Need-enum-told
+enum-told c = search needs
+
+returns : tie.Need-returns
+returns c = unread _ _ _ _ (c .before .before .before .read-line .ensures) _ (c .enum-told .given .1)
+
+array-share-prefix-numbers : tie.Need-array-share-prefix-numbers
+array-share-prefix-numbers c = (read-of _ _ _ _ (c .before .before .before .before .read-line .ensures) _ (c .before .read .given .1)) .room
+
+slice-aggregate-name : tie.Need-slice-aggregate-name
+slice-aggregate-name c = sym (length-take-le _ _ ((read-of _ _ _ _ (c .before .before .before .before .before .read-line .ensures) _ (c .before .before .read .given .1)) .room))
+
+slice-aggregate-name-2 : tie.Need-slice-aggregate-name-2
+slice-aggregate-name-2 c = search needs
+
+slice-aggregate-name-3 : tie.Need-slice-aggregate-name-3
+slice-aggregate-name-3 c = search needs
+
+name-requires : tie.Need-name-requires
+name-requires c κs = search needs
+
+slice-aggregate-write-answer : tie.Need-slice-aggregate-write-answer
+slice-aggregate-write-answer c = search needs
+
+write-answer-requires : tie.Need-write-answer-requires
+write-answer-requires c κs = reply-room (c .before .before .before .before .name .ensures) refl (search needs) (c .before .before .before .before .before .before .before .before .before .before .before .before .before .before .before .before .before .pre)
+
+same-length : tie.Need-same-length
+same-length c = search needs
+
+returns-2 : tie.Need-returns-2
+returns-2 c = reply-text (read-of _ _ _ _ (c .before .before .before .before .before .before .before .before .before .before .before .before .before .before .before .read-line .ensures) _ (c .before .before .before .before .before .before .before .before .before .before .before .before .read .given .1)) (c .before .before .before .before .before .before .before .name .ensures) refl refl (c .before .before .write-answer .ensures) (search needs)
+
+pub write-reply-spec : {M : Type 1} → statement M
+write-reply-spec =
+    tie.close
+    (tie.spec
+    slice-aggregate-read-line
+    read-line-requires
+    enum-known-read
+    enum-told
+    returns
+    array-share-prefix-numbers
+    slice-aggregate-name
+    slice-aggregate-name-2
+    slice-aggregate-name-3
+    name-requires
+    slice-aggregate-write-answer
+    write-answer-requires
+    same-length
+    returns-2)

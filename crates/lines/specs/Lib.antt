@@ -1,0 +1,6 @@
+pub mod Text
+pub mod Reading
+pub mod Writing
+pub mod Splitting
+pub mod Promise
+pub mod Examples

@@ -1,0 +1,33 @@
+-- How input is split into lines, whatever the pieces that it comes in. 01, "Names at the counter": "A line ends at byte 0A, which isn't
+-- counted in its length, and the last one also at the end of input; nothing stands after a final 0A." Assumes nothing.
+use Prim.Native.Nat.{ℕ, zero, suc}
+use mathlib.Core.Bool.{Bool, cond}
+use mathlib.Core.List.{List, [], _∷_, _++_}
+use mathlib.Core.Option.{Option, none, some}
+use lib.Dec.{eqb}
+use Rattle.lists.specs.Lists.{isEmpty, onSome, split}
+use Rattle.lines.specs.Reading.{readLine}
+use Rattle.lines.specs.Writing.{endLine, badLine}
+
+-- the place of the first b, or the length where there is none
+unfoldable pub firstAt : ℕ → List ℕ → ℕ
+firstAt b [] = zero
+firstAt b (x ∷ s) = let later = firstAt b s in cond (eqb x b) zero (suc later)
+
+-- all parts but a last one that is empty
+abbrev pub withoutEnd : List (List ℕ) → List (List ℕ)
+withoutEnd [] = []
+withoutEnd (l ∷ []) = cond (isEmpty l) [] (l ∷ [])
+withoutEnd (l ∷ m ∷ ls) = l ∷ withoutEnd (m ∷ ls)
+
+-- the lines of the input
+unfoldable pub linesOf : List ℕ → List (List ℕ)
+unfolding split
+linesOf s = withoutEnd (split 10 s)
+
+-- What is written for the lines, n names being done: one line for each, as `reply` gives it for the name, and a last line; a line that
+-- is unreadable "gives `bad` and the program stops there".
+unfoldable pub output : (List ℕ → List ℕ) → ℕ → List (List ℕ) → List ℕ
+unfolding readLine endLine badLine
+output reply n [] = endLine n
+output reply n (l ∷ ls) = let later = output reply (suc n) ls in onSome (readLine l) (λ name. reply name ++ later) badLine
