@@ -8,3 +8,5 @@ pub mod CellLaws
 pub mod VerdictLaws
 pub mod OpeningLaws
 pub mod PartedLaws
+pub mod LookOrderLaws
+pub mod LookCoverLaws

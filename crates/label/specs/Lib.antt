@@ -7,3 +7,4 @@ pub mod GroupPart
 pub mod Flags
 pub mod CellText
 pub mod Opening
+pub mod LookOrder
