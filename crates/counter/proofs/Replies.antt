@@ -1,12 +1,12 @@
 -- The line for a line of input, from what its parts promise. Assumes nothing.
-use Prim.Native.Nat.{ℕ, _+_, _-_, _*_, _≤_, _<_}
+use Prim.Native.Nat.{ℕ, _≤_}
 use native.Mathlib.Omega.{arith}
-use mathlib.Core.Path.{_≡_, refl, sym, ap, subst, _∙_}
+use mathlib.Core.Path.{_≡_, refl, ap, subst, _∙_}
 use mathlib.Core.Bool.{Bool, true, false, cond}
 use mathlib.Core.List.{List}
-use mathlib.Core.Option.{Option, none, some}
+use mathlib.Core.Option.{none}
 use lib.ListN.{length, take, drop}
-use lib.Seq.{take-at, length-take-le}
+use lib.Seq.{take-at}
 use lib.Dec.{ltb}
 use borrow.Author.Tests.{ltb-false}
 use Rattle.answers.specs.Verdict.{Verdict, accepted, refused, next}
@@ -15,7 +15,7 @@ use Rattle.answers.specs.declared.NameAnswer.{NameAnswer}
 use Rattle.table.specs.Table.{Table}
 use Rattle.name.specs.Label.{Label, admitted, fitting}
 use Rattle.name.specs.Calls.{NameCalls}
-use Rattle.name.specs.Name.{labelsOf, labelsVerdict, nameAnswer, nameVerdict, nameResult, nameCall}
+use Rattle.name.specs.Name.{labelsOf, labelsVerdict, nameAnswer, nameResult, nameCall}
 use Rattle.lines.specs.Reading.{readLine}
 use Rattle.lines.specs.Writing.{answerLine}
 use Rattle.lines.specs.Promise.{Read, Reads, Writes, AnswerRoom}

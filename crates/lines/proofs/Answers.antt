@@ -1,6 +1,6 @@
 -- The line for what the name call answered. Assumes nothing.
 use Prim.Native.Nat.{ℕ, _≤_}
-use mathlib.Core.Path.{_≡_, refl, ap, subst}
+use mathlib.Core.Path.{_≡_, refl, ap}
 use mathlib.Core.Bool.{false}
 use mathlib.Core.List.{List}
 use lib.ListN.{length, take}
@@ -11,7 +11,7 @@ use Rattle.answers.specs.declared.Refusal.the-variants.{LayoutFault, WorkAreaTo
 use Rattle.answers.specs.declared.NameAnswer.{NameAnswer}
 use Rattle.answers.specs.declared.NameAnswer.the-variants.{Accepted, Refused}
 use Rattle.lines.specs.Writing.{okLine, noLine, answerLine}
-use Rattle.lines.specs.Promise.{Writes, AnswerRoom}
+use Rattle.lines.specs.Promise.{AnswerRoom}
 
 -- no refusal has the number 0
 numbered : (r : Refusal) → eqb (numberOf r) 0 ≡ false

@@ -1,10 +1,10 @@
 -- Digits of a number that is read. Assumes nothing.
-use Prim.Native.Nat.{ℕ, zero, suc, _+_, _-_, _*_, _^_, _≤_, _<_}
+use Prim.Native.Nat.{ℕ, _+_, _-_, _*_, _^_, _≤_, _<_}
 use native.Mathlib.Omega.{arith}
-use mathlib.Core.Path.{_≡_, refl, sym, ap, _∙_}
-use mathlib.Core.Bool.{Bool, true, false, _&&_, _||_, cond}
+use mathlib.Core.Path.{_≡_, refl, sym, _∙_}
+use mathlib.Core.Bool.{Bool, true, false, _&&_}
 use mathlib.Core.Logic.{_⊎_, inl, inr, ⊎-elim}
-use mathlib.Core.List.{List, [], _∷_, _++_}
+use mathlib.Core.List.{List, [], _∷_}
 use lib.ListN.{length, drop, getD, drop-of-length-le}
 use lib.Seq.{drop-cons}
 use lib.Dec.{leb}
@@ -13,7 +13,7 @@ use native.Mathlib.Nat.{pow-succ', pow-le-pow-right}
 use borrow.Author.Tests.{le-leb, lt-leb, leb-true}
 use Rattle.lists.specs.Lists.{all}
 use Rattle.lists.specs.Laws.{both-left, both-right, either}
-use Rattle.lines.specs.Reading.{isDigit, digitValue, valueFrom, valueOf, isNumber}
+use Rattle.lines.specs.Reading.{isDigit, digitValue, valueFrom, valueOf}
 use Rattle.lines.specs.Promise.{numberAnswer}
 use Rattle.lines.specs.declared.reading.Number.the-variants.{Value, Unreadable}
 

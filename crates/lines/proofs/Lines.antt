@@ -1,17 +1,16 @@
 -- A line that is written piece by piece: the room for each piece, and the end of the line. Assumes nothing.
-use Prim.Native.Nat.{ℕ, zero, suc, _+_, _-_, _*_, _^_, _≤_, _<_}
+use Prim.Native.Nat.{ℕ, suc, _+_, _-_, _*_, _^_, _≤_, _<_}
 use native.Mathlib.Omega.{arith}
-use native.Mathlib.Nat.{mul-suc}
-use mathlib.Core.Path.{_≡_, refl, sym, ap, _∙_}
+use mathlib.Core.Path.{_≡_}
 use mathlib.Core.List.{List, [], _∷_, _++_}
 use mathlib.Core.List.{append-nil}
 use native.Mathlib.Numerals.{add-one}
-use lib.ListN.{length, set, take, getD, length-append}
+use lib.ListN.{length, set, take, getD}
 use lib.Seq.{take-suc, take-all}
 use borrow.Rule.Slice.PartMut.{midOf, putMid}
 use Rattle.lists.specs.Lists.{joinedMap}
 use Rattle.lists.specs.Laws.{joined-append}
-use Rattle.lines.specs.Writing.{digits, spaced, newline}
+use Rattle.lines.specs.Writing.{spaced, newline}
 use Rattle.lines.specs.Promise.{Writes, SpacedRoom}
 use Rattle.lines.proofs.Fronts.{writes-none, writes-byte, writes-part, written-same, left-behind}
 use Rattle.lines.proofs.Numerals.{digits-fit}

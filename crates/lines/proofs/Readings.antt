@@ -1,10 +1,10 @@
 -- A line that is read word by word. Assumes nothing.
-use Prim.Native.Nat.{ℕ, zero, suc, _+_, _-_, _*_, _≤_, _<_}
+use Prim.Native.Nat.{ℕ, _+_, _-_, _*_, _≤_, _<_}
 use native.Mathlib.Omega.{arith}
 use native.Mathlib.Numerals.{add-one}
 use mathlib.Core.Path.{_≡_, refl, sym, ap, _∙_}
 use mathlib.Core.Bool.{Bool, true, false, _&&_, cond}
-use mathlib.Core.List.{List, [], _∷_, _++_, map, append-assoc, append-nil}
+use mathlib.Core.List.{List, [], _∷_, _++_, map, append-assoc}
 use mathlib.Core.Option.{Option, none, some}
 use lib.ListN.{length, take, drop, set, length-take, length-drop, length-set}
 use lib.Seq.{take-all, take-suc-set, drop-set-lt, drop-drop}
@@ -12,7 +12,7 @@ use lib.Dec.{leb, ltb}
 use borrow.Author.Tests.{le-leb, lt-leb, leb-true, ltb-true, ltb-false}
 use borrow.Rule.Slice.PartMut.{midOf}
 use Rattle.lists.specs.Lists.{all, split}
-use Rattle.lists.specs.Laws.{both-left, both-right}
+use Rattle.lists.specs.Laws.{both-left}
 use Rattle.buffers.proofs.Parts.{mid-tail}
 use Rattle.lines.specs.Reading.{isDigit, isNumber, valueOf, numbersOf, readLine}
 use Rattle.lines.specs.Splitting.{firstAt}

@@ -1,17 +1,19 @@
 -- The steps of the counter program: what is still to be written before each of them, and after it, whatever input is to come. So it
 -- writes the output of the whole input, however that is cut into pieces. Assumes nothing.
-use Prim.Native.Nat.{ℕ, zero, suc, _≤_, _<_}
+use Prim.Native.Nat.{ℕ, suc, _≤_, _<_}
 use native.Mathlib.Omega.{arith}
-use mathlib.Core.Path.{_≡_, refl, sym, ap, _∙_}
-use mathlib.Core.List.{List, [], _∷_, _++_, append-assoc}
-use mathlib.Core.Option.{Option, none, some}
+use mathlib.Core.Path.{_≡_, sym, _∙_}
+use mathlib.Core.List.{List, [], _∷_, _++_, append-assoc, append-nil}
+use mathlib.Core.Option.{none, some}
 use lib.ListN.{length, take, drop}
 use lib.Seq.{length-take-le}
-use Rattle.lists.specs.Lists.{onSome}
+use Rattle.lists.specs.Lists.{joined, onSome}
 use Rattle.lines.specs.Reading.{readLine}
 use Rattle.lines.specs.Writing.{endLine, badLine}
 use Rattle.lines.specs.Splitting.{linesOf, output}
 use Rattle.lines.specs.Promise.{Holding, LineEnded, PieceHeld, LineTooLong, firstLine}
+use Rattle.lines.specs.Running.{Runs}
+use Rattle.lines.specs.Running as run
 use Rattle.lines.proofs.Readings.{long-line}
 use Rattle.lines.proofs.Pieces.{lines-last, lines-none}
 
@@ -60,3 +62,19 @@ module _ (reply : List ℕ → List ℕ) (n : ℕ) where
   step-last {line} {held} h one =
       let long : length (take held line) ≡ held = length-take-le held line (omega (arith, h .room, h .count)) in
       rw (lines-last (take held line) (h .unended ∙ sym long) (omega (arith, long)))
+
+-- what the steps write is the output of the whole input, however it is cut into pieces
+pub runs-output : {reply : List ℕ → List ℕ} {n : ℕ} {held piece out : List ℕ} {pieces : List (List ℕ)} → Runs reply n held piece pieces out
+    → out ≡ output reply n (linesOf (held ++ (piece ++ joined pieces)))
+runs-output (run.next r) = runs-output r
+runs-output {reply} {n} {held} {piece} {out} {pieces} (run.line name t e r) = rw (runs-output r) (sym (step-line reply n t name e (joined pieces)))
+runs-output {reply} {n} {held} {piece} {out} {pieces} (run.unreadable t e) = sym (step-unreadable reply n t e (joined pieces))
+runs-output {reply} {n} {held} {piece} {out} {pieces} (run.part t r) = runs-output r ∙ sym (step-held reply n t (joined pieces))
+runs-output {reply} {n} {held} {piece} {out} {pieces} (run.tooLong t) = sym (step-too-long reply n held piece t (joined pieces))
+runs-output {reply} {n} {held} {piece} {out} {pieces} run.done = sym (step-end reply n [])
+runs-output {reply} {n} {held} {piece} {out} {pieces} (run.last {k = k} {buffer = buffer} name h one e) = rw (append-nil (take k buffer), step-last reply n h one, e)
+runs-output {reply} {n} {held} {piece} {out} {pieces} (run.lastUnreadable {k = k} {buffer = buffer} h one e) = rw (append-nil (take k buffer), step-last reply n h one, e)
+
+-- .. from its start
+pub whole-run : (reply : List ℕ → List ℕ) (pieces : List (List ℕ)) (out : List ℕ) → Runs reply 0 [] [] pieces out → out ≡ output reply 0 (linesOf (joined pieces))
+whole-run reply pieces out r = runs-output r

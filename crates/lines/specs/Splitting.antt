@@ -1,9 +1,8 @@
 -- How input is split into lines, whatever the pieces that it comes in. 01, "Names at the counter": "A line ends at byte 0A, which isn't
 -- counted in its length, and the last one also at the end of input; nothing stands after a final 0A." Assumes nothing.
 use Prim.Native.Nat.{ℕ, zero, suc}
-use mathlib.Core.Bool.{Bool, cond}
+use mathlib.Core.Bool.{cond}
 use mathlib.Core.List.{List, [], _∷_, _++_}
-use mathlib.Core.Option.{Option, none, some}
 use lib.Dec.{eqb}
 use Rattle.lists.specs.Lists.{isEmpty, onSome, split}
 use Rattle.lines.specs.Reading.{readLine}

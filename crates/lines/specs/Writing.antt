@@ -1,7 +1,7 @@
 -- The lines that the counter program writes. 01, "Names at the counter": the sample; "no leading zero on output"; "refusal, place and
 -- the count of names after `end` are decimal". Assumes nothing.
 use Prim.Native.Nat.{ℕ, zero, suc, _+_, _/_, _%_}
-use mathlib.Core.Bool.{Bool, cond}
+use mathlib.Core.Bool.{cond}
 use mathlib.Core.List.{List, [], _∷_, _++_}
 use lib.ListN.{take}
 use lib.Dec.{eqb, ltb}

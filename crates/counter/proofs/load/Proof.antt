@@ -1,6 +1,5 @@
 -- `load`: the words that were unpacked are in their buffer. Assumes nothing.
 use Rattle.counter.proofs.Serving.{loaded}
-use native.Mathlib.Omega.{arith}
 use borrow.Author.Needs.{needs}
 use Rattle.counter.proofs.load.Statement.{statement}
 use Rattle.counter.proofs.load.Tie as tie

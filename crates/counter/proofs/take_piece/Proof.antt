@@ -1,6 +1,5 @@
 -- `take_piece`: each turn takes a line, or the rest of the piece. Assumes nothing.
 use Prim.Native.Nat.{_-_}
-use mathlib.Core.Path.{_∙_, sym}
 use lib.ListN.{length}
 use Rattle.counter.proofs.Serving.{Serving, line-of, part-of, line-within, line-length, used-within, serving-line, serving-part}
 use native.Mathlib.Omega.{arith}

@@ -2,7 +2,6 @@
 use mathlib.Core.Path.{refl, sym}
 use lib.Seq.{length-take-le}
 use Rattle.counter.proofs.Replies.{read-of, unread, reply-room, reply-text}
-use native.Mathlib.Omega.{arith}
 use borrow.Author.Needs.{needs}
 use Rattle.counter.proofs.replying.write_reply.Statement.{statement}
 use Rattle.counter.proofs.replying.write_reply.Tie as tie

@@ -1,7 +1,4 @@
 -- `digit_value`: a return for each range. Assumes nothing.
-use native.Mathlib.Omega.{arith}
-use mathlib.Core.Path.{sym}
-use borrow.Author.Tests.{le-leb, lt-leb}
 use borrow.Author.Needs.{needs}
 use Rattle.lines.proofs.Digits.{digit-small, digit-low, digit-high}
 use Rattle.lines.proofs.reading.digit_value.Statement.{statement}

@@ -1,5 +1,4 @@
 -- `is_digit`: a return for each range. Assumes nothing.
-use native.Mathlib.Omega.{arith}
 use mathlib.Core.Path.{sym, _∙_}
 use borrow.Author.Tests.{le-leb, lt-leb}
 use Rattle.lines.proofs.Digits.{below-digits, low-digit, past-low}

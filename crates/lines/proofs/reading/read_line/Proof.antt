@@ -1,5 +1,5 @@
 -- `read_line`: after n turns, n words are read. Assumes nothing.
-use Prim.Native.Nat.{_-_, _≤_}
+use Prim.Native.Nat.{_-_}
 use mathlib.Core.Path.{sym, _∙_}
 use lib.ListN.{length}
 use Rattle.lines.proofs.Readings.{Words, empty-line, long-line, words-start, word-inside, value-number, no-number, words-bad, room-word, words-more, words-end}

@@ -1,6 +1,5 @@
 -- `take_line`: each return is one law of a piece. Assumes nothing.
 use mathlib.Core.Path.{sym}
-use native.Mathlib.Omega.{arith}
 use lib.Seq.{length-take-le}
 use Rattle.lines.proofs.Pieces.{piece-inside, line-too-long, piece-room, line-ended, piece-held}
 use borrow.Author.Needs.{needs}

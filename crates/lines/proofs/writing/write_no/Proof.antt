@@ -1,5 +1,5 @@
 -- `write_no`: the word, the refusal and the place behind it, and the end of the line. Assumes nothing.
-use Prim.Native.Nat.{_+_, _<_, _≤_}
+use Prim.Native.Nat.{_+_, _<_}
 use mathlib.Core.List.{_++_, _∷_, []}
 use lib.ListN.{length, length-append}
 use denote.Ref.{now}

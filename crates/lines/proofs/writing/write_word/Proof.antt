@@ -1,7 +1,7 @@
 -- `write_word`: after i turns the first i bytes are those of the word, and the others as they were. Assumes nothing.
 use Prim.Native.Nat.{_-_, _≤_}
 use lib.ListN.{length, take}
-use Rattle.buffers.proofs.Front.{Front, front-start, front-copy, front-copied}
+use Rattle.buffers.proofs.Front.{Front, front-start, front-copy}
 use Rattle.lines.proofs.Fronts.{copied}
 use native.Mathlib.Omega.{arith}
 use borrow.Author.Needs.{needs}
