@@ -1,8 +1,7 @@
 -- An answer's fields have the values of its case, by the equation that a match gives. Assumes nothing.
 use Prim.Native.Nat.{ℕ}
 use mathlib.Core.Path.{_≡_, sym, ap, _∙_}
-use mathlib.Core.Bool.{Bool, true, false, cond}
-use mathlib.Core.Option.{Option, none, some}
+use mathlib.Core.Bool.{Bool, cond}
 use Rattle.answers.specs.declared.GroupKind.{GroupKind}
 use Rattle.answers.specs.declared.Kind.{Kind}
 use Rattle.answers.specs.declared.Kind.the-variants.{Group}
@@ -11,7 +10,7 @@ use Rattle.answers.specs.declared.NameAnswer.{NameAnswer}
 use Rattle.answers.specs.declared.NameAnswer.the-variants as name
 use Rattle.answers.specs.declared.LabelAnswer.{LabelAnswer}
 use Rattle.answers.specs.declared.LabelAnswer.the-variants as label
-use Rattle.answers.specs.Values.{NameValues, LabelValues, nameValues, labelValues}
+use Rattle.answers.specs.Values.{NameValues, nameValues, labelValues}
 use Rattle.boundary.specs.declared.fields.Refused.{Refused}
 use Rattle.boundary.specs.declared.fields.KindNumbers.{KindNumbers}
 use Rattle.boundary.specs.Fields.{RefusalValues, KindValues, LabelNumbers, refusedValues, refusedFields, kindNumbers, kindFields, labelNumbers}

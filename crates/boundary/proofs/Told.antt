@@ -6,7 +6,6 @@ use mathlib.Core.Bool.{Bool, true, false}
 use mathlib.Core.List.{List}
 use Rattle.lists.specs.Lists.{isSome}
 use Rattle.table.specs.declared.Sections.{Sections}
-use Rattle.table.specs.declared.Layout.{Layout}
 use Rattle.table.specs.declared.Layout.the-variants.{Fault, Found}
 use Rattle.table.specs.Layout.{parse}
 use Rattle.table.specs.Laid.{layoutOf}

@@ -5,9 +5,9 @@ use Prim.Native.Nat.{ℕ}
 use native.Mathlib.Omega.{arith}
 use mathlib.Core.Path.{_≡_, refl, sym, ap, _∙_}
 use mathlib.Core.List.{List, [], _∷_}
-use lib.ListN.{length, getD, replicate}
-use Rattle.name.specs.Label.{LabelResult, labelCall}
-use Rattle.name.specs.Name.{NameResult, nameCall}
+use lib.ListN.{getD, replicate}
+use Rattle.name.specs.Label.{labelCall}
+use Rattle.name.specs.Name.{nameCall}
 use Rattle.cases.specs.SmallTable.{smallTable}
 
 -- a work area that is large enough

@@ -2,13 +2,13 @@
 -- in both buffers, and the kind of each label. They are one table under one claim, `starred`. Assumes nothing.
 use Prim.Native.Nat.{ℕ}
 use mathlib.Core.Path.{_≡_, refl}
-use mathlib.Core.Bool.{Bool, false}
+use mathlib.Core.Bool.{false}
 use mathlib.Core.List.{List, [], _∷_, map}
-use mathlib.Core.Option.{Option, none}
+use mathlib.Core.Option.{none}
 use lib.ListN.{length, replicate}
 use Rattle.answers.specs.Verdict.{Verdict, accepted, refused}
 use Rattle.answers.specs.declared.Kind.{Kind}
-use Rattle.answers.specs.declared.Kind.the-variants.{Emoji, Ascii, Group}
+use Rattle.answers.specs.declared.Kind.the-variants.{Ascii, Group}
 use Rattle.name.specs.Label.{Label, filled}
 use Rattle.name.specs.Name.{NameResult, nameVerdict, nameCall}
 use Rattle.soundness.specs.Soundness.{soundnessOf}

@@ -1,24 +1,24 @@
 -- "A label's kind is the one that the rules of one label give it; the label call, lent that label alone with enough room, answers it": for
 -- every table and accepted name, the label call on each of its labels gives that label's part of the answer and its kind. Assumes nothing.
-use Prim.Native.Nat.{ℕ, zero, suc, _+_, _≤_, _<_}
+use Prim.Native.Nat.{ℕ, suc, _+_, _≤_}
 use native.Mathlib.Omega.{arith}
-use mathlib.Core.Path.{_≡_, refl, sym, ap, subst, _∙_}
+use mathlib.Core.Path.{_≡_, refl, ap, subst}
 use mathlib.Core.Bool.{Bool, true, false, not, cond}
-use mathlib.Core.List.{List, [], _∷_, _++_}
-use mathlib.Core.Option.{Option, none, some}
+use mathlib.Core.List.{List, [], _∷_}
+use mathlib.Core.Option.{none, some}
 use lib.ListN.{length}
-use lib.Dec.{eqb, ltb}
+use lib.Dec.{eqb}
 use borrow.Author.Tests.{le-ltb}
-use Rattle.lists.specs.Lists.{ontoFirst, onSome, placeWith, split}
-use Rattle.answers.specs.Verdict.{Verdict, accepted, refused, next}
+use Rattle.lists.specs.Lists.{ontoFirst, placeWith, split}
+use Rattle.answers.specs.Verdict.{accepted}
 use Rattle.table.specs.Table.{Table}
 use Rattle.table.specs.Layout.{parse}
 use Rattle.text.specs.Scalar.{isScalar}
-use Rattle.name.specs.Label.{Label, stop, leastWork, mostInput, mostWorked, answer, admitted, fitting, labelVerdict, oneLabel, labelCallVerdict, labelResult, labelCall}
+use Rattle.name.specs.Label.{Label, stop, leastWork, mostInput, answer, admitted, labelVerdict, oneLabel, labelCallVerdict, labelResult, labelCall}
 use Rattle.name.specs.Name.{EnoughRoom, labelsOf, labelsVerdict, nameVerdict}
 use Rattle.joining.specs.Places.{placeWith-none, label-fits, label-moves}
 use Rattle.joining.specs.Labels.{cons-accepts}
-use Rattle.joining.specs.Joining.{NameAccepts, name-accepts}
+use Rattle.joining.specs.Joining.{name-accepts}
 
 abbrev scalarsOnly : List ℕ → Type 0
 scalarsOnly l = placeWith (λ c. not (isScalar c)) 0 l ≡ none

@@ -1,7 +1,7 @@
 -- Demand 3, second half: "take any two names accepted with one table, sound or not, neither name empty. Joined by a full stop, they are
 -- accepted exactly when the joined name keeps within the length limits and the room. The answer is then the first answer, a full stop and
 -- the second answer. The labels are those of the first name and then those of the second, each with its kind." Assumes nothing.
-use Prim.Native.Nat.{ℕ, zero, suc, _+_, _≤_, _<_}
+use Prim.Native.Nat.{ℕ, suc, _+_, _≤_}
 use native.Mathlib.Omega.{arith}
 use mathlib.Core.Path.{_≡_, refl, sym, ap, _∙_}
 use mathlib.Core.Bool.{Bool, true, false, not, cond}
@@ -9,7 +9,7 @@ use mathlib.Core.List.{List, [], _∷_, _++_, map, map-append}
 use mathlib.Core.Option.{Option, none, some}
 use lib.ListN.{length, replicate, length-append, length-map}
 use lib.Dec.{ltb}
-use borrow.Author.Tests.{ltb-true, ltb-false, lt-ltb, le-ltb}
+use borrow.Author.Tests.{ltb-false, le-ltb}
 use Rattle.lists.specs.Lists.{mem, onSome, placeWith, split, joinWith}
 use Rattle.lists.specs.Splits.{split-some, split-joined, joinWith-append}
 use Rattle.answers.specs.Verdict.{Verdict, accepted, refused, next}

@@ -1,7 +1,6 @@
 -- Acceptance of a list of labels goes label by label, with one limit on the worked length of all. Assumes nothing.
-use Prim.Native.Nat.{ℕ, zero, suc, _+_, _≤_, _<_}
+use Prim.Native.Nat.{ℕ, suc, _+_, _≤_}
 use native.Mathlib.Omega.{arith}
-use native.Mathlib.Numerals.{add-one}
 use mathlib.Core.Path.{_≡_, refl, sym, ap, _∙_}
 use mathlib.Core.List.{List, [], _∷_, _++_}
 use lib.ListN.{length}
@@ -14,7 +13,7 @@ use lib.Dec.{ltb}
 use borrow.Author.Tests.{ltb-false}
 use Rattle.tokens.specs.Scan.{steps}
 use Rattle.tokens.specs.Tokens.{Token, tokensOf, worked}
-use Rattle.joining.specs.Places.{LabelAccepts, clash, judge-moves, label-accepts, label-fits, label-moves, disallowed-none}
+use Rattle.joining.specs.Places.{LabelAccepts, clash, label-accepts, label-fits, label-moves, disallowed-none}
 
 -- the worked lengths of the labels, with one for the stop behind each
 unfoldable pub spent : List Label → ℕ

@@ -1,8 +1,7 @@
 -- Refusal 14. 01, "The rules of one label", "Confusable". Assumes nothing.
 use Prim.Native.Nat.{ℕ}
-use mathlib.Core.Bool.{Bool, true, false, not, _&&_, _||_}
-use mathlib.Core.List.{List, [], _∷_, _++_}
-use mathlib.Core.Option.{Option, none, some}
+use mathlib.Core.Bool.{Bool, not, _&&_}
+use mathlib.Core.List.{List, _∷_, _++_}
 use Rattle.lists.specs.Lists.{all, any, isSome, keep, mem, onSome}
 use Rattle.table.specs.Table.{Table, Group, Whole}
 use Rattle.table.specs.Lookup.{holds, wholeOf}

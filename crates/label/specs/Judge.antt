@@ -1,9 +1,8 @@
 -- The rules on the tokens of a label, after 5, 6 and 7: refusals 8 to 14 "in order", and the kind. 01, "The rules of one label",
 -- "Then, on these tokens". The place of these refusals is the number of the label. Assumes nothing.
 use Prim.Native.Nat.{ℕ}
-use mathlib.Core.Bool.{Bool, true, false, not, _&&_, _||_, cond}
+use mathlib.Core.Bool.{Bool, true, false, not, _&&_, cond}
 use mathlib.Core.List.{List, [], _∷_}
-use mathlib.Core.Option.{Option, none, some}
 use lib.Dec.{ltb}
 use Rattle.lists.specs.Lists.{all, onSome}
 use Rattle.answers.specs.Verdict.{Verdict, accepted, refused}

@@ -1,7 +1,7 @@
 -- Refusals 8 to 11. 01, "Refusal numbers" and "The rules of one label". Each definition says that the refusal applies.
 -- Assumes nothing.
 use Prim.Native.Nat.{ℕ}
-use mathlib.Core.Bool.{Bool, true, false, _&&_, _||_, cond}
+use mathlib.Core.Bool.{Bool, false, _&&_, _||_}
 use mathlib.Core.List.{List, [], _∷_}
 use lib.Dec.{eqb}
 use Rattle.lists.specs.Lists.{any, dropWith, mem}

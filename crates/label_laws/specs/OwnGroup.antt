@@ -1,17 +1,17 @@
 -- A group that holds all of a text is never one in which the text could be respelled. The extent is used through two laws only: a character
 -- is in its extent, and so is every member of its whole that shares a group with it. Assumes nothing.
-use mathlib.Core.Path.{_≡_, refl, sym, ap, _∙_}
-use mathlib.Core.Bool.{Bool, true, false, not, _&&_, cond, false≢true, true≢false}
-use mathlib.Core.List.{List, [], _∷_, _++_, List·Memᴰ, List·Memᴰ·head, List·Memᴰ·tail}
+use mathlib.Core.Path.{_≡_, refl, sym, _∙_}
+use mathlib.Core.Bool.{Bool, true, false, not, _&&_, false≢true, true≢false}
+use mathlib.Core.List.{List, List·Memᴰ, List·Memᴰ·head, List·Memᴰ·tail}
 use mathlib.Core.Option.{Option, none, some}
 use Prim.Native.Nat.{ℕ}
-use Rattle.lists.specs.Lists.{all, any, isSome, keep, mem, onSome}
+use Rattle.lists.specs.Lists.{all, any, isSome, mem, onSome}
 use Rattle.lists.specs.Laws.{both, mem-of, keep-member}
-use Rattle.lists.specs.Members.{Passing, any-passing, passing-any, all-at, keep-keeps}
+use Rattle.lists.specs.Members.{any-passing, passing-any, all-at, keep-keeps}
 use Rattle.table.specs.Table.{Table, Group, Whole}
 use Rattle.table.specs.Lookup.{holds, wholeOf}
 use Rattle.label.specs.Groups.{holdsAll}
-use Rattle.label.specs.Confusable.{isConfused, members, shareGroup, extent, outside, respells, confusable}
+use Rattle.label.specs.Confusable.{isConfused, members, shareGroup, extent, outside, respells}
 
 -- E1: a character is in its extent
 pub extent-self : (t : Table) (w : Whole) (c : ℕ) → List·Memᴰ c (extent t w c)

@@ -2,13 +2,13 @@
 -- group could spell it with each of them swapped for a look-alike outside its extent." Assumes nothing.
 use Prim.Native.Nat.{ℕ}
 use native.Mathlib.Omega.{arith}
-use mathlib.Core.Path.{_≡_, refl, sym, ap, _∙_}
-use mathlib.Core.Bool.{Bool, true, false, not, _&&_, false≢true, true≢false}
-use mathlib.Core.List.{List, [], _∷_, List·Memᴰ}
+use mathlib.Core.Path.{_≡_, refl, sym, _∙_}
+use mathlib.Core.Bool.{Bool, true, false, not, _&&_, true≢false}
+use mathlib.Core.List.{List, List·Memᴰ}
 use mathlib.Core.Logic.{_↔_}
 use mathlib.Core.Option.{Option, none, some, Option·none-ne-some, Option·some-injective}
 use borrow.Author.Tests.{not-true}
-use Rattle.lists.specs.Lists.{all, any, isSome, mem, onSome}
+use Rattle.lists.specs.Lists.{all, any, mem, onSome}
 use Rattle.lists.specs.Laws.{both, both-left, both-right, keep-member, mem-of, member-of}
 use Rattle.lists.specs.Members.{any-passing, passing-any, all-at, all-of, keep-keeps}
 use Rattle.answers.specs.Verdict.{Verdict, accepted, refused}

@@ -1,6 +1,6 @@
 -- "For a label that reaches this test, the source's early exit at a Unique character (in exactly one group, not confused) never changes the
 -- answer": the loop of the source (ENSIP-15, "Wholes"), its exits included, answers as `confusable` does. Assumes nothing.
-use Prim.Native.Nat.{ℕ, suc, _≤_}
+use Prim.Native.Nat.{ℕ, suc}
 use native.Mathlib.Omega.{arith}
 use mathlib.Core.Path.{_≡_, refl, sym, ap, _∙_}
 use mathlib.Core.Bool.{Bool, true, false, not, _&&_, _||_, cond, false≢true, true≢false}
@@ -9,9 +9,9 @@ use mathlib.Core.Logic.{⊎-elim}
 use mathlib.Core.Option.{Option, none, some}
 use lib.Dec.{eqb}
 use borrow.Author.Tests.{eqb-true, not-true}
-use Rattle.lists.specs.Lists.{all, any, countWith, isEmpty, isSome, keep, mem, onSome}
+use Rattle.lists.specs.Lists.{all, any, countWith, isEmpty, isSome, keep, onSome}
 use Rattle.lists.specs.Laws.{both-left, both-right, either, keep-member}
-use Rattle.lists.specs.Members.{Passing, any-passing, any-same, any-keep, passing-any, all-at, all-of, keep-keeps, only-one}
+use Rattle.lists.specs.Members.{any-passing, any-same, any-keep, passing-any, all-at, all-of, keep-keeps, only-one}
 use Rattle.table.specs.Table.{Table, Group, Whole}
 use Rattle.table.specs.Lookup.{holds, wholeOf}
 use Rattle.label.specs.Groups.{Numbered, holdsAll, groupOf, groupFrom}

@@ -1,11 +1,11 @@
 -- The elements that `any`, `all` and `keep` speak of. Assumes nothing.
-use Prim.Native.Nat.{ℕ, zero, suc, _+_, _≤_, _<_}
+use Prim.Native.Nat.{suc, _≤_}
 use native.Mathlib.Omega.{arith}
 use mathlib.Core.Path.{_≡_, refl, sym, ap, _∙_}
 use mathlib.Core.Bool.{Bool, true, false, _&&_, _||_, cond, false≢true}
 use mathlib.Core.List.{List, [], _∷_, List·Memᴰ, List·Memᴰ·head, List·Memᴰ·tail}
 use Rattle.lists.specs.Lists.{all, any, countWith, keep}
-use Rattle.lists.specs.Laws.{both-left, both-right, all-every, every-member}
+use Rattle.lists.specs.Laws.{all-every, every-member}
 
 module _ {A : Type 0} where
   -- an element that passes the test

@@ -1,18 +1,18 @@
 -- One label, refusals 5 to 14, and the label call. 01, "Refusal numbers" and "The rules of one label". Assumes nothing.
 use Prim.Native.Nat.{ℕ, _+_, _-_}
-use mathlib.Core.Bool.{Bool, true, false, not, cond}
-use mathlib.Core.List.{List, [], _∷_, _++_}
+use mathlib.Core.Bool.{not, cond}
+use mathlib.Core.List.{List, _++_}
 use mathlib.Core.Option.{Option, none, some, Option·getD}
 use lib.ListN.{length, replicate}
-use lib.Dec.{leb, ltb, eqb}
-use Rattle.lists.specs.Lists.{isEmpty, mem, onSome, placeWith, takeWith}
+use lib.Dec.{ltb, eqb}
+use Rattle.lists.specs.Lists.{isEmpty, onSome, placeWith, takeWith}
 use Rattle.answers.specs.Verdict.{Verdict, accepted, refused, next}
 use Rattle.answers.specs.Values.{LabelValues}
 use Rattle.answers.specs.declared.Kind.{Kind}
 use Rattle.table.specs.Table.{Table}
 use Rattle.table.specs.Layout.{parse}
 use Rattle.text.specs.Scalar.{isScalar}
-use Rattle.tokens.specs.Scan.{Step, steps, firstDisallowed}
+use Rattle.tokens.specs.Scan.{steps, firstDisallowed}
 use Rattle.tokens.specs.Tokens.{Token, tokensOf, worked, normal, spelled}
 use Rattle.label.specs.Judge.{judge}
 

@@ -1,9 +1,8 @@
 -- The name call. 01, "Refusal numbers", "The rules of one label" and "Proof held to the counter's standard". Assumes nothing.
 use Prim.Native.Nat.{ℕ, suc, _+_, _≤_}
-use mathlib.Core.Bool.{Bool, true, false, cond}
-use mathlib.Core.List.{List, [], _∷_, _++_, map}
+use mathlib.Core.List.{List, [], _∷_, map}
 use lib.ListN.{length, replicate}
-use Rattle.lists.specs.Lists.{split, joinWith, total}
+use Rattle.lists.specs.Lists.{split, joinWith}
 use Rattle.answers.specs.Verdict.{Verdict, accepted, refused, next}
 use Rattle.answers.specs.Values.{NameValues}
 use Rattle.table.specs.Table.{Table}

@@ -19,7 +19,7 @@ use Rattle.table.specs.Table.{Table}
 use Rattle.table.specs.Layout.{parse}
 use Rattle.table.specs.Laid.{layoutOf, theTable}
 use Rattle.text.specs.Decomposition.{classOf, fourRounds}
-use Rattle.text.specs.Ordering.{order, nfd}
+use Rattle.text.specs.Ordering.{nfd}
 use Rattle.text.specs.Composition.{compose, nfc}
 use Rattle.text.specs.Sorting.{sortBy}
 use Rattle.text.specs.Rounds.{Appended}

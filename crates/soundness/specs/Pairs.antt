@@ -1,6 +1,6 @@
 -- Rules 6 and 7, on decompositions. Each has a meaning of its own on any table. Assumes nothing.
-use Prim.Native.Nat.{ℕ, _+_}
-use mathlib.Core.Bool.{Bool, true, false, not, _&&_, _||_}
+use Prim.Native.Nat.{ℕ}
+use mathlib.Core.Bool.{Bool, false, not, _&&_, _||_}
 use mathlib.Core.List.{List, [], _∷_, map}
 use lib.Dec.{leb, ltb, eqb}
 use Rattle.lists.specs.Lists.{all, distinct, distinctLists, isSome, sameList}

@@ -2,8 +2,8 @@
 use Prim.Native.Nat.{ℕ, zero, suc, _+_, _-_, _<_, _≤_}
 use native.Mathlib.Numerals.{add-one, unary-clauses}
 use native.Mathlib.Omega.{arith}
-use mathlib.Core.Path.{_≡_, refl, sym, _∙_, ap}
-use mathlib.Core.Bool.{Bool, true, false, _&&_, _||_, cond}
+use mathlib.Core.Path.{_≡_, refl, sym, _∙_}
+use mathlib.Core.Bool.{Bool, true, false, _&&_, cond}
 use mathlib.Core.List.{List, [], _∷_}
 use mathlib.Core.Option.{Option, none, some}
 use lib.ListN.{length, getD, take, drop, length-take, length-drop, drop-of-length-le}
@@ -17,7 +17,7 @@ use Rattle.table.specs.Laid.{within, Fits, Laid, theTable}
 use Rattle.table.proofs.SectionLaws.{laid-fits, laid-reads}
 use Rattle.table.specs.Table.{Range, ClassRange}
 use Rattle.table.specs.Layout.{onlyIf, inFront, ranges, classRanges, excluded, mostClass}
-use Rattle.table.specs.Lookup.{inRange, inRanges, inClassRange, tableClass}
+use Rattle.table.specs.Lookup.{inRanges, tableClass}
 use Rattle.table.specs.Part.{inPairs, classAmong, ClassFound}
 
 -- nothing and something, no and yes, are never the same

@@ -1,11 +1,11 @@
 -- Lookups in a table: "Where entries overlap, the first one counts." Assumes nothing.
 use Prim.Native.Nat.{ℕ}
 use mathlib.Core.Bool.{Bool, _&&_}
-use mathlib.Core.List.{List, []}
+use mathlib.Core.List.{List}
 use mathlib.Core.Option.{Option, none, some, Option·map}
 use lib.Dec.{leb, eqb}
 use Rattle.lists.specs.Lists.{any, firstWith, mem}
-use Rattle.table.specs.Table.{Range, ClassRange, Headed, Group, Whole, Table}
+use Rattle.table.specs.Table.{Range, ClassRange, Headed, Group, Whole}
 
 -- c lies from first to last
 abbrev pub inRange : ℕ → Range → Bool

@@ -9,7 +9,7 @@ ghost use lib.ListN.{length, getD};
 ghost use mathlib.Core.Bool.{true};
 ghost use Rattle.lists.specs.Lists.{mem, isSome};
 ghost use Rattle.table.specs.Layout.{mostItems, mostParts, headed, wholes};
-ghost use Rattle.table.specs.Lookup.{inRanges, tableClass, itemsOf, wholeOf};
+ghost use Rattle.table.specs.Lookup.{inRanges, itemsOf, wholeOf};
 ghost use Rattle.table.specs.Laid.{Laid, Fits, within, theTable};
 ghost use Rattle.table.specs.Part.{inPairs, classAmong, ClassFound, countedAt, headsIn, wholesIn, HeadedPart, WholesPart, ItemsFound, WholeFound};
 
