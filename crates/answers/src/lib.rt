@@ -1,4 +1,6 @@
 // The answers of the public calls. specs/Values.antt states the number and the values of each case.
+ghost use mathlib.Core.Path.{_≡_};
+ghost use Rattle.answers.specs.Values.{numberOf, placeOf};
 
 // A group's number, counted from 0, and whether it is restricted.
 pub struct GroupKind {
@@ -57,4 +59,50 @@ pub enum Unpacked {
     WrongVersion,
     WrongLength,
     TooLittleRoom,
+}
+
+// The number of a refusal.
+pub fn number_of(refusal: Refusal) -> u32
+    ensures { λ r. ⌜ r ≡ numberOf refusal ⌝ }
+{
+    match refusal {
+        Refusal::LayoutFault => 1,
+        Refusal::WorkAreaTooSmall => 2,
+        Refusal::InputTooLong => 3,
+        Refusal::NotScalar(_) => 4,
+        Refusal::Disallowed(_) => 5,
+        Refusal::NoTokens(_) => 6,
+        Refusal::WorkedTooLong(_) => 7,
+        Refusal::LowLine(_) => 8,
+        Refusal::Hyphens(_) => 9,
+        Refusal::Fenced(_) => 10,
+        Refusal::LeadingMark(_) => 11,
+        Refusal::NoGroup(_) => 12,
+        Refusal::NsmRun(_) => 13,
+        Refusal::Confusable(_) => 14,
+        Refusal::BufferTooSmall => 15,
+    }
+}
+
+// Its place, 0 where it has none.
+pub fn place_of(refusal: Refusal) -> usize
+    ensures { λ r. ⌜ r ≡ placeOf refusal ⌝ }
+{
+    match refusal {
+        Refusal::LayoutFault => 0,
+        Refusal::WorkAreaTooSmall => 0,
+        Refusal::InputTooLong => 0,
+        Refusal::NotScalar(index) => index,
+        Refusal::Disallowed(index) => index,
+        Refusal::NoTokens(label) => label,
+        Refusal::WorkedTooLong(label) => label,
+        Refusal::LowLine(label) => label,
+        Refusal::Hyphens(label) => label,
+        Refusal::Fenced(label) => label,
+        Refusal::LeadingMark(label) => label,
+        Refusal::NoGroup(label) => label,
+        Refusal::NsmRun(label) => label,
+        Refusal::Confusable(label) => label,
+        Refusal::BufferTooSmall => 0,
+    }
 }

@@ -10,10 +10,9 @@ use Rattle.answers.specs.declared.NameAnswer.{NameAnswer}
 use Rattle.answers.specs.declared.NameAnswer.the-variants as name
 use Rattle.answers.specs.declared.LabelAnswer.{LabelAnswer}
 use Rattle.answers.specs.declared.LabelAnswer.the-variants as label
-use Rattle.answers.specs.Values.{NameValues, nameValues, labelValues}
-use Rattle.boundary.specs.declared.fields.Refused.{Refused}
+use Rattle.answers.specs.Values.{NameValues, numberOf, placeOf, nameValues, labelValues}
 use Rattle.boundary.specs.declared.fields.KindNumbers.{KindNumbers}
-use Rattle.boundary.specs.Fields.{RefusalValues, KindValues, LabelNumbers, refusedValues, refusedFields, kindNumbers, kindFields, labelNumbers}
+use Rattle.boundary.specs.Fields.{KindValues, LabelNumbers, kindNumbers, kindFields, labelNumbers}
 
 -- a group, restricted or not
 pub group-numbers : {k : Kind} {g : GroupKind} {b : Bool} → k ≡ Group g → g .restricted ≡ b → _≡_ {A = KindValues} (record { kind = 3; group = g .number; restricted = cond b 1 0 }) (kindNumbers k)
@@ -24,18 +23,19 @@ group-numbers {k} {g} {b} e h =
     shown n x = record { kind = 3; group = n; restricted = cond x 1 0 }
 
 -- a refusal of the name call
-pub name-refused : {a : NameAnswer} {r : Refusal} (f : Refused) → a ≡ name.Refused r → refusedFields f ≡ refusedValues r → _≡_ {A = NameValues} (record { number = f .number; place = f .place; length = 0; labels = 0 }) (nameValues a)
-name-refused {a} {r} f e h = ap values h ∙ sym (ap nameValues e)
+pub name-refused : {a : NameAnswer} {r : Refusal} {n p : ℕ} → a ≡ name.Refused r → n ≡ numberOf r → p ≡ placeOf r → _≡_ {A = NameValues} (record { number = n; place = p; length = 0; labels = 0 }) (nameValues a)
+name-refused {a} {r} {n} {p} e f g = sym (ap nameValues e ∙ ap (values (placeOf r)) (sym f) ∙ ap (λ q. values q n) (sym g))
   where
-    values : RefusalValues → NameValues
-    values v = record { number = v .number; place = v .place; length = 0; labels = 0 }
+    values : ℕ → ℕ → NameValues
+    values q m = record { number = m; place = q; length = 0; labels = 0 }
 
 -- a refusal of the label call
-pub label-refused : {a : LabelAnswer} {r : Refusal} (f : Refused) → a ≡ label.Refused r → refusedFields f ≡ refusedValues r → _≡_ {A = LabelNumbers} (record { number = f .number; place = f .place; length = 0; kind = record { kind = 0; group = 0; restricted = 0 } }) (labelNumbers (labelValues a))
-label-refused {a} {r} f e h = ap values h ∙ sym (ap (λ (x : LabelAnswer). labelNumbers (labelValues x)) e)
+pub label-refused : {a : LabelAnswer} {r : Refusal} {n p : ℕ} → a ≡ label.Refused r → n ≡ numberOf r → p ≡ placeOf r → _≡_ {A = LabelNumbers} (record { number = n; place = p; length = 0; kind = record { kind = 0; group = 0; restricted = 0 } }) (labelNumbers (labelValues a))
+label-refused {a} {r} {n} {p} e f g =
+    sym (ap (λ (x : LabelAnswer). labelNumbers (labelValues x)) e ∙ ap (values (placeOf r)) (sym f) ∙ ap (λ q. values q n) (sym g))
   where
-    values : RefusalValues → LabelNumbers
-    values v = record { number = v .number; place = v .place; length = 0; kind = record { kind = 0; group = 0; restricted = 0 } }
+    values : ℕ → ℕ → LabelNumbers
+    values q m = record { number = m; place = q; length = 0; kind = record { kind = 0; group = 0; restricted = 0 } }
 
 -- an answer of the label call
 pub label-accepted : {a : LabelAnswer} {n : ℕ} {k : Kind} (f : KindNumbers) → a ≡ label.Accepted n k → kindFields f ≡ kindNumbers k → _≡_ {A = LabelNumbers} (record { number = 0; place = 0; length = n; kind = kindFields f }) (labelNumbers (labelValues a))

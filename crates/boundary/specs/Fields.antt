@@ -5,23 +5,10 @@ use mathlib.Core.Bool.{cond}
 use mathlib.Core.Option.{Option, none, some}
 use Rattle.answers.specs.declared.Kind.{Kind}
 use Rattle.answers.specs.declared.Kind.the-variants.{Emoji, Ascii, Group}
-use Rattle.answers.specs.declared.Refusal.{Refusal}
-use Rattle.answers.specs.Values.{numberOf, placeOf, NameValues, LabelValues}
-use Rattle.boundary.specs.declared.fields.Refused.{Refused}
+use Rattle.answers.specs.Values.{NameValues, LabelValues}
 use Rattle.boundary.specs.declared.fields.KindNumbers.{KindNumbers}
 use Rattle.boundary.specs.declared.fields.WanlophengName.{WanlophengName}
 use Rattle.boundary.specs.declared.fields.WanlophengLabel.{WanlophengLabel}
-
--- a refusal as two numbers
-pub record RefusalValues : Type 0 where
-  pub number : ℕ
-  pub place : ℕ
-
-abbrev pub refusedValues : Refusal → RefusalValues
-refusedValues r = record { number = numberOf r; place = placeOf r }
-
-abbrev pub refusedFields : Refused → RefusalValues
-refusedFields f = record { number = f .number; place = f .place }
 
 -- a kind as three numbers
 pub record KindValues : Type 0 where

@@ -2,17 +2,12 @@
 use answers::Kind;
 use answers::LabelAnswer;
 use answers::NameAnswer;
-use answers::Refusal;
 use answers::Soundness;
+use answers::number_of;
+use answers::place_of;
 ghost use mathlib.Core.Path.{_≡_};
 ghost use Rattle.answers.specs.Values.{nameValues, labelValues, brokenRule};
-ghost use Rattle.boundary.specs.Fields.{refusedValues, refusedFields, nameFields, labelFields, labelNumbers, kindNumbers, kindFields, soundnessNumber};
-
-// A refusal's number and place.
-pub struct Refused {
-    pub number: u32,
-    pub place: usize,
-}
+ghost use Rattle.boundary.specs.Fields.{nameFields, labelFields, labelNumbers, kindNumbers, kindFields, soundnessNumber};
 
 // A kind: 1 emoji, 2 ASCII, 3 a group with its number and 1 where it is restricted; other fields are 0.
 pub struct KindNumbers {
@@ -40,73 +35,6 @@ pub struct WanlophengLabel {
     pub kind: u32,
     pub group: usize,
     pub restricted: u32,
-}
-
-pub fn refusal_fields(r: Refusal) -> Refused
-    ensures { λ f. ⌜ refusedFields f ≡ refusedValues r ⌝ }
-{
-    match r {
-        Refusal::LayoutFault => Refused {
-            number: 1,
-            place: 0,
-        },
-        Refusal::WorkAreaTooSmall => Refused {
-            number: 2,
-            place: 0,
-        },
-        Refusal::InputTooLong => Refused {
-            number: 3,
-            place: 0,
-        },
-        Refusal::NotScalar(i) => Refused {
-            number: 4,
-            place: i,
-        },
-        Refusal::Disallowed(i) => Refused {
-            number: 5,
-            place: i,
-        },
-        Refusal::NoTokens(l) => Refused {
-            number: 6,
-            place: l,
-        },
-        Refusal::WorkedTooLong(l) => Refused {
-            number: 7,
-            place: l,
-        },
-        Refusal::LowLine(l) => Refused {
-            number: 8,
-            place: l,
-        },
-        Refusal::Hyphens(l) => Refused {
-            number: 9,
-            place: l,
-        },
-        Refusal::Fenced(l) => Refused {
-            number: 10,
-            place: l,
-        },
-        Refusal::LeadingMark(l) => Refused {
-            number: 11,
-            place: l,
-        },
-        Refusal::NoGroup(l) => Refused {
-            number: 12,
-            place: l,
-        },
-        Refusal::NsmRun(l) => Refused {
-            number: 13,
-            place: l,
-        },
-        Refusal::Confusable(l) => Refused {
-            number: 14,
-            place: l,
-        },
-        Refusal::BufferTooSmall => Refused {
-            number: 15,
-            place: 0,
-        },
-    }
 }
 
 pub fn kind_numbers(k: Kind) -> KindNumbers
@@ -152,10 +80,9 @@ pub fn name_fields(a: NameAnswer) -> WanlophengName
             labels,
         },
         NameAnswer::Refused(r) => {
-            let f = refusal_fields(r);
             WanlophengName {
-                number: f.number,
-                place: f.place,
+                number: number_of(r),
+                place: place_of(r),
                 length: 0,
                 labels: 0,
             }
@@ -179,10 +106,9 @@ pub fn label_fields(a: LabelAnswer) -> WanlophengLabel
             }
         }
         LabelAnswer::Refused(r) => {
-            let f = refusal_fields(r);
             WanlophengLabel {
-                number: f.number,
-                place: f.place,
+                number: number_of(r),
+                place: place_of(r),
                 length: 0,
                 kind: 0,
                 group: 0,

@@ -23,6 +23,9 @@ enum-known-answer-2 c = search needs
 number-of-requires : tie.Need-number-of-requires
 number-of-requires c κs = search needs
 
+cast-write-no : tie.Need-cast-write-no
+cast-write-no c = search needs
+
 place-of-requires : tie.Need-place-of-requires
 place-of-requires c κs = search needs
 
@@ -50,6 +53,7 @@ write-answer-spec =
     write-ok-requires
     enum-known-answer-2
     number-of-requires
+    cast-write-no
     place-of-requires
     write-no-requires
     same-length
