@@ -1,6 +1,6 @@
 -- A codepoint that a round leaves as it is; and what the two loops keep: the rounds of the codepoints that are read are written, and the
 -- classes of those. Assumes nothing.
-use Prim.Native.Nat.{ℕ, zero, suc, _+_, _^_, _≤_, _<_}
+use Prim.Native.Nat.{ℕ, _+_, _^_, _≤_, _<_}
 use native.Mathlib.Numerals.{add-one}
 use native.Mathlib.Omega.{arith}
 use mathlib.Core.Path.{_≡_, refl, sym, _∙_}
@@ -12,25 +12,15 @@ use Rattle.table.specs.Table.{Table}
 use Rattle.text.specs.declared.decompose.Parts.{Parts}
 use Rattle.text.specs.Decomposition.{single, fourRounds}
 use Rattle.text.specs.Rounds.{mostFrom, rounds, PartsAre, Appended, Decomposed}
-use Rattle.text.proofs.Rounds.{Expanding, expand-more, rounds-single, rounds-four}
+use Rattle.text.proofs.Rounds.{Expanding, expand-more, expanded-same, expanded-four, one-part, rounds-four}
 use Rattle.normal_forms.specs.Forms.{mostText}
 
--- what one round leaves as it is, the later ones leave too
-rounds-same : (n : ℕ) (t : Table) (c : ℕ) → single t c ≡ c ∷ [] → rounds n t (c ∷ []) ≡ c ∷ []
-rounds-same zero t c e = unfold rounds in refl
-rounds-same (suc n) t c e = rounds-single n t c ∙ rw e (rounds-same n t c e)
-
--- the parts are the codepoint itself
-one-part : (items : List ℕ) (c : ℕ) → 0 < length items → getD items 0 0 ≡ c → take 1 items ≡ c ∷ []
-one-part [] c h e = absurd (omega arith)
-one-part (x ∷ items) c h e = rw e
-
+-- a codepoint that is its own single replacement
 pub same-written : (t : Table) (c : ℕ) (out out′ : List ℕ) (at : ℕ) (parts : Parts) → PartsAre (single t c) parts → parts .count ≡ 1 → getD (parts .items) 0 0 ≡ c
     → Appended out out′ at (c ∷ []) (at + 1) → Decomposed t c out out′ at (at + 1)
 same-written t c out out′ at parts p n e a =
-    let s : single t c ≡ c ∷ [] = sym (p .is) ∙ rw n (one-part (parts .items) c (omega (arith, p .whole)) e) in
-    let f : fourRounds t (c ∷ []) ≡ c ∷ [] = sym (rounds-four t (c ∷ [])) ∙ rounds-same 4 t c s in
-    record { written = rw f a; few = omega arith }
+    let s : single t c ≡ c ∷ [] = sym (p .is) ∙ one-part (parts .count) (parts .items) c n (omega (arith, p .whole)) e in
+    expanded-four t c out out′ at (at + 1) (expanded-same t 4 c out out′ at (at + 1) s a)
 
 module _ (t : Table) (text out out′ : List ℕ) (i to : ℕ) (o : Expanding t 4 text out out′ 0 i to) where
   -- the next codepoint starts within the bound of `append_decomposed`

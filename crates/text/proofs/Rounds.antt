@@ -50,6 +50,11 @@ pub rounds-single : (n : ℕ) (t : Table) (c : ℕ) → rounds (suc n) t (c ∷ 
 unfolding rounds
 rounds-single n t c = rw (append-nil (single t c))
 
+-- what one round leaves as it is, the later ones leave too
+rounds-same : (n : ℕ) (t : Table) (c : ℕ) → single t c ≡ c ∷ [] → rounds n t (c ∷ []) ≡ c ∷ []
+rounds-same zero t c e = unfold rounds in refl
+rounds-same (suc n) t c e = rounds-single n t c ∙ rw e (rounds-same n t c e)
+
 pub rounds-four : (t : Table) (s : List ℕ) → rounds 4 t s ≡ fourRounds t s
 unfolding rounds fourRounds
 rounds-four t s = refl
@@ -122,6 +127,15 @@ unfolding rounds mostFrom
 expanded-none t n c out out′ at r e a =
     let z : Expanded t 0 c out out′ at r = record { written = a; few = omega arith } in
     rw e z
+
+-- a codepoint that a single replacement leaves as it is
+pub expanded-same : (t : Table) (n c : ℕ) (out out′ : List ℕ) (at r : ℕ) → single t c ≡ c ∷ [] → Appended out out′ at (c ∷ []) r → Expanded t n c out out′ at r
+expanded-same t n c out out′ at r e a = let s : rounds n t (c ∷ []) ≡ c ∷ [] = rounds-same n t c e in record { written = rw s a; few = rw s (most-pos n) }
+
+-- the first n of the items are c alone
+pub one-part : (n : ℕ) (items : List ℕ) (c : ℕ) → n ≡ 1 → 0 < length items → getD items 0 0 ≡ c → take n items ≡ c ∷ []
+one-part n [] c o h e = absurd (omega arith)
+one-part n (x ∷ items) c o h e = rw (o, e)
 
 -- one round more than the items of the single replacement got
 pub expanded-more : (t : Table) (n k c : ℕ) (items out out′ : List ℕ) (at j to : ℕ) → n ≡ suc k → Expanding t k items out out′ at j to

@@ -4,8 +4,10 @@ use table::Items;
 use table::Sections;
 use table::Span;
 ghost use Prim.Native.Nat.{_≤_, _<_, _+_, _^_};
+ghost use mathlib.Core.Path.{_≡_};
+ghost use mathlib.Core.Bool.{true};
 ghost use mathlib.Core.List.{[], _∷_};
-ghost use lib.ListN.{length};
+ghost use lib.ListN.{length, take};
 ghost use Rattle.table.specs.Laid.{Laid, theTable, within};
 ghost use Rattle.text.specs.Hangul.{jamoOf};
 ghost use Rattle.text.specs.Decomposition.{single};
@@ -85,7 +87,20 @@ fn put(out: &mut [u32], at: usize, c: u32) -> usize
     next
 }
 
-// Writes c with so many rounds of replacement at `at`, as far as there is room, and answers the place behind it.
+// Whether the parts are c alone.
+fn is_alone(parts: Parts, c: u32) -> bool
+    requires { ⌜ length (parts .items) ≡ 4 ⌝ }
+    ensures { λ r. ⌜ (r ≡ true → take (parts .count) (parts .items) ≡ c ∷ []) ⌝ }
+{
+    let items = parts.items;
+    if parts.count != 1 {
+        return false;
+    }
+    items[0] == c
+}
+
+// Writes c with so many rounds of replacement at `at`, as far as there is room, and answers the place behind it. What one round leaves as
+// it is, the later ones leave too: it is looked up once.
 fn expand(words: &[u32], ix: Sections, out: &mut [u32], at: usize, c: u32, rounds: u32) -> usize
     requires { ⌜ Laid (now words) ix ⌝ }
     requires { ⌜ at + mostFrom rounds ≤ 2 ^ 41 ⌝ }
@@ -95,6 +110,9 @@ fn expand(words: &[u32], ix: Sections, out: &mut [u32], at: usize, c: u32, round
         return put(out, at, c);
     }
     let parts = replaced(words, ix, c);
+    if is_alone(parts, c) {
+        return put(out, at, c);
+    }
     let n = parts.count;
     let items = parts.items;
     let mut to = at;

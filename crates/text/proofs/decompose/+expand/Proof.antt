@@ -3,17 +3,19 @@
 use native.Mathlib.Omega.{arith}
 use borrow.Author.Needs.{needs}
 use denote.Ref.{now}
+use mathlib.Core.Path.{sym, _∙_}
 use lib.ListN.{take}
 use Rattle.table.specs.Laid.{theTable}
 use Rattle.text.specs.Decomposition.{single}
 use Rattle.text.specs.Rounds.{mostFrom, PartsAre}
-use Rattle.text.proofs.Rounds.{Expanding, expand-start, expand-next, expand-all, expanded-none, most-fits, most-pos}
+use Rattle.text.proofs.Rounds.{Expanding, expand-start, expand-next, expand-all, expanded-none, expanded-same, most-fits, most-pos}
 use Prim.Native.Nat.{ℕ, _+_, _-_, _^_, _≤_, _<_}
 use borrow.Fn.Kinds.{In}
 use borrow.Fn.PlainCycle.{Measures, is, falls, and}
 use Rattle.text.proofs.decompose.expand.Reads as expand
 use Rattle.text.proofs.decompose.expand.Kinds as expand-kinds
 use Rattle.text.proofs.decompose.+expand.Lts-expand as expand-lts
+use Rattle.text.proofs.decompose.is_alone.Reads as is-alone-reads
 use Rattle.text.proofs.decompose.put.Reads as put-reads
 use Rattle.text.proofs.decompose.replaced.Reads as replaced-reads
 use Rattle.text.proofs.decompose.+expand.{statement}
@@ -34,34 +36,37 @@ expand-Inv-loop words ix out₀ at c rounds n items to₀ i₀ out to i = (i ≤
 abbrev expand-μ-loop : expand-lts.MeasureT-loop
 expand-μ-loop words ix out₀ at c rounds n items to₀ i₀ out to i = n - i
 
--- src/decompose.rt:84:9
 expand-put-requires : (t : ℕ) → expand-lts.Need-put-requires (
   put-reads.Asked,
   put-reads.Learnt,
   replaced-reads.Asked,
   replaced-reads.Learnt,
+  is-alone-reads.Asked,
+  is-alone-reads.Learnt,
   expand-below t,
   expand.Post,
 ) (expand-at t) expand.Post expand-Inv-loop expand-μ-loop
 expand-put-requires t c κs = let s = c .before .before .before .before in omega (arith, s .pre .1 .1, most-pos (s .args .rounds))
 
--- src/decompose.rt:84:9
 expand-same-length : (t : ℕ) → expand-lts.Need-same-length (
   put-reads.Asked,
   put-reads.Learnt,
   replaced-reads.Asked,
   replaced-reads.Learnt,
+  is-alone-reads.Asked,
+  is-alone-reads.Learnt,
   expand-below t,
   expand.Post,
 ) (expand-at t) expand.Post expand-Inv-loop expand-μ-loop
 expand-same-length t c = search needs
 
--- src/decompose.rt:84:9
 expand-returns : (t : ℕ) → expand-lts.Need-returns (
   put-reads.Asked,
   put-reads.Learnt,
   replaced-reads.Asked,
   replaced-reads.Learnt,
+  is-alone-reads.Asked,
+  is-alone-reads.Learnt,
   expand-below t,
   expand.Post,
 ) (expand-at t) expand.Post expand-Inv-loop expand-μ-loop
@@ -71,79 +76,141 @@ expand-returns t c =
     let a = i .before .before .before .args in
     expanded-none (theTable (now (a .words))) (a .rounds) (a .c) (now (a .out)) _ (a .at) (p .put .result) (i .if1 .taken) (p .put .ensures)
 
--- src/decompose.rt:86:9
 expand-replaced-requires : (t : ℕ) → expand-lts.Need-replaced-requires (
   put-reads.Asked,
   put-reads.Learnt,
   replaced-reads.Asked,
   replaced-reads.Learnt,
+  is-alone-reads.Asked,
+  is-alone-reads.Learnt,
   expand-below t,
   expand.Post,
 ) (expand-at t) expand.Post expand-Inv-loop expand-μ-loop
 expand-replaced-requires t c κs = c .before .before .before .pre .1 .0
 
--- src/decompose.rt:91:5
+expand-is-alone-requires : (t : ℕ) → expand-lts.Need-is-alone-requires (
+  put-reads.Asked,
+  put-reads.Learnt,
+  replaced-reads.Asked,
+  replaced-reads.Learnt,
+  is-alone-reads.Asked,
+  is-alone-reads.Learnt,
+  expand-below t,
+  expand.Post,
+) (expand-at t) expand.Post expand-Inv-loop expand-μ-loop
+expand-is-alone-requires t c κs = c .replaced .ensures .whole
+
+expand-put-requires-2 : (t : ℕ) → expand-lts.Need-put-requires-2 (
+  put-reads.Asked,
+  put-reads.Learnt,
+  replaced-reads.Asked,
+  replaced-reads.Learnt,
+  is-alone-reads.Asked,
+  is-alone-reads.Learnt,
+  expand-below t,
+  expand.Post,
+) (expand-at t) expand.Post expand-Inv-loop expand-μ-loop
+expand-put-requires-2 t c κs = let s = c .before .before .before .before .before .before .before in omega (arith, s .pre .1 .1, most-pos (s .args .rounds))
+
+expand-same-length-2 : (t : ℕ) → expand-lts.Need-same-length-2 (
+  put-reads.Asked,
+  put-reads.Learnt,
+  replaced-reads.Asked,
+  replaced-reads.Learnt,
+  is-alone-reads.Asked,
+  is-alone-reads.Learnt,
+  expand-below t,
+  expand.Post,
+) (expand-at t) expand.Post expand-Inv-loop expand-μ-loop
+expand-same-length-2 t c = search needs
+
+expand-returns-2 : (t : ℕ) → expand-lts.Need-returns-2 (
+  put-reads.Asked,
+  put-reads.Learnt,
+  replaced-reads.Asked,
+  replaced-reads.Learnt,
+  is-alone-reads.Asked,
+  is-alone-reads.Learnt,
+  expand-below t,
+  expand.Post,
+) (expand-at t) expand.Post expand-Inv-loop expand-μ-loop
+expand-returns-2 t c =
+    let p = c .before .before in
+    let i = p .before .before in
+    let o = i .before in
+    let r = o .before in
+    let a = r .before .before .before .before .args in
+    expanded-same (theTable (now (a .words))) (a .rounds) (a .c) (now (a .out)) _ (a .at) (p .put2 .result) (sym (r .replaced .ensures .is) ∙ o .is-alone .ensures (i .if2 .taken)) (p .put2 .ensures)
+
 expand-loop-holds : (t : ℕ) → expand-lts.Need-loop-holds (
   put-reads.Asked,
   put-reads.Learnt,
   replaced-reads.Asked,
   replaced-reads.Learnt,
+  is-alone-reads.Asked,
+  is-alone-reads.Learnt,
   expand-below t,
   expand.Post,
 ) (expand-at t) expand.Post expand-Inv-loop expand-μ-loop
 expand-loop-holds t c =
-    let s = c .before .before .before .before .before in
+    let r = c .before .before .before in
+    let s = r .before .before .before .before in
     let a = s .args in
-    let p = c .before .replaced in
-    (omega arith, omega (arith, c .before .before .if1 .left), s .pre .1 .1, p .ensures, expand-start (theTable (now (a .words))) (a .rounds - 1) (take (p .result .count) (p .result .items)) (now (a .out)) (a .at))
+    let p = r .replaced in
+    (omega arith, omega (arith, r .before .if1 .left), s .pre .1 .1, p .ensures, expand-start (theTable (now (a .words))) (a .rounds - 1) (take (p .result .count) (p .result .items)) (now (a .out)) (a .at))
 
--- src/decompose.rt:92:41
 expand-mul-expand : (t : ℕ) → expand-lts.Need-mul-expand (
   put-reads.Asked,
   put-reads.Learnt,
   replaced-reads.Asked,
   replaced-reads.Learnt,
+  is-alone-reads.Asked,
+  is-alone-reads.Learnt,
   expand-below t,
   expand.Post,
 ) (expand-at t) expand.Post expand-Inv-loop expand-μ-loop
 expand-mul-expand t c = omega arith
 
--- src/decompose.rt:92:41
 expand-array-read-expand : (t : ℕ) → expand-lts.Need-array-read-expand (
   put-reads.Asked,
   put-reads.Learnt,
   replaced-reads.Asked,
   replaced-reads.Learnt,
+  is-alone-reads.Asked,
+  is-alone-reads.Learnt,
   expand-below t,
   expand.Post,
 ) (expand-at t) expand.Post expand-Inv-loop expand-μ-loop
 expand-array-read-expand t c = omega arith
 
--- src/decompose.rt:92:51
 expand-sub-expand : (t : ℕ) → expand-lts.Need-sub-expand (
   put-reads.Asked,
   put-reads.Learnt,
   replaced-reads.Asked,
   replaced-reads.Learnt,
+  is-alone-reads.Asked,
+  is-alone-reads.Learnt,
   expand-below t,
   expand.Post,
 ) (expand-at t) expand.Post expand-Inv-loop expand-μ-loop
 expand-sub-expand t c = omega arith
 
--- src/decompose.rt:92:9
 expand-expand-requires : (t : ℕ) → expand-lts.Need-expand-requires (
   put-reads.Asked,
   put-reads.Learnt,
   replaced-reads.Asked,
   replaced-reads.Learnt,
+  is-alone-reads.Asked,
+  is-alone-reads.Learnt,
   expand-below t,
   expand.Post,
 ) (expand-at t) expand.Post expand-Inv-loop expand-μ-loop
 expand-expand-requires t c κs =
     let l = c .before .before in
-    let s = l .before .before .before .before .before .before in
+    let r = l .before .before .before .before in
+    let s = r .before .before .before .before in
     let a = s .args in
-    let p = l .before .before .replaced .result in
+    let p = r .replaced .result in
     let v = l .loop .inv in (
       omega (arith, s .pre .0, v .1),
       (
@@ -153,42 +220,46 @@ expand-expand-requires t c κs =
       ),
     )
 
--- src/decompose.rt:93:9
 expand-add-i : (t : ℕ) → expand-lts.Need-add-i (
   put-reads.Asked,
   put-reads.Learnt,
   replaced-reads.Asked,
   replaced-reads.Learnt,
+  is-alone-reads.Asked,
+  is-alone-reads.Learnt,
   expand-below t,
   expand.Post,
 ) (expand-at t) expand.Post expand-Inv-loop expand-μ-loop
 expand-add-i t c = omega arith
 
--- src/decompose.rt:91:5
 expand-loop-less : (t : ℕ) → expand-lts.Need-loop-less (
   put-reads.Asked,
   put-reads.Learnt,
   replaced-reads.Asked,
   replaced-reads.Learnt,
+  is-alone-reads.Asked,
+  is-alone-reads.Learnt,
   expand-below t,
   expand.Post,
 ) (expand-at t) expand.Post expand-Inv-loop expand-μ-loop
 expand-loop-less t c = omega arith
 
--- src/decompose.rt:91:5
 expand-loop-again : (t : ℕ) → expand-lts.Need-loop-again (
   put-reads.Asked,
   put-reads.Learnt,
   replaced-reads.Asked,
   replaced-reads.Learnt,
+  is-alone-reads.Asked,
+  is-alone-reads.Learnt,
   expand-below t,
   expand.Post,
 ) (expand-at t) expand.Post expand-Inv-loop expand-μ-loop
 expand-loop-again t c =
     let l = c .before .before .before .before .before in
-    let s = l .before .before .before .before .before .before in
+    let r = l .before .before .before .before in
+    let s = r .before .before .before .before in
     let a = s .args in
-    let p = l .before .before .replaced .result in
+    let p = r .replaced .result in
     let v = l .loop .inv in
     let e = c .before .before .expand in
     let h : l .loop .i < p .count = c .before .before .before .before .loop-test .taken in (
@@ -200,30 +271,33 @@ expand-loop-again t c =
           (omega (arith, v .3 .few, v .3 .whole)) (e .ensures),
     )
 
--- src/decompose.rt:78:1
-expand-same-length-2 : (t : ℕ) → expand-lts.Need-same-length-2 (
+expand-same-length-3 : (t : ℕ) → expand-lts.Need-same-length-3 (
   put-reads.Asked,
   put-reads.Learnt,
   replaced-reads.Asked,
   replaced-reads.Learnt,
+  is-alone-reads.Asked,
+  is-alone-reads.Learnt,
   expand-below t,
   expand.Post,
 ) (expand-at t) expand.Post expand-Inv-loop expand-μ-loop
-expand-same-length-2 t c = c .before .loop .inv .4 .same
+expand-same-length-3 t c = c .before .loop .inv .4 .same
 
--- src/decompose.rt:78:1
-expand-returns-2 : (t : ℕ) → expand-lts.Need-returns-2 (
+expand-returns-3 : (t : ℕ) → expand-lts.Need-returns-3 (
   put-reads.Asked,
   put-reads.Learnt,
   replaced-reads.Asked,
   replaced-reads.Learnt,
+  is-alone-reads.Asked,
+  is-alone-reads.Learnt,
   expand-below t,
   expand.Post,
 ) (expand-at t) expand.Post expand-Inv-loop expand-μ-loop
-expand-returns-2 t c =
+expand-returns-3 t c =
     let l = c .before in
-    let a = l .before .before .before .before .before .before .args in
-    let p = l .before .before .replaced .result in
+    let r = l .before .before .before .before in
+    let a = r .before .before .before .before .args in
+    let p = r .replaced .result in
     let v = l .loop .inv in
     expand-all (theTable (now (a .words))) (a .rounds) (a .rounds - 1) (p .count) (a .c) (p .items) (now (a .out)) (l .loop .out) (a .at) (l .loop .i) (l .loop .to)
     (omega arith) (v .4) (omega arith) (v .3 .few) (v .3 .is)
@@ -234,6 +308,8 @@ pub +expand-spec : {M : Type 1} → statement M
   put-reads.Learnt,
   replaced-reads.Asked,
   replaced-reads.Learnt,
+  is-alone-reads.Asked,
+  is-alone-reads.Learnt,
   expand-below t,
   expand.Post,
 )
@@ -245,6 +321,10 @@ pub +expand-spec : {M : Type 1} → statement M
     (expand-same-length t)
     (expand-returns t)
     (expand-replaced-requires t)
+    (expand-is-alone-requires t)
+    (expand-put-requires-2 t)
+    (expand-same-length-2 t)
+    (expand-returns-2 t)
     (expand-loop-holds t)
     (expand-mul-expand t)
     (expand-array-read-expand t)
@@ -253,5 +333,5 @@ pub +expand-spec : {M : Type 1} → statement M
     (expand-add-i t)
     (expand-loop-less t)
     (expand-loop-again t)
-    (expand-same-length-2 t)
-    (expand-returns-2 t)
+    (expand-same-length-3 t)
+    (expand-returns-3 t)
