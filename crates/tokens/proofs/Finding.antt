@@ -1,12 +1,13 @@
 -- The loop of the finder: the best match so far, and the records that are left. Assumes nothing.
-use Prim.Native.Nat.{ℕ, suc, _+_, _≤_, _<_}
+use Prim.Native.Nat.{ℕ, zero, suc, _+_, _≤_, _<_}
 use native.Mathlib.Omega.{arith}
 use native.Mathlib.Numerals.{add-one}
 use mathlib.Core.Path.{_≡_, refl, sym, _∙_, ap}
 use mathlib.Core.Bool.{Bool, true, false}
 use mathlib.Core.List.{List, [], _∷_}
 use mathlib.Core.Option.{Option, none, some}
-use lib.ListN.{length}
+use lib.ListN.{length, getD, take, drop}
+use lib.Seq.{drop-cons}
 use lib.Dec.{eqb, ltb}
 use borrow.Author.Tests.{eqb-true, eqb-false, le-leb, lt-leb}
 use Rattle.lists.specs.Lists.{onSome}
@@ -76,9 +77,18 @@ better-fits ws (match.the-variants.Found n s k f) (match.the-variants.Found m t 
     go true e = rw e q
     go false e = rw e p
 
+better-nothing : (a : Match) → a ≡ betterOf a match.the-variants.Nothing
+better-nothing match.the-variants.Nothing = refl
+better-nothing (match.the-variants.Found n s k f) = refl
+
 longer-none : (o : Option Found) → longer none o ≡ o
 longer-none none = refl
 longer-none (some f) = refl
+
+-- words that start with a codepoint by which any sequence takes nothing
+start-misses : (n i : ℕ) (ws rest : List ℕ) → 1 ≤ n → i < length ws → ((seq : List ℕ) → takes (getD ws i 0 ∷ seq) rest ≡ none) → takes (take n (drop i ws)) rest ≡ none
+start-misses zero i ws rest p h misses = absurd (omega arith)
+start-misses (suc n) i ws rest p h misses = rw (drop-cons ws i 0 h) (misses (take n (drop (suc i) ws)))
 
 -- The records before `at` are looked at: `best` is their match, and those from there on are numbered from `number` on.
 pub record Finder (part rest : List ℕ) (best : Match) (number at : ℕ) : Type 0 where
@@ -127,6 +137,14 @@ module _ (part rest : List ℕ) (best : Match) (number at : ℕ) (w : Finder par
             ∙ rw (← both, add-one number) refl;
         fits = rw (q, p) (better-fits part best (matchOf number s k) (w .fits) (match-fits part number s k fit));
       }
+
+  -- a record that is passed over
+  pub finder-past : (h : at < length part) → ((seq : List ℕ) → takes (getD part (at + 1) 0 ∷ seq) rest ≡ none) → Finder part rest best (number + 1) (countedAt part at .to)
+  finder-past h misses =
+      let x = finder-here h in
+      let m : takes (take (getD part at 0) (drop (at + 1) part)) rest ≡ none = start-misses (getD part at 0) (at + 1) part rest (x .low) (omega (arith, x .low, x .fits)) misses in
+      let t : none ≡ takes (within (countedAt part at) part) rest = sym (rw (sequence-items part at (w .left) x, x .items) m) in
+      finder-more h taking.the-variants.Nothing t match.the-variants.Nothing refl best (better-nothing best)
 
 takes-some : (ws rest : List ℕ) (seqs : List (List ℕ)) (m : Match) → foundOf ws m ≡ find seqs rest → MatchTakes rest m
 takes-some ws rest seqs match.the-variants.Nothing e = tt

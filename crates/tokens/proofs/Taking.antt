@@ -65,6 +65,10 @@ takes-other e seq rest at other = go (leb (suc at) (length rest)) refl
         let l : length rest ≤ at = omega arith in
         rw (drop-of-length-le rest l)
 
+-- a start that is no FE0F and that the input lacks
+pub takes-none : (e : ℕ) (rest : List ℕ) → (e ≡ selector → ⊥) → (Next e rest 0 → ⊥) → (seq : List ℕ) → takes (e ∷ seq) rest ≡ none
+takes-none e rest p n seq = takes-other e seq rest 0 n ∙ rw (ne-eqb e selector p)
+
 module _ (seq rest : List ℕ) (i at s : ℕ) (w : Walk seq rest i at s) (h : i < length seq) where
   abbrev e : ℕ
   e = getD seq i 0

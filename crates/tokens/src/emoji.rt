@@ -2,7 +2,11 @@
 use table::Sections;
 use table::Span;
 use table::lookup::counted;
+ghost use Prim.Native.Nat.{ℕ};
 ghost use mathlib.Core.Path.{_≡_};
+ghost use mathlib.Core.Bool.{true};
+ghost use mathlib.Core.List.{List, _∷_};
+ghost use mathlib.Core.Option.{none};
 ghost use Rattle.table.specs.Laid.{Laid, theTable};
 ghost use Rattle.tokens.specs.Emoji.{takes, find};
 ghost use Rattle.tokens.specs.Match.{takenOf, matchOf, betterOf, FoundBy, Sequences, sequencesOf};
@@ -49,6 +53,19 @@ pub fn takes(seq: &[u32], rest: &[u32]) -> Taking
         length: at,
         selectors,
     }
+}
+
+// Whether a sequence that starts with e takes nothing of the rest, by its start alone.
+fn misses(e: u32, rest: &[u32]) -> bool
+    ensures { λ r. ⌜ (r ≡ true → (seq : List ℕ) → takes (e ∷ seq) (now (rest .entry)) ≡ none) ⌝ }
+{
+    if e == 0xFE0F {
+        return false;
+    }
+    if rest.len() == 0 {
+        return true;
+    }
+    rest[0] != e
 }
 
 // The match of a record that takes so much: "A match takes at least one codepoint."
@@ -102,7 +119,8 @@ fn better(a: Match, b: Match) -> Match
     }
 }
 
-// The match of the sequences of a section that takes most of the rest, "ties go to the first record".
+// The match of the sequences of a section that takes most of the rest, "ties go to the first record". Most records are passed over by
+// their first codepoint.
 fn find_in(part: &[u32], rest: &[u32]) -> Match
     requires { ⌜ Sequences (now part) ⌝ }
     ensures { λ r. ⌜ FoundBy (now (part .entry)) (now (rest .entry)) (find (sequencesOf (now (part .entry))) (now (rest .entry))) r ⌝ }
@@ -114,11 +132,15 @@ fn find_in(part: &[u32], rest: &[u32]) -> Match
         let sequence = counted(part, at);
         let from = sequence.from;
         let to = sequence.to;
-        let taking = takes(&part[from..to], rest);
-        let here = matched(number, sequence, taking);
-        best = better(best, here);
+        let here = number;
         number += 1;
         at = to;
+        if misses(part[from], rest) {
+            continue;
+        }
+        let taking = takes(&part[from..to], rest);
+        let next = matched(here, sequence, taking);
+        best = better(best, next);
     }
     best
 }
