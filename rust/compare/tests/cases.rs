@@ -459,27 +459,20 @@ fn each_soundness_rule_alone() {
     fine(&|b| b.valid.extend([(0x61, 0x70), (0x61, 0x70)]));
 }
 
-/// Wide ranges, overlapping and repeated, as many as fit.
+/// Wide ranges, overlapping and repeated, wide class entries, and many heads
+/// that all grow.
 #[test]
 fn soundness_ends_soon() {
     let begin = std::time::Instant::now();
-    let wide: Vec<(u32, u32)> = (0..16_000).map(|i| (i % 3, 0xFFFF_FFFF - i % 5)).collect();
-    let b = TableBuilder { valid: wide.clone(), groups: vec![(0, wide)], ..TableBuilder::default() };
-    assert_eq!(soundness(&b.to_words()), Soundness::Broken(1));
-    let words = b.to_words();
+    let words = gen::worst::wide_ranges().to_words();
+    assert_eq!(soundness(&words), Soundness::Broken(1));
     let table = parse(&words).unwrap();
     let index = Index::new(&table);
     for rule in 1..=7 {
         let broken = plain::soundness::broken(&index, rule).is_some();
         assert_eq!(broken, rule <= 2, "rule {rule}"); // 2E and FE0F are valid
     }
-    let classes: Vec<(u32, u32, u32)> = (0..43_000).map(|i| (i, 0xFFFF_FFFF - i, i % 256)).collect();
-    let b = TableBuilder { classes, ..TableBuilder::default() };
-    assert_eq!(soundness(&b.to_words()), Soundness::Broken(1));
-    // Many heads that all grow.
-    let decompositions: Vec<(u32, Vec<u32>)> = (0x20000..0x25000).map(|h| (h, vec![h + 1; 4])).collect();
-    let groups = vec![(0, vec![(0x20000, 0x25000)])];
-    let b = TableBuilder { decompositions, groups, valid: vec![(0x20000, 0x25000)], ..TableBuilder::default() };
-    assert_eq!(soundness(&b.to_words()), Soundness::Broken(6));
+    assert_eq!(soundness(&gen::worst::wide_classes().to_words()), Soundness::Broken(1));
+    assert_eq!(soundness(&gen::worst::growing_heads().to_words()), Soundness::Broken(6));
     assert!(begin.elapsed().as_secs() < 20, "{:?}", begin.elapsed());
 }

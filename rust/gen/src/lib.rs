@@ -6,6 +6,7 @@ pub mod names;
 pub mod rng;
 pub mod small;
 pub mod tables;
+pub mod worst;
 
 pub use files::file;
 pub use names::Vocabulary;

@@ -1,0 +1,293 @@
+//! Tables that make one job long: each fills the 131,072 words with what that
+//! job reads most often.
+
+use plain::limits::TABLE_WORDS;
+use plain::TableBuilder;
+
+/// The first codepoint used; all from here to 10FFFF are scalar values.
+const FIRST: u32 = 0x20000;
+
+/// A table for the soundness check, and what the check has to answer: 0 to 7,
+/// or 8 for sound.
+pub struct Hard {
+    pub name: &'static str,
+    pub table: fn() -> TableBuilder,
+    pub answer: u32,
+}
+
+/// Every table for the soundness check.
+pub const SOUNDNESS: [Hard; 21] = [
+    Hard { name: "wide ranges", table: wide_ranges, answer: 1 },
+    Hard { name: "wide classes", table: wide_classes, answer: 1 },
+    Hard { name: "many ignored pairs", table: many_ignored, answer: 8 },
+    Hard { name: "many wholes", table: many_wholes, answer: 8 },
+    Hard { name: "many valid pairs in one group", table: many_valid, answer: 8 },
+    Hard { name: "many pairs of one group", table: many_group_pairs, answer: 8 },
+    Hard { name: "single codepoints, valid and of a group", table: single_pairs, answer: 8 },
+    Hard { name: "single codepoints, of 256 groups", table: many_groups, answer: 8 },
+    Hard { name: "many mappings", table: many_mappings, answer: 8 },
+    Hard { name: "emoji of one codepoint", table: single_emoji, answer: 8 },
+    Hard { name: "emoji after a valid codepoint", table: emoji_after_valid, answer: 8 },
+    Hard { name: "long emoji that start alike", table: long_emoji, answer: 8 },
+    Hard { name: "composition pairs and exclusions", table: pairs_and_exclusions, answer: 8 },
+    Hard { name: "composition pairs and classes", table: pairs_and_classes, answer: 8 },
+    Hard { name: "heads that all grow", table: growing_heads, answer: 6 },
+    Hard { name: "heads that become 256", table: deep_heads, answer: 8 },
+    Hard { name: "items that no group holds", table: many_items, answer: 8 },
+    Hard { name: "chains of four rounds", table: long_chains, answer: 8 },
+    Hard { name: "many ways up", table: many_ways_up, answer: 8 },
+    Hard { name: "jamo of syllables beside deep heads", table: jamo_of_syllables, answer: 8 },
+    Hard { name: "thousands that come from syllables alone", table: from_syllables, answer: 6 },
+];
+
+/// How many records of so many words fit beside `other` words, the counts of
+/// the sections and of the exclusions.
+fn fit(words: usize, other: usize) -> u32 {
+    ((TABLE_WORDS - 13 - other) / words) as u32
+}
+
+/// So many codepoints from `first` on, each a pair of its own, `step` apart.
+fn singles(first: u32, count: u32, step: u32) -> Vec<(u32, u32)> {
+    (0..count).map(|i| (first + step * i, first + step * i)).collect()
+}
+
+/// Wide ranges, overlapping and repeated.
+pub fn wide_ranges() -> TableBuilder {
+    let wide: Vec<(u32, u32)> = (0..16_000).map(|i| (i % 3, 0xFFFF_FFFF - i % 5)).collect();
+    TableBuilder { valid: wide.clone(), groups: vec![(0, wide)], ..TableBuilder::default() }
+}
+
+/// Wide class entries, each in the one before.
+pub fn wide_classes() -> TableBuilder {
+    let classes = (0..43_000).map(|i| (i, 0xFFFF_FFFF - i, i % 256)).collect();
+    TableBuilder { classes, ..TableBuilder::default() }
+}
+
+/// A section of pairs that rule 1 alone reads.
+pub fn many_ignored() -> TableBuilder {
+    TableBuilder { ignored: singles(FIRST, fit(2, 0), 2), ..TableBuilder::default() }
+}
+
+/// Wholes of two members.
+pub fn many_wholes() -> TableBuilder {
+    let wholes = (0..fit(4, 0)).map(|i| (vec![FIRST + i], vec![FIRST + i])).collect();
+    TableBuilder { wholes, ..TableBuilder::default() }
+}
+
+/// One range, given as pairs of one codepoint each in valid.
+pub fn many_valid() -> TableBuilder {
+    let count = fit(2, 4);
+    TableBuilder {
+        valid: singles(FIRST, count, 1),
+        groups: vec![(0, vec![(FIRST, FIRST + count - 1)])],
+        ..TableBuilder::default()
+    }
+}
+
+/// One range, given as pairs of one codepoint each in a group.
+pub fn many_group_pairs() -> TableBuilder {
+    let count = fit(2, 4);
+    TableBuilder {
+        valid: vec![(FIRST, FIRST + count - 1)],
+        groups: vec![(0, singles(FIRST, count, 1))],
+        ..TableBuilder::default()
+    }
+}
+
+/// Codepoints two apart, valid and of one group: each end has to be asked.
+pub fn single_pairs() -> TableBuilder {
+    let pairs = singles(FIRST, fit(4, 2), 2);
+    TableBuilder { valid: pairs.clone(), groups: vec![(0, pairs)], ..TableBuilder::default() }
+}
+
+/// The same, of 256 groups.
+pub fn many_groups() -> TableBuilder {
+    let pairs = singles(FIRST, fit(4, 512), 2);
+    let groups = pairs.chunks(pairs.len().div_ceil(256)).map(|p| (0, p.to_vec())).collect();
+    TableBuilder { valid: pairs, groups, ..TableBuilder::default() }
+}
+
+/// Mappings of 32 items, each the last one of a long valid section.
+pub fn many_mappings() -> TableBuilder {
+    let valid = 20_000;
+    let last = FIRST + valid - 1;
+    let records = fit(34, 2 * valid as usize + 4);
+    TableBuilder {
+        valid: singles(FIRST, valid, 1),
+        mapped: (0..records).map(|i| (last + 1 + i, vec![last; 32])).collect(),
+        groups: vec![(0, vec![(FIRST, last)])],
+        ..TableBuilder::default()
+    }
+}
+
+/// Emoji of one codepoint each.
+pub fn single_emoji() -> TableBuilder {
+    let emoji = (0..fit(2, 0)).map(|i| vec![FIRST + i]).collect();
+    TableBuilder { emoji, ..TableBuilder::default() }
+}
+
+/// Emoji of two codepoints, the first valid: rule 5 asks of the second whether
+/// it is valid or starts a sequence.
+pub fn emoji_after_valid() -> TableBuilder {
+    let one = vec![(FIRST, FIRST)];
+    let emoji = (0..fit(3, 6)).map(|i| vec![FIRST, FIRST + 1 + i]).collect();
+    TableBuilder { valid: one.clone(), emoji, groups: vec![(0, one)], ..TableBuilder::default() }
+}
+
+/// Emoji of 32 codepoints that differ in the last.
+pub fn long_emoji() -> TableBuilder {
+    let start: Vec<u32> = (0..31).map(|i| FIRST + i).collect();
+    let emoji = (0..fit(33, 0)).map(|i| [&start[..], &[FIRST + 31 + i]].concat()).collect();
+    TableBuilder { emoji, ..TableBuilder::default() }
+}
+
+/// So many two-item decompositions, all different.
+fn pairs(count: u32) -> Vec<(u32, Vec<u32>)> {
+    (0..count).map(|i| (FIRST + i, vec![0xF0000, 0xF0000 + i])).collect()
+}
+
+/// Composition pairs, and as many words of exclusions that name none of them.
+pub fn pairs_and_exclusions() -> TableBuilder {
+    let count = fit(8, 0);
+    let exclusions = (0..4 * count).map(|i| 0x40000 + i).collect();
+    TableBuilder { decompositions: pairs(count), exclusions, ..TableBuilder::default() }
+}
+
+/// Composition pairs, and as many words of class entries for others.
+pub fn pairs_and_classes() -> TableBuilder {
+    let count = fit(8, 0);
+    let classes = (0..4 * count / 3).map(|i| (0x40000 + i, 0x40000 + i, 230)).collect();
+    TableBuilder { decompositions: pairs(count), classes, ..TableBuilder::default() }
+}
+
+/// Every head decomposes to four times the next one.
+pub fn growing_heads() -> TableBuilder {
+    let last = FIRST + 0x5000;
+    TableBuilder {
+        valid: vec![(FIRST, last)],
+        decompositions: (FIRST..last).map(|h| (h, vec![h + 1; 4])).collect(),
+        groups: vec![(0, vec![(FIRST, last)])],
+        ..TableBuilder::default()
+    }
+}
+
+/// The codepoint that every one of `deep` becomes 256 times.
+const DEEP_END: u32 = FIRST - 1;
+
+/// So many heads from FIRST on, of which each becomes 256 codepoints in four
+/// rounds. What they share stands behind them.
+fn deep(count: u32) -> Vec<(u32, Vec<u32>)> {
+    let shared = [DEEP_END - 3, DEEP_END - 2, DEEP_END - 1, DEEP_END];
+    let heads = (0..count).map(|i| (FIRST + i, vec![shared[0]; 4]));
+    heads.chain((0..3).map(|k| (shared[k], vec![shared[k + 1]; 4]))).collect()
+}
+
+/// `count` of the deep heads, all of one group, and other records, pairs of
+/// that group and valid pairs behind them.
+fn beside_deep(
+    count: u32,
+    others: Vec<(u32, Vec<u32>)>,
+    group: Vec<(u32, u32)>,
+    valid: Vec<(u32, u32)>,
+) -> TableBuilder {
+    let own = [(DEEP_END, FIRST + count - 1)];
+    TableBuilder {
+        valid: [&own[..], &group, &valid].concat(),
+        decompositions: [deep(count), others].concat(),
+        groups: vec![(0, [&own[..], &group].concat())],
+        ..TableBuilder::default()
+    }
+}
+
+/// Sound: heads that become 256 codepoints each.
+pub fn deep_heads() -> TableBuilder {
+    beside_deep(fit(6, 24), vec![], vec![], vec![])
+}
+
+/// Sound: decompositions to four codepoints each that are valid and of no
+/// group, so that for each of them its head has to be found.
+pub fn many_items() -> TableBuilder {
+    let heads = fit(6, 8);
+    let item = |i: u32| FIRST + heads + i;
+    TableBuilder {
+        valid: vec![(FIRST, item(4 * heads) - 1)],
+        decompositions: (0..heads).map(|i| (FIRST + i, (4 * i..4 * i + 4).map(item).collect())).collect(),
+        groups: vec![(0, vec![(FIRST, FIRST + heads - 1)])],
+        ..TableBuilder::default()
+    }
+}
+
+/// Sound: chains of one-item decompositions, four long; the last of each chain
+/// is valid and of no group.
+pub fn long_chains() -> TableBuilder {
+    let chains = fit(12, 10);
+    let at = |round: u32, i: u32| FIRST + round * chains + i;
+    let of_round = |round: u32| (0..chains).map(move |i| (at(round, i), vec![at(round + 1, i)]));
+    TableBuilder {
+        valid: vec![(at(0, 0), at(0, chains - 1)), (at(4, 0), at(4, chains - 1))],
+        decompositions: (0..4).rev().flat_map(of_round).collect(),
+        groups: vec![(0, vec![(at(0, 0), at(0, chains - 1))])],
+        ..TableBuilder::default()
+    }
+}
+
+/// Sound: 16 codepoints come from syllables and also, on 64 ways each, from
+/// every one of thousands of heads that no group holds.
+pub fn many_ways_up() -> TableBuilder {
+    let layer = |k: u32| (0..4).map(move |i| FIRST - 16 + 4 * k + i);
+    let vowels = |i: u32| (0..4).map(move |j| 0x1161 + 4 * i + j);
+    let top = (0..fit(6, 100)).map(|i| (FIRST + i, layer(0).collect()));
+    let between = (0..2).flat_map(|k| layer(k).map(move |h| (h, layer(k + 1).collect())));
+    let last = layer(2).zip(0..).map(|(h, i)| (h, vowels(i).collect()));
+    let group = vec![(0x1100, 0x1112), (0x1171, 0x1175), (0x11A8, 0x11C2), (0xAC00, 0xD7A3)];
+    TableBuilder {
+        valid: [&group[..], &[(0x1161, 0x1170)]].concat(),
+        decompositions: top.chain(between).chain(last).collect(),
+        groups: vec![(0, group)],
+        ..TableBuilder::default()
+    }
+}
+
+/// Sound: the jamo are valid but of no group, and come from syllables alone,
+/// beside thousands of deep heads of a group.
+pub fn jamo_of_syllables() -> TableBuilder {
+    let jamo = vec![(0x1100, 0x1112), (0x1161, 0x1175), (0x11A8, 0x11C2)];
+    beside_deep(fit(6, 40), vec![], vec![(0xAC00, 0xD7A3)], jamo)
+}
+
+/// Every jamo becomes 64 codepoints of its own in three rounds, and a group
+/// holds the syllables: 4,288 codepoints that come from syllables alone, beside
+/// thousands of deep heads of that group. Rule 6 forbids the jamo's records, but
+/// is tried behind rule 2.
+pub fn from_syllables() -> TableBuilder {
+    const JAMO: u32 = 67;
+    let jamo = (0x1100..=0x1112).chain(0x1161..=0x1175).chain(0x11A8..=0x11C2);
+    let at = |round: u32, i: u32| 0xF0000 + 0x2000 * round + i;
+    let four = |round: u32, i: u32| (4 * i..4 * i + 4).map(move |k| at(round, k)).collect::<Vec<u32>>();
+    let mut others: Vec<(u32, Vec<u32>)> = jamo.zip(0..).map(|(c, i)| (c, four(1, i))).collect();
+    for (round, heads) in [(1, 4 * JAMO), (2, 16 * JAMO)] {
+        others.extend((0..heads).map(|i| (at(round, i), four(round + 1, i))));
+    }
+    let last = vec![(at(3, 0), at(3, 64 * JAMO - 1))];
+    let deep = fit(6, 6 * others.len() + 40);
+    beside_deep(deep, others, vec![(0xAC00, 0xD7A3)], last)
+}
+
+#[cfg(test)]
+mod tests {
+    use super::*;
+
+    #[test]
+    fn each_table_has_its_answer_by_the_plain_version() {
+        for hard in &SOUNDNESS {
+            let words = (hard.table)().to_words();
+            let answer = match plain::soundness(&words) {
+                plain::Soundness::Sound => 8,
+                plain::Soundness::Broken(rule) => rule,
+            };
+            println!("{}: {} words", hard.name, words.len());
+            assert!((60_000..=TABLE_WORDS).contains(&words.len()), "{}", hard.name);
+            assert_eq!(answer, hard.answer, "{}", hard.name);
+        }
+    }
+}
