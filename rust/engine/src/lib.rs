@@ -1,12 +1,14 @@
 //! Safe calls of the proved library. That the declarations of `raw` fit the
-//! archive is all that is assumed here: everything behind them is proved, for
-//! every input.
+//! archives is all that is assumed here: everything behind them is proved, for
+//! every input. `Unpacked`, `Name` and `normal_forms::Form` are what the
+//! exports answer, field for field.
 
 pub mod normal_forms;
 mod raw;
 
 /// What unpacking answers. `number` is 0, or 20, 21 or 22 for a refusal;
 /// beside a refusal `count` is 0.
+#[repr(C)]
 #[derive(Clone, Copy, Debug, PartialEq, Eq)]
 pub struct Unpacked {
     pub number: u32,
@@ -16,25 +18,17 @@ pub struct Unpacked {
 /// Unpacks a table file. Words past the table are zero; after a refusal all
 /// are.
 pub fn unpack(file: &[u8], answer: &mut [u32]) -> Unpacked {
-    // SAFETY: both slices are lent for the call, each with its own length.
-    let r = unsafe {
-        raw::wanlopheng_unpack(file.as_ptr(), file.len(), answer.as_mut_ptr(), answer.len())
-    };
-    Unpacked {
-        number: r.number,
-        count: r.count,
-    }
+    raw::unpack(file, answer)
 }
 
 /// Whether the words of a table have a layout fault.
 pub fn layout_fault(words: &[u32]) -> bool {
-    // SAFETY: the slice is lent for the call, with its length.
-    let fault = unsafe { raw::wanlopheng_layout_fault(words.as_ptr(), words.len()) };
-    fault != 0
+    raw::layout_fault(words) != 0
 }
 
 /// What the name call answers. `number` is 0, or the number of the refusal;
 /// beside a refusal `length` and `labels` are 0.
+#[repr(C)]
 #[derive(Clone, Copy, Debug, PartialEq, Eq)]
 pub struct Name {
     pub number: u32,
@@ -64,57 +58,19 @@ pub struct Label {
 /// Normalises a name. After success `answer` holds the normal form and then
 /// zeros, after a refusal zeros; `work` holds zeros either way.
 pub fn name(input: &[u32], table: &[u32], answer: &mut [u32], work: &mut [u32]) -> Name {
-    // SAFETY: the slices are lent for the call, each with its own length.
-    let r = unsafe {
-        raw::wanlopheng_name(
-            input.as_ptr(),
-            input.len(),
-            table.as_ptr(),
-            table.len(),
-            answer.as_mut_ptr(),
-            answer.len(),
-            work.as_mut_ptr(),
-            work.len(),
-        )
-    };
-    Name {
-        number: r.number,
-        place: r.place,
-        length: r.length,
-        labels: r.labels,
-    }
+    raw::name(input, table, answer, work)
 }
 
 /// Normalises one label; the buffers as for a name.
 pub fn label(input: &[u32], table: &[u32], answer: &mut [u32], work: &mut [u32]) -> Label {
-    // SAFETY: the slices are lent for the call, each with its own length.
-    let r = unsafe {
-        raw::wanlopheng_label(
-            input.as_ptr(),
-            input.len(),
-            table.as_ptr(),
-            table.len(),
-            answer.as_mut_ptr(),
-            answer.len(),
-            work.as_mut_ptr(),
-            work.len(),
-        )
-    };
-    let kind = match r.kind {
+    let raw::Label { number, place, length, kind, group, restricted } = raw::label(input, table, answer, work);
+    let kind = match kind {
         1 => Some(Kind::Emoji),
         2 => Some(Kind::Ascii),
-        3 => Some(Kind::Group {
-            number: r.group,
-            restricted: r.restricted != 0,
-        }),
+        3 => Some(Kind::Group { number: group, restricted: restricted != 0 }),
         _ => None,
     };
-    Label {
-        number: r.number,
-        place: r.place,
-        length: r.length,
-        kind,
-    }
+    Label { number, place, length, kind }
 }
 
 /// What the soundness check answers.
@@ -127,8 +83,7 @@ pub enum Soundness {
 
 /// Checks the words of a table for soundness.
 pub fn soundness(words: &[u32]) -> Soundness {
-    // SAFETY: the slice is lent for the call, with its length.
-    match unsafe { raw::wanlopheng_soundness(words.as_ptr(), words.len()) } {
+    match raw::soundness(words) {
         8 => Soundness::Sound,
         rule => Soundness::Broken(rule),
     }

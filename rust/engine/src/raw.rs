@@ -1,21 +1,11 @@
-//! The exports of the crate `boundary`, as include/wanlopheng.h declares them.
+//! The exports of the crates `boundary` and `normal_forms`, as
+//! include/wanlopheng.h declares them.
+
+use crate::normal_forms::Form;
+use crate::{Name, Unpacked};
 
 #[repr(C)]
-pub struct WanlophengUnpack {
-    pub number: u32,
-    pub count: usize,
-}
-
-#[repr(C)]
-pub struct WanlophengName {
-    pub number: u32,
-    pub place: usize,
-    pub length: usize,
-    pub labels: usize,
-}
-
-#[repr(C)]
-pub struct WanlophengLabel {
+pub struct Label {
     pub number: u32,
     pub place: usize,
     pub length: usize,
@@ -24,37 +14,63 @@ pub struct WanlophengLabel {
     pub restricted: u32,
 }
 
+/// Declares an export that is lent an input, a table, an answer buffer and a
+/// work area, and the safe call of it.
+macro_rules! lent {
+    ($export:ident, $call:ident -> $answer:ty) => {
+        extern "C" {
+            fn $export(
+                input: *const u32,
+                input_length: usize,
+                words: *const u32,
+                words_length: usize,
+                answer: *mut u32,
+                answer_length: usize,
+                work: *mut u32,
+                work_length: usize,
+            ) -> $answer;
+        }
+
+        pub fn $call(input: &[u32], words: &[u32], answer: &mut [u32], work: &mut [u32]) -> $answer {
+            // SAFETY: the four slices are lent for the call, each with its own length.
+            unsafe {
+                $export(
+                    input.as_ptr(),
+                    input.len(),
+                    words.as_ptr(),
+                    words.len(),
+                    answer.as_mut_ptr(),
+                    answer.len(),
+                    work.as_mut_ptr(),
+                    work.len(),
+                )
+            }
+        }
+    };
+}
+
+lent!(wanlopheng_name, name -> Name);
+lent!(wanlopheng_label, label -> Label);
+lent!(wanlopheng_nfd, nfd -> Form);
+lent!(wanlopheng_nfc, nfc -> Form);
+
 extern "C" {
-    pub fn wanlopheng_name(
-        input: *const u32,
-        input_length: usize,
-        words: *const u32,
-        words_length: usize,
-        answer: *mut u32,
-        answer_length: usize,
-        work: *mut u32,
-        work_length: usize,
-    ) -> WanlophengName;
+    fn wanlopheng_unpack(file: *const u8, file_length: usize, answer: *mut u32, answer_length: usize) -> Unpacked;
+    fn wanlopheng_soundness(words: *const u32, words_length: usize) -> u32;
+    fn wanlopheng_layout_fault(words: *const u32, words_length: usize) -> u32;
+}
 
-    pub fn wanlopheng_label(
-        input: *const u32,
-        input_length: usize,
-        words: *const u32,
-        words_length: usize,
-        answer: *mut u32,
-        answer_length: usize,
-        work: *mut u32,
-        work_length: usize,
-    ) -> WanlophengLabel;
+pub fn unpack(file: &[u8], answer: &mut [u32]) -> Unpacked {
+    // SAFETY: both slices are lent for the call, each with its own length.
+    unsafe { wanlopheng_unpack(file.as_ptr(), file.len(), answer.as_mut_ptr(), answer.len()) }
+}
 
-    pub fn wanlopheng_unpack(
-        file: *const u8,
-        file_length: usize,
-        answer: *mut u32,
-        answer_length: usize,
-    ) -> WanlophengUnpack;
+pub fn soundness(words: &[u32]) -> u32 {
+    // SAFETY: the slice is lent for the call, with its length.
+    unsafe { wanlopheng_soundness(words.as_ptr(), words.len()) }
+}
 
-    pub fn wanlopheng_soundness(words: *const u32, words_length: usize) -> u32;
-
-    pub fn wanlopheng_layout_fault(words: *const u32, words_length: usize) -> u32;
+pub fn layout_fault(words: &[u32]) -> u32 {
+    // SAFETY: the slice is lent for the call, with its length.
+    unsafe { wanlopheng_layout_fault(words.as_ptr(), words.len()) }
 }
