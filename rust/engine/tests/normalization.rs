@@ -2,56 +2,15 @@
 //! decompositions, exclusions and classes, and random texts on random tables,
 //! where every word of both buffers is compared.
 
+mod marked;
+
 use engine::normal_forms::{nfc, nfd, Form};
 use gen::Rng;
-use maker::Nf;
+use marked::lent;
 use plain::{Index, TableBuilder};
-use std::collections::HashSet;
-use std::thread;
+use standin::forms::nf_table;
 
 type Call = fn(&[u32], &[u32], &mut [u32], &mut [u32]) -> Form;
-
-fn data(path: &str) -> String {
-    let path = format!("{}/../../data/{path}", env!("CARGO_MANIFEST_DIR"));
-    std::fs::read_to_string(&path).unwrap_or_else(|e| panic!("{path}: {e}"))
-}
-
-/// The table of decompositions, exclusions and classes alone.
-fn table() -> Vec<u32> {
-    let nf = Nf::read(&data("standin/nf.json")).expect("nf.json");
-    maker::make_nf(&nf).to_words()
-}
-
-fn codepoints(column: &str) -> Vec<u32> {
-    column
-        .split(' ')
-        .map(|c| u32::from_str_radix(c, 16).expect("hex"))
-        .collect()
-}
-
-/// The five columns of every line, and the codepoints that part 1 lists. The
-/// last two columns are left out where they repeat the two before them.
-fn read() -> (Vec<[Vec<u32>; 5]>, HashSet<u32>) {
-    let (mut rows, mut listed, mut part) = (Vec::new(), HashSet::new(), "");
-    let text = data("unicode/NormalizationTest.txt");
-    for line in text.lines() {
-        if line.starts_with('@') {
-            part = line;
-            continue;
-        }
-        let mut columns: Vec<Vec<u32>> = line.split(';').map(codepoints).collect();
-        if columns.len() == 3 {
-            columns.extend([columns[1].clone(), columns[2].clone()]);
-        }
-        let row: [Vec<u32>; 5] = columns.try_into().expect("five columns");
-        if part == "@Part1" {
-            assert_eq!(row[0].len(), 1);
-            listed.insert(row[0][0]);
-        }
-        rows.push(row);
-    }
-    (rows, listed)
-}
 
 /// Does the call answer this form of the text?
 fn gives(call: Call, text: &[u32], words: &[u32], form: &[u32]) -> bool {
@@ -60,94 +19,18 @@ fn gives(call: Call, text: &[u32], words: &[u32], form: &[u32]) -> bool {
     r.number == 0 && answer[..r.length] == *form
 }
 
-/// What fails the test, worked out on all processors.
-fn failing<T: Sync>(all: &[T], test: impl Fn(&T) -> bool + Sync) -> Vec<&T> {
-    let threads = thread::available_parallelism().map_or(1, usize::from);
-    let part = all.len().div_ceil(threads);
-    let test = &test;
-    thread::scope(|scope| {
-        let parts: Vec<_> = all
-            .chunks(part)
-            .map(|part| scope.spawn(move || part.iter().filter(|x| !test(x)).collect::<Vec<_>>()))
-            .collect();
-        parts.into_iter().flat_map(|p| p.join().unwrap()).collect()
-    })
-}
-
 #[test]
 fn every_line_and_every_other_codepoint() {
-    let words = table();
-    let (rows, listed) = read();
-    assert_eq!(rows.len(), 19_965);
-    assert_eq!(listed.len(), 17_085);
-    let lines = failing(&rows, |[c1, c2, c3, c4, c5]| {
-        [
-            (c1, c2, c3),
-            (c2, c2, c3),
-            (c3, c2, c3),
-            (c4, c4, c5),
-            (c5, c4, c5),
-        ]
-        .iter()
-        .all(|(text, composed, decomposed)| {
-            gives(nfc, text, &words, composed) && gives(nfd, text, &words, decomposed)
-        })
+    let words = nf_table();
+    standin::forms::run(|text, composed, decomposed| {
+        gives(nfc, text, &words, composed) && gives(nfd, text, &words, decomposed)
     });
-    let others: Vec<u32> = (0..=0x10FFFF)
-        .filter(|c| plain::is_scalar(*c) && !listed.contains(c))
-        .collect();
-    assert_eq!(others.len(), 1_094_979);
-    let changed = failing(&others, |&c| {
-        gives(nfc, &[c], &words, &[c]) && gives(nfd, &[c], &words, &[c])
-    });
-    println!(
-        "{} lines, {} wrong; {} other codepoints, {} wrong",
-        rows.len(),
-        lines.len(),
-        others.len(),
-        changed.len()
-    );
-    assert!(lines.is_empty(), "the first line: {:X?}", lines[0]);
-    assert!(changed.is_empty(), "the first codepoint: {:X}", changed[0]);
-}
-
-const GUARD: usize = 3;
-
-/// The mark at this place, never 0.
-fn mark(place: usize) -> u32 {
-    0x8000_0001 | (place as u32) << 8
-}
-
-/// A part of so many words of a marked buffer, with marks around it.
-fn marked(room: usize) -> Vec<u32> {
-    (0..room + 2 * GUARD).map(mark).collect()
-}
-
-/// The part, once the marks around it are seen to be as they were.
-fn part(buffer: &[u32]) -> Vec<u32> {
-    let end = buffer.len() - GUARD;
-    for place in (0..GUARD).chain(end..buffer.len()) {
-        assert_eq!(buffer[place], mark(place), "a word outside the part");
-    }
-    buffer[GUARD..end].to_vec()
 }
 
 /// The call into parts of marked buffers: its answer and both parts.
-fn run(
-    call: Call,
-    text: &[u32],
-    words: &[u32],
-    room: usize,
-    work: usize,
-) -> (Form, Vec<u32>, Vec<u32>) {
-    let (mut answers, mut works) = (marked(room), marked(work));
-    let r = call(
-        text,
-        words,
-        &mut answers[GUARD..GUARD + room],
-        &mut works[GUARD..GUARD + work],
-    );
-    (r, part(&answers), part(&works))
+fn run(call: Call, text: &[u32], words: &[u32], room: usize, work: usize) -> (Form, Vec<u32>, Vec<u32>) {
+    let ((form, area), answer) = lent(room, |answer| lent(work, |work| call(text, words, answer, work)));
+    (form, answer, area)
 }
 
 /// What the call has to answer, by the plain version: `decomposed` is the
@@ -264,7 +147,7 @@ fn random_texts_as_the_plain_version() {
 /// Every size around those that are just enough.
 #[test]
 fn buffers_of_every_size() {
-    let words = table();
+    let words = nf_table();
     let texts: [&[u32]; 6] = [
         &[],
         &[0x61],

@@ -1,24 +1,15 @@
 //! The unpack call on the proved code: every word of the buffer is compared,
 //! and the words around the part that is lent stay as they were.
 
+mod marked;
+
 use engine::{unpack, Unpacked};
 use gen::Rng;
-
-const GUARD: usize = 3;
-
-/// The mark at this place, never 0.
-fn mark(place: usize) -> u32 {
-    0x8000_0001 | (place as u32) << 8
-}
+use marked::{lent, mark};
 
 /// Unpacks into a part of `room` words of a marked buffer.
 fn run(file: &[u8], room: usize) -> (Unpacked, Vec<u32>) {
-    let mut buffer: Vec<u32> = (0..room + 2 * GUARD).map(mark).collect();
-    let answer = unpack(file, &mut buffer[GUARD..GUARD + room]);
-    for place in (0..GUARD).chain(GUARD + room..room + 2 * GUARD) {
-        assert_eq!(buffer[place], mark(place), "a word outside the part");
-    }
-    (answer, buffer[GUARD..GUARD + room].to_vec())
+    lent(room, |answer| unpack(file, answer))
 }
 
 /// The file is refused with this number, whatever the room.

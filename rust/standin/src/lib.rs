@@ -1,16 +1,19 @@
 //! Runs any engine on the full-size table and on names.tab: the cases of
 //! "Names at the counter", the examples of ENSIP-15, every codepoint, random
-//! names of real characters, and the published validation tests.
+//! names of real characters, Unicode's NormalizationTest, and the published
+//! validation tests.
 //!
 //! The tables are made from stand-in files, not from the published ones; see
 //! docs/STANDIN.md. Another engine is run by handing it to the same functions:
-//! `cases::run(&engine, ..)`, and `bulk::codepoints(&engine, Some(&prepared), ..)`
+//! `cases::run(&engine, ..)`, and `bulk::codepoints(&engine, Some(prepared), ..)`
 //! and `bulk::random_names`, which hold it against the plain version.
 
 pub mod bulk;
 pub mod cases;
 pub mod desk;
+pub mod forms;
 pub mod prepared;
+pub mod shards;
 pub mod validation;
 
 pub use desk::{Desk, Kind};
@@ -52,6 +55,14 @@ pub struct Made {
     pub spec: Spec,
     pub nf: Nf,
     pub words: Vec<u32>,
+}
+
+impl Made {
+    /// The job's answer by the plain version over this table.
+    pub fn prepared<R>(&self, job: impl FnOnce(&Prepared) -> R) -> R {
+        let table = plain::parse(&self.words).expect("layout");
+        job(&Prepared::new(&self.words, &table))
+    }
 }
 
 /// The full-size table.
