@@ -1,6 +1,7 @@
 //! Demand 3 on any engine: doing it again changes nothing, and joining.
 
 use crate::engine::*;
+use crate::harness::{hex, say};
 use gen::{Rng, Vocabulary};
 use plain::{judge_name, limits, parse, Index, Table, STOP};
 use std::fmt;
@@ -77,7 +78,7 @@ pub fn again(engine: &dyn Engine, first_seed: u64, due: u64, names_per_table: us
             if flat.refusal != 0 {
                 continue;
             }
-            let at = || format!("seed {seed}, name {}, answer {}", crate::harness::hex(&name), crate::harness::hex(&answer));
+            let at = || format!("seed {seed}, name {}, answer {}", hex(&name), hex(&answer));
             let before = kinds(engine, &words, &name);
             assert_eq!(before.len(), flat.labels as usize, "{}", at());
             // Enough room is any room from the answer's length on.
@@ -100,6 +101,17 @@ pub fn again(engine: &dyn Engine, first_seed: u64, due: u64, names_per_table: us
         seed += 1;
     }
     counts
+}
+
+/// Demand 3, first half, on 100,000 accepted names, of which many change, hold
+/// emoji or compose.
+pub fn check_again(engine: &dyn Engine, first_seed: u64) {
+    let counts = again(engine, first_seed, 100_000, 150);
+    say(&counts);
+    assert!(counts.accepted >= 100_000);
+    assert!(4 * counts.changed >= counts.accepted, "a quarter changes");
+    assert!(4 * counts.emoji >= counts.accepted, "a quarter holds emoji");
+    assert!(4 * counts.composed >= counts.accepted, "a quarter composes");
 }
 
 #[derive(Clone, Debug, Default)]
@@ -170,7 +182,7 @@ pub fn joining(engine: &dyn Engine, first_seed: u64, tables: u64, pairs_per_tabl
             };
             let work = if rng.percent(4) { rng.below(limits::WORK_WORDS) } else { limits::WORK_WORDS };
             let (flat, answer) = name_call(engine, &words, &joined, room, work);
-            let at = || format!("seed {seed}, joined {}, room {room}, work area {work}", crate::harness::hex(&joined));
+            let at = || format!("seed {seed}, joined {}, room {room}, work area {work}", hex(&joined));
 
             // 7 is named at the first label of the second name that passes it.
             let before = worked_lengths(&table, name_a).last().unwrap() + 1;
@@ -204,4 +216,14 @@ pub fn joining(engine: &dyn Engine, first_seed: u64, tables: u64, pairs_per_tabl
         }
     }
     counts
+}
+
+/// Demand 3, second half, on this many tables: every limit is reached, and
+/// unsound tables too.
+pub fn check_joining(engine: &dyn Engine, first_seed: u64, tables: u64) {
+    let counts = joining(engine, first_seed, tables, 50);
+    say(&counts);
+    assert!(6 * counts.accepted >= 100 * tables, "a third of the pairs is accepted");
+    assert!(counts.refused.iter().all(|&n| 12 * n >= tables), "every limit is reached");
+    assert!(4 * (counts.tables - counts.sound_tables) >= tables, "a quarter of the tables is unsound");
 }

@@ -120,6 +120,17 @@ impl Report {
             self.differences.push(text());
         }
     }
+
+    /// Prints what was met; panics where the engines differ or something was
+    /// reached too seldom.
+    pub fn check(&self) {
+        say(&self.counts);
+        for difference in &self.differences {
+            say(difference);
+        }
+        assert_eq!(self.counts.differences, 0);
+        assert_eq!(self.counts.missing(), Vec::<String>::new());
+    }
 }
 
 /// Prints a line that the test runner does not hold back.
@@ -133,10 +144,9 @@ pub fn hex(words: &[u32]) -> String {
     words.join(" ")
 }
 
-/// Fills a buffer with marks, none of them 0.
-fn mark(buffer: &mut Vec<u32>, size: usize, salt: u32) {
-    buffer.clear();
-    buffer.extend((0..size as u32).map(|i| 0xA500_0001 ^ (salt << 12) ^ i.wrapping_mul(0x0101_0101) | 1));
+/// A buffer of marks, none of them 0.
+fn marks(size: usize, salt: u32) -> Vec<u32> {
+    (0..size as u32).map(|i| 0xA500_0001 ^ (salt << 12) ^ i.wrapping_mul(0x0101_0101) | 1).collect()
 }
 
 fn work_size(rng: &mut Rng) -> usize {
@@ -167,174 +177,146 @@ fn first_difference(a: &[u32], b: &[u32]) -> String {
     }
 }
 
-#[derive(Default)]
-struct Buffers {
-    a: [Vec<u32>; 2],
-    b: [Vec<u32>; 2],
+/// Two engines that are asked the same, with what they answered so far.
+struct Both<'a> {
+    a: &'a dyn Engine,
+    b: &'a dyn Engine,
+    settings: &'a Settings,
+    report: Report,
 }
 
 /// Runs both engines over the same tables and names.
 pub fn compare(a: &dyn Engine, b: &dyn Engine, settings: &Settings) -> Report {
-    let mut report = Report::default();
-    let mut buffers = Buffers::default();
+    let mut both = Both { a, b, settings, report: Report::default() };
     for seed in settings.first_seed..settings.first_seed + settings.tables {
         let mut rng = Rng::new(seed);
         let made = gen::table(&mut rng);
-        report.counts.tables += 1;
-        compare_soundness(a, b, settings, seed, &made.words, &mut report);
+        both.soundness(seed, &made.words);
         let vocabulary = Vocabulary::new(&mut rng, &made.builder);
         for _ in 0..settings.names_per_table {
             let name = vocabulary.name(&mut rng);
-            report.counts.names += 1;
-            let room = answer_size(&mut rng, &name);
-            let work = work_size(&mut rng);
-            let answer = name_call(a, b, settings, seed, &made.words, &name, room, work, &mut buffers, &mut report);
-            report.counts.accepted_names += u64::from(answer.refusal == 0);
-            if name.len() == plain::limits::INPUT {
-                report.counts.names_of_4096 += 1;
-                report.counts.accepted_names_of_4096 += u64::from(answer.refusal == 0);
-            }
-            if answer.refusal == 0 && rng.percent(6) {
-                // Room that just suffices, and one word less.
-                let due = answer.length as usize;
-                for room in [Some(due), due.checked_sub(1)].into_iter().flatten() {
-                    name_call(a, b, settings, seed, &made.words, &name, room, work, &mut buffers, &mut report);
-                }
-            }
-            // The label call on a label of the name, or on the whole name.
-            let label = if rng.percent(20) {
-                &name[..]
-            } else {
-                let labels: Vec<&[u32]> = name.split(|&c| c == plain::STOP).collect();
-                *rng.pick(&labels)
-            };
-            let room = answer_size(&mut rng, label);
-            let work = work_size(&mut rng);
-            label_call(a, b, settings, seed, &made.words, label, room, work, &mut buffers, &mut report);
+            both.name_and_label(&mut rng, seed, &made.words, &name);
         }
         for _ in 0..settings.files_per_table {
             let (file, room) = gen::file(&mut rng, &made.words);
-            compare_unpack(a, b, settings, seed, &file, room, &mut buffers, &mut report);
+            both.unpack(seed, &file, room);
         }
     }
     let first = settings.first_seed + settings.tables;
     for seed in first..first + settings.more_soundness {
-        let made = gen::table(&mut Rng::new(seed));
-        report.counts.tables += 1;
-        compare_soundness(a, b, settings, seed, &made.words, &mut report);
+        both.soundness(seed, &gen::table(&mut Rng::new(seed)).words);
     }
-    report
+    both.report
 }
 
-fn compare_soundness(a: &dyn Engine, b: &dyn Engine, settings: &Settings, seed: u64, table: &[u32], report: &mut Report) {
-    let (x, y) = (a.soundness(table), b.soundness(table));
-    report.counts.soundness[x.0 as usize] += 1;
-    if x != y {
-        report.differ(settings, || format!("seed {seed}: soundness {x:?} and {y:?}\n  table {}", hex(table)));
+impl Both<'_> {
+    fn soundness(&mut self, seed: u64, table: &[u32]) {
+        let (x, y) = (self.a.soundness(table), self.b.soundness(table));
+        self.report.counts.tables += 1;
+        self.report.counts.soundness[x.0 as usize] += 1;
+        if x != y {
+            self.report.differ(self.settings, || format!("seed {seed}: soundness {x:?} and {y:?}\n  table {}", hex(table)));
+        }
     }
-}
 
-#[allow(clippy::too_many_arguments)]
-fn name_call(
-    a: &dyn Engine,
-    b: &dyn Engine,
-    settings: &Settings,
-    seed: u64,
-    table: &[u32],
-    name: &[u32],
-    room: usize,
-    work: usize,
-    buffers: &mut Buffers,
-    report: &mut Report,
-) -> NameFlat {
-    for (buffers, salt) in [(&mut buffers.a, 1), (&mut buffers.b, 2)] {
-        mark(&mut buffers[0], room, salt);
-        mark(&mut buffers[1], work, salt + 4);
+    fn name_and_label(&mut self, rng: &mut Rng, seed: u64, table: &[u32], name: &[u32]) {
+        let room = answer_size(rng, name);
+        let work = work_size(rng);
+        let answer = self.name(seed, table, name, room, work);
+        let accepted = u64::from(answer.refusal == 0);
+        self.report.counts.names += 1;
+        self.report.counts.accepted_names += accepted;
+        if name.len() == plain::limits::INPUT {
+            self.report.counts.names_of_4096 += 1;
+            self.report.counts.accepted_names_of_4096 += accepted;
+        }
+        if answer.refusal == 0 && rng.percent(6) {
+            // Room that just suffices, and one word less.
+            let due = answer.length as usize;
+            for room in [Some(due), due.checked_sub(1)].into_iter().flatten() {
+                self.name(seed, table, name, room, work);
+            }
+        }
+        // The label call on a label of the name, or on the whole name.
+        let label = if rng.percent(20) {
+            name
+        } else {
+            let labels: Vec<&[u32]> = name.split(|&c| c == plain::STOP).collect();
+            *rng.pick(&labels)
+        };
+        let room = answer_size(rng, label);
+        let work = work_size(rng);
+        self.label(seed, table, label, room, work);
     }
-    let [answer_a, work_a] = &mut buffers.a;
-    let [answer_b, work_b] = &mut buffers.b;
-    let x = a.name(name, table, answer_a, work_a);
-    let y = b.name(name, table, answer_b, work_b);
-    report.counts.name_calls += 1;
-    report.counts.name_refusals[x.refusal as usize] += 1;
-    if x != y || answer_a != answer_b || work_a != work_b {
-        report.differ(settings, || {
-            format!(
-                "seed {seed}: name {}\n  answer room {room}, work area {work}\n  {x:?}\n  {y:?}\n  answer: {}\n  work area: {}\n  table {}",
-                hex(name),
-                first_difference(answer_a, answer_b),
-                first_difference(work_a, work_b),
-                hex(table)
-            )
-        });
-    }
-    x
-}
 
-#[allow(clippy::too_many_arguments)]
-fn label_call(
-    a: &dyn Engine,
-    b: &dyn Engine,
-    settings: &Settings,
-    seed: u64,
-    table: &[u32],
-    label: &[u32],
-    room: usize,
-    work: usize,
-    buffers: &mut Buffers,
-    report: &mut Report,
-) {
-    for (buffers, salt) in [(&mut buffers.a, 1), (&mut buffers.b, 2)] {
-        mark(&mut buffers[0], room, salt);
-        mark(&mut buffers[1], work, salt + 4);
+    /// One call by both engines, each with its own marks in the buffers; the
+    /// first engine's answer. `about` says what a difference starts and ends
+    /// with.
+    fn call<R: PartialEq + fmt::Debug>(
+        &mut self,
+        [room, work]: [usize; 2],
+        call: impl Fn(&dyn Engine, &mut [u32], &mut [u32]) -> R,
+        about: impl Fn() -> [String; 2],
+    ) -> R {
+        let run = |engine: &dyn Engine, salt: u32| {
+            let (mut answer, mut area) = (marks(room, salt), marks(work, salt + 4));
+            let flat = call(engine, &mut answer, &mut area);
+            (flat, answer, area)
+        };
+        let (x, y) = (run(self.a, 1), run(self.b, 2));
+        if x != y {
+            self.report.differ(self.settings, || {
+                let [start, end] = about();
+                let answers = first_difference(&x.1, &y.1);
+                let areas = first_difference(&x.2, &y.2);
+                format!(
+                    "{start}\n  answer room {room}, work area {work}\n  {:?}\n  {:?}\n  answer: {answers}\n  work area: {areas}{end}",
+                    x.0, y.0
+                )
+            });
+        }
+        x.0
     }
-    let [answer_a, work_a] = &mut buffers.a;
-    let [answer_b, work_b] = &mut buffers.b;
-    let x = a.label(label, table, answer_a, work_a);
-    let y = b.label(label, table, answer_b, work_b);
-    report.counts.label_calls += 1;
-    report.counts.label_refusals[x.refusal as usize] += 1;
-    match (x.kind, x.restricted) {
-        (EMOJI, _) => report.counts.kinds[0] += 1,
-        (ASCII, _) => report.counts.kinds[1] += 1,
-        (GROUP, 0) => report.counts.kinds[2] += 1,
-        (GROUP, _) => report.counts.kinds[3] += 1,
-        _ => {}
-    }
-    if x != y || answer_a != answer_b || work_a != work_b {
-        report.differ(settings, || {
-            format!(
-                "seed {seed}: label {}\n  answer room {room}, work area {work}\n  {x:?}\n  {y:?}\n  answer: {}\n  work area: {}\n  table {}",
-                hex(label),
-                first_difference(answer_a, answer_b),
-                first_difference(work_a, work_b),
-                hex(table)
-            )
-        });
-    }
-}
 
-#[allow(clippy::too_many_arguments)]
-fn compare_unpack(
-    a: &dyn Engine,
-    b: &dyn Engine,
-    settings: &Settings,
-    seed: u64,
-    file: &[u8],
-    room: usize,
-    buffers: &mut Buffers,
-    report: &mut Report,
-) {
-    mark(&mut buffers.a[0], room, 1);
-    mark(&mut buffers.b[0], room, 2);
-    let x = a.unpack(file, &mut buffers.a[0]);
-    let y = b.unpack(file, &mut buffers.b[0]);
-    let place = if x.refusal == 0 { 0 } else { x.refusal as usize - 19 };
-    report.counts.unpacked[place] += 1;
-    if x != y || buffers.a[0] != buffers.b[0] {
-        report.differ(settings, || {
-            let bytes: Vec<String> = file.iter().map(|b| format!("{b:02X}")).collect();
-            format!("seed {seed}: file {}\n  room {room}\n  {x:?}\n  {y:?}", bytes.join(" "))
-        });
+    fn name(&mut self, seed: u64, table: &[u32], name: &[u32], room: usize, work: usize) -> NameFlat {
+        let x = self.call(
+            [room, work],
+            |engine, answer, area| engine.name(name, table, answer, area),
+            || [format!("seed {seed}: name {}", hex(name)), format!("\n  table {}", hex(table))],
+        );
+        self.report.counts.name_calls += 1;
+        self.report.counts.name_refusals[x.refusal as usize] += 1;
+        x
+    }
+
+    fn label(&mut self, seed: u64, table: &[u32], label: &[u32], room: usize, work: usize) {
+        let x = self.call(
+            [room, work],
+            |engine, answer, area| engine.label(label, table, answer, area),
+            || [format!("seed {seed}: label {}", hex(label)), format!("\n  table {}", hex(table))],
+        );
+        let counts = &mut self.report.counts;
+        counts.label_calls += 1;
+        counts.label_refusals[x.refusal as usize] += 1;
+        match (x.kind, x.restricted) {
+            (EMOJI, _) => counts.kinds[0] += 1,
+            (ASCII, _) => counts.kinds[1] += 1,
+            (GROUP, 0) => counts.kinds[2] += 1,
+            (GROUP, _) => counts.kinds[3] += 1,
+            _ => {}
+        }
+    }
+
+    fn unpack(&mut self, seed: u64, file: &[u8], room: usize) {
+        let x = self.call(
+            [room, 0],
+            |engine, answer, _| engine.unpack(file, answer),
+            || {
+                let bytes: Vec<String> = file.iter().map(|b| format!("{b:02X}")).collect();
+                [format!("seed {seed}: file {}", bytes.join(" ")), String::new()]
+            },
+        );
+        let place = if x.refusal == 0 { 0 } else { x.refusal as usize - 19 };
+        self.report.counts.unpacked[place] += 1;
     }
 }

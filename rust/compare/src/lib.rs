@@ -6,7 +6,7 @@ pub mod engine;
 pub mod harness;
 pub mod plain_engine;
 
-pub use again::{again, joining, AgainCounts, JoinCounts};
+pub use again::{check_again, check_joining};
 pub use engine::{Engine, LabelFlat, NameFlat, SoundnessFlat, UnpackFlat};
 pub use harness::{compare, say, Counts, Report, Settings};
 pub use plain_engine::{Indexed, Plain};

@@ -68,64 +68,68 @@ impl Engine for Plain {
     }
 }
 
+/// Refusal 2.
+pub fn enough_work(work: &[u32]) -> Result<(), Refusal> {
+    if work.len() < plain::limits::WORK_WORDS {
+        return Err(Refusal { number: 2, place: 0 });
+    }
+    Ok(())
+}
+
+/// Leaves what was judged in the buffers, or zeros alone: the answer's length
+/// and the other value.
+fn leave<T>(judged: Result<(Vec<u32>, T), Refusal>, answer: &mut [u32], work: &mut [u32]) -> Result<(usize, T), Refusal> {
+    answer.fill(0);
+    work.fill(0);
+    let (due, value) = judged?;
+    let room = answer.get_mut(..due.len()).ok_or(Refusal { number: 15, place: 0 })?;
+    room.copy_from_slice(&due);
+    Ok((due.len(), value))
+}
+
+/// The name call over an index, or with a refusal before it.
+pub fn indexed_name(index: Result<&Index, Refusal>, name: &[u32], answer: &mut [u32], work: &mut [u32]) -> NameFlat {
+    let judged = index.and_then(|index| judge_name(index, name));
+    let judged = judged.map(|labels| (plain::calls::join_labels(&labels), labels.len()));
+    flat_name(match leave(judged, answer, work) {
+        Ok((length, labels)) => NameAnswer::Accepted { length, labels },
+        Err(Refusal { number, place }) => NameAnswer::Refused { number, place },
+    })
+}
+
+/// The label call, likewise.
+pub fn indexed_label(index: Result<&Index, Refusal>, label: &[u32], answer: &mut [u32], work: &mut [u32]) -> LabelFlat {
+    let judged = index.and_then(|index| judge_label(index, label)).map(|form| (form.answer, form.kind));
+    flat_label(match leave(judged, answer, work) {
+        Ok((length, kind)) => LabelAnswer::Accepted { length, kind },
+        Err(Refusal { number, place }) => LabelAnswer::Refused { number, place },
+    })
+}
+
+/// The job over the index of a table, or with refusal 1 or 2.
+fn with_index<R>(words: &[u32], work: &mut [u32], job: impl FnOnce(Result<&Index, Refusal>, &mut [u32]) -> R) -> R {
+    let Some(table) = parse(words) else {
+        return job(Err(Refusal { number: 1, place: 0 }), work);
+    };
+    let index = Index::new(&table);
+    job(enough_work(work).map(|()| &index), work)
+}
+
 /// The plain rules over `Index`: shows that the index gives what reading from
 /// the front gives.
 pub struct Indexed;
 
 impl Engine for Indexed {
     fn name(&self, name: &[u32], table: &[u32], answer: &mut [u32], work: &mut [u32]) -> NameFlat {
-        let room = answer.len();
-        let judged = || {
-            let table = parse(table).ok_or(Refusal { number: 1, place: 0 })?;
-            if work.len() < plain::limits::WORK_WORDS {
-                return Err(Refusal { number: 2, place: 0 });
-            }
-            let labels = judge_name(&Index::new(&table), name)?;
-            let due = plain::calls::join_labels(&labels);
-            if due.len() > room {
-                return Err(Refusal { number: 15, place: 0 });
-            }
-            Ok((due, labels.len()))
-        };
-        let judged = judged();
-        answer.fill(0);
-        work.fill(0);
-        flat_name(match judged {
-            Ok((due, labels)) => {
-                answer[..due.len()].copy_from_slice(&due);
-                NameAnswer::Accepted { length: due.len(), labels }
-            }
-            Err(Refusal { number, place }) => NameAnswer::Refused { number, place },
-        })
+        with_index(table, work, |index, work| indexed_name(index, name, answer, work))
     }
     fn label(&self, label: &[u32], table: &[u32], answer: &mut [u32], work: &mut [u32]) -> LabelFlat {
-        let room = answer.len();
-        let judged = || {
-            let table = parse(table).ok_or(Refusal { number: 1, place: 0 })?;
-            if work.len() < plain::limits::WORK_WORDS {
-                return Err(Refusal { number: 2, place: 0 });
-            }
-            let form = judge_label(&Index::new(&table), label)?;
-            if form.answer.len() > room {
-                return Err(Refusal { number: 15, place: 0 });
-            }
-            Ok(form)
-        };
-        let judged = judged();
-        answer.fill(0);
-        work.fill(0);
-        flat_label(match judged {
-            Ok(form) => {
-                answer[..form.answer.len()].copy_from_slice(&form.answer);
-                LabelAnswer::Accepted { length: form.answer.len(), kind: form.kind }
-            }
-            Err(Refusal { number, place }) => LabelAnswer::Refused { number, place },
-        })
+        with_index(table, work, |index, work| indexed_label(index, label, answer, work))
     }
     fn soundness(&self, table: &[u32]) -> SoundnessFlat {
-        flat_soundness(plain::soundness(table))
+        Plain.soundness(table)
     }
     fn unpack(&self, file: &[u8], answer: &mut [u32]) -> UnpackFlat {
-        flat_unpack(plain::unpack(file, answer))
+        Plain.unpack(file, answer)
     }
 }

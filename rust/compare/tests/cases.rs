@@ -6,39 +6,40 @@ use plain::*;
 
 const NO_ROOM: u32 = 15;
 
-/// Both calls with marks in the buffers, checked word for word.
-fn run_name(words: &[u32], input: &[u32], room: usize) -> Result<(Vec<u32>, usize), (u32, usize)> {
-    let mut answer = vec![0xFFFF_FFFF; room];
-    let mut work = vec![0xFFFF_FFFF; 2048];
-    let flat = name(input, words, &mut answer, &mut work);
+/// A call with marks in the buffers: its answer and the words of the answer
+/// buffer, once the work area is seen to be zero.
+fn lent<R>(room: usize, call: impl FnOnce(&mut [u32], &mut [u32]) -> R) -> (R, Vec<u32>) {
+    let (mut answer, mut work) = (vec![0xFFFF_FFFF; room], vec![0xFFFF_FFFF; 2048]);
+    let flat = call(&mut answer, &mut work);
     assert!(work.iter().all(|&w| w == 0));
-    match flat {
-        NameAnswer::Accepted { length, labels } => {
-            assert!(answer[length..].iter().all(|&w| w == 0));
-            Ok((answer[..length].to_vec(), labels))
-        }
-        NameAnswer::Refused { number, place } => {
-            assert!(answer.iter().all(|&w| w == 0));
-            Err((number, place))
-        }
-    }
+    (flat, answer)
+}
+
+/// The answer of this length, once the words behind it are seen to be zero.
+fn taken(mut answer: Vec<u32>, length: usize) -> Vec<u32> {
+    assert!(answer[length..].iter().all(|&w| w == 0));
+    answer.truncate(length);
+    answer
+}
+
+fn run_name(words: &[u32], input: &[u32], room: usize) -> Result<(Vec<u32>, usize), (u32, usize)> {
+    let (flat, answer) = lent(room, |answer, work| name(input, words, answer, work));
+    let (length, given) = match flat {
+        NameAnswer::Accepted { length, labels } => (length, Ok(labels)),
+        NameAnswer::Refused { number, place } => (0, Err((number, place))),
+    };
+    let answer = taken(answer, length);
+    given.map(|labels| (answer, labels))
 }
 
 fn run_label(words: &[u32], input: &[u32], room: usize) -> Result<(Vec<u32>, Kind), (u32, usize)> {
-    let mut answer = vec![0xFFFF_FFFF; room];
-    let mut work = vec![0xFFFF_FFFF; 2048];
-    let flat = label(input, words, &mut answer, &mut work);
-    assert!(work.iter().all(|&w| w == 0));
-    match flat {
-        LabelAnswer::Accepted { length, kind } => {
-            assert!(answer[length..].iter().all(|&w| w == 0));
-            Ok((answer[..length].to_vec(), kind))
-        }
-        LabelAnswer::Refused { number, place } => {
-            assert!(answer.iter().all(|&w| w == 0));
-            Err((number, place))
-        }
-    }
+    let (flat, answer) = lent(room, |answer, work| label(input, words, answer, work));
+    let (length, given) = match flat {
+        LabelAnswer::Accepted { length, kind } => (length, Ok(kind)),
+        LabelAnswer::Refused { number, place } => (0, Err((number, place))),
+    };
+    let answer = taken(answer, length);
+    given.map(|kind| (answer, kind))
 }
 
 /// A one-label name: both calls give this answer, and the label this kind.

@@ -1,6 +1,6 @@
 //! The random comparison and demand 3, on the plain engine.
 
-use compare::{again, compare, joining, say, Indexed, Plain, Settings};
+use compare::{check_again, check_joining, compare, say, Indexed, Plain, Settings};
 
 /// The generators reach everything that the comparison asks for, and the index
 /// gives what reading from the front gives.
@@ -8,13 +8,7 @@ use compare::{again, compare, joining, say, Indexed, Plain, Settings};
 fn counts_are_reached() {
     let settings = Settings::default();
     assert!(settings.tables >= 2_000 && settings.tables * settings.names_per_table as u64 >= 200_000);
-    let report = compare(&Plain, &Indexed, &settings);
-    say(&report.counts);
-    for difference in &report.differences {
-        say(difference);
-    }
-    assert_eq!(report.counts.differences, 0);
-    assert_eq!(report.counts.missing(), Vec::<String>::new());
+    compare(&Plain, &Indexed, &settings).check();
 }
 
 /// The same seed gives the same tables and names.
@@ -28,22 +22,13 @@ fn seeds_repeat() {
 /// Demand 3, first half.
 #[test]
 fn doing_it_again_changes_nothing() {
-    let counts = again(&Plain, 1_000_000, 100_000, 150);
-    say(&counts);
-    assert!(counts.accepted >= 100_000);
-    assert!(4 * counts.changed >= counts.accepted, "a quarter changes");
-    assert!(4 * counts.emoji >= counts.accepted, "a quarter holds emoji");
-    assert!(4 * counts.composed >= counts.accepted, "a quarter composes");
+    check_again(&Plain, 1_000_000);
 }
 
 /// Demand 3, second half.
 #[test]
 fn joining_joins() {
-    let counts = joining(&Plain, 2_000_000, 1_200, 50);
-    say(&counts);
-    assert!(counts.accepted >= 20_000);
-    assert!(counts.refused.iter().all(|&n| n >= 100), "every limit is reached");
-    assert!(counts.tables - counts.sound_tables >= 300, "unsound tables too");
+    check_joining(&Plain, 2_000_000, 1_200);
 }
 
 /// Every lookup of the index is that of the table.

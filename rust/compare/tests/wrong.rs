@@ -8,11 +8,23 @@ use plain::text::{compose, four_rounds, order};
 use plain::tokens::strip;
 use plain::*;
 
-#[derive(Clone, Copy, Debug, PartialEq, Eq)]
-enum Wrong {
-    Nothing,
-    /// Not wrong: the look-alike test in the source document's own steps.
-    AsTheSource,
+/// Declares an enum of engines, right ones and wrong ones, and the list of
+/// those that are wrong.
+macro_rules! wrongs {
+    ($name:ident, $list:ident; $($right:ident,)*; $($wrong:ident,)*) => {
+        #[derive(Clone, Copy, Debug, PartialEq, Eq)]
+        enum $name {
+            $($right,)*
+            $($wrong,)*
+        }
+        const $list: &[$name] = &[$($name::$wrong),*];
+    };
+}
+
+wrongs! {
+    Wrong, WRONGS;
+    // The second is the look-alike test in the source document's own steps.
+    Nothing, AsTheSource,;
     // Errors met in the field.
     ComposesWholeLabel,
     IgnoresFe0fFirst,
@@ -381,8 +393,8 @@ fn nothing_wrong_is_found_equal() {
     }
 }
 
-#[derive(Clone, Copy, Debug)]
-enum WrongCheck {
+wrongs! {
+    WrongCheck, WRONG_CHECKS;;
     EverySound,
     HighestRule,
     ValidOneWay,
@@ -456,19 +468,8 @@ impl Engine for Checks {
 
 #[test]
 fn wrong_checks_are_found() {
-    use WrongCheck::*;
     let settings = Settings { tables: 300, names_per_table: 0, files_per_table: 4, more_soundness: 300, ..settings() };
-    for wrong in [
-        EverySound,
-        HighestRule,
-        ValidOneWay,
-        FiveFirstSentence,
-        SixRoundsOnly,
-        SevenWithoutHangul,
-        LengthBeforeVersion,
-        RoomBeforeLength,
-        LeavesWords,
-    ] {
+    for &wrong in WRONG_CHECKS {
         let report = compare(&Plain, &Checks(wrong), &settings);
         say(format!("{wrong:?}: {} differences", report.counts.differences));
         assert!(report.counts.differences >= 3, "{wrong:?} is hardly found");
@@ -477,33 +478,7 @@ fn wrong_checks_are_found() {
 
 #[test]
 fn wrong_engines_are_found() {
-    let wrongs = [
-        ComposesWholeLabel,
-        IgnoresFe0fFirst,
-        MapsTwice,
-        MapsBeforeValid,
-        StopsAtFirstConfused,
-        LeavesOldTail,
-        FifteenEarly,
-        NsmPerToken,
-        NsmUnordered,
-        LeavesWorkArea,
-        WorkedLengthOffByOne,
-        ForgetsStopsInWorkedLength,
-        LabelNumberOffByOne,
-        PlaceInLabel,
-        SevenBeforeFive,
-        ValidListConfuses,
-        CountsLabelsOfAnswer,
-        LastGroup,
-        FirstMatch,
-        FiveRounds,
-        EightOverText,
-        RefusesEverything,
-        CopiesItsInput,
-        DoesNothing,
-    ];
-    for wrong in wrongs {
+    for &wrong in WRONGS {
         let report = compare(&Plain, &Assembled(wrong), &settings());
         say(format!("{wrong:?}: {} differences", report.counts.differences));
         assert!(report.counts.differences >= 3, "{wrong:?} is hardly found");

@@ -1,9 +1,9 @@
 //! The plain version over a table that is read once, for many names. It
 //! refuses to look at another table.
 
-use compare::plain_engine::{flat_label, flat_name};
+use compare::plain_engine::{enough_work, indexed_label, indexed_name};
 use compare::{Engine, LabelFlat, NameFlat, SoundnessFlat, UnpackFlat};
-use plain::{Index, LabelAnswer, NameAnswer, Refusal};
+use plain::{Index, Refusal};
 
 pub struct Prepared<'t> {
     words: &'t [u32],
@@ -16,50 +16,19 @@ impl<'t> Prepared<'t> {
         Prepared { words, index: Index::new(table) }
     }
 
-    fn check(&self, table: &[u32], work: &[u32]) -> Result<(), Refusal> {
+    fn index(&self, table: &[u32], work: &[u32]) -> Result<&Index<'t>, Refusal> {
         assert!(std::ptr::eq(self.words, table), "another table");
-        if work.len() < plain::limits::WORK_WORDS {
-            return Err(Refusal { number: 2, place: 0 });
-        }
-        Ok(())
+        enough_work(work).map(|()| &self.index)
     }
-}
-
-fn fit(due: &[u32], answer: &mut [u32], work: &mut [u32]) -> Result<usize, Refusal> {
-    if due.len() > answer.len() {
-        return Err(Refusal { number: 15, place: 0 });
-    }
-    answer.fill(0);
-    work.fill(0);
-    answer[..due.len()].copy_from_slice(due);
-    Ok(due.len())
 }
 
 impl Engine for Prepared<'_> {
     fn name(&self, name: &[u32], table: &[u32], answer: &mut [u32], work: &mut [u32]) -> NameFlat {
-        let judged = self.check(table, work).and_then(|()| plain::judge_name(&self.index, name));
-        let fitted = judged.and_then(|labels| {
-            let length = fit(&plain::calls::join_labels(&labels), answer, work)?;
-            Ok(NameAnswer::Accepted { length, labels: labels.len() })
-        });
-        flat_name(fitted.unwrap_or_else(|Refusal { number, place }| {
-            answer.fill(0);
-            work.fill(0);
-            NameAnswer::Refused { number, place }
-        }))
+        indexed_name(self.index(table, work), name, answer, work)
     }
 
     fn label(&self, label: &[u32], table: &[u32], answer: &mut [u32], work: &mut [u32]) -> LabelFlat {
-        let judged = self.check(table, work).and_then(|()| plain::judge_label(&self.index, label));
-        let fitted = judged.and_then(|form| {
-            let length = fit(&form.answer, answer, work)?;
-            Ok(LabelAnswer::Accepted { length, kind: form.kind })
-        });
-        flat_label(fitted.unwrap_or_else(|Refusal { number, place }| {
-            answer.fill(0);
-            work.fill(0);
-            LabelAnswer::Refused { number, place }
-        }))
+        indexed_label(self.index(table, work), label, answer, work)
     }
 
     fn soundness(&self, table: &[u32]) -> SoundnessFlat {
