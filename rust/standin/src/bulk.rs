@@ -1,10 +1,14 @@
-//! Every codepoint, and random names of real characters.
+//! Every codepoint, and random names of real characters, on all processors.
 
 use crate::desk::{Desk, Kind, Name, Refusal};
+use crate::shards::on_all_processors;
 use crate::Made;
 use compare::Engine;
 use gen::Rng;
 use std::collections::BTreeMap;
+
+/// An engine that all processors use.
+pub type Shared<'a> = &'a (dyn Engine + Sync);
 
 /// What a run met.
 #[derive(Clone, Debug, Default, PartialEq, Eq)]
@@ -36,20 +40,34 @@ impl Counts {
         }
     }
 
+    /// What several runs met together.
+    fn merged(runs: Vec<Counts>) -> Counts {
+        let mut all = Counts::default();
+        for run in runs {
+            all.accepted += run.accepted;
+            all.changed += run.changed;
+            all.emoji += run.emoji;
+            all.ascii += run.ascii;
+            for (group, count) in run.groups {
+                *all.groups.entry(group).or_default() += count;
+            }
+            for (number, count) in run.refused {
+                *all.refused.entry(number).or_default() += count;
+            }
+        }
+        all
+    }
+
     /// How often a refusal was met.
     pub fn refusals(&self, number: u32) -> usize {
         self.refused.get(&number).copied().unwrap_or(0)
     }
 }
 
-/// One name through the name call and, where it has no stop, the label call,
-/// by `engine` and by `reference`; an accepted answer once more.
+/// One name through the name call and the label call, by the engine and by the
+/// reference; an accepted answer once more.
 fn one(desk: &mut Desk, reference: &mut Option<Desk>, name: &[u32], counts: &mut Counts) {
     let result = desk.name(name);
-    let kinds = match &result {
-        Ok(first) => desk.again(name, first),
-        Err(_) => Vec::new(),
-    };
     let label = desk.label(name);
     if let Some(reference) = reference {
         assert_eq!(result, reference.name(name), "the name call and {name:X?}");
@@ -63,30 +81,43 @@ fn one(desk: &mut Desk, reference: &mut Option<Desk>, name: &[u32], counts: &mut
             _ => panic!("the calls disagree on {name:X?}: {result:?}, {label:?}"),
         }
     }
+    let kinds = match (&result, &label) {
+        (Err(_), _) => Vec::new(),
+        (Ok(first), Ok(label)) => {
+            desk.keeps(name, first, &[label.kind]);
+            vec![label.kind]
+        }
+        (Ok(first), Err(_)) => desk.again(name, first),
+    };
     counts.add(name, &result, &kinds);
 }
 
-/// Every codepoint of these as a name and as a label. Numbers that are no
-/// scalar values have to be refused as 4, and 2E as no label.
+/// Every codepoint that is asked for, as a name and as a label. Numbers that
+/// are no scalar values have to be refused as 4, and 2E as no label.
 pub fn codepoints(
-    engine: &dyn Engine,
-    reference: Option<&dyn Engine>,
+    engine: Shared,
+    reference: Option<Shared>,
     table: &[u32],
-    of: impl Iterator<Item = u32>,
+    asked: impl Fn(u32) -> bool + Sync,
 ) -> Counts {
-    let mut desk = Desk::new(engine, table);
-    let mut reference = reference.map(|r| Desk::new(r, table));
-    let mut counts = Counts::default();
-    for c in of {
-        one(&mut desk, &mut reference, &[c], &mut counts);
-        if !plain::is_scalar(c) {
-            assert_eq!(desk.name(&[c]), Err((4, 0)));
-        } else if c == plain::STOP {
-            assert_eq!(desk.name(&[c]), Err((6, 0)));
-            assert_eq!(desk.label(&[c]), Err((5, 0)));
+    const PART: u32 = 0x1000;
+    let part = |shard: usize| {
+        let mut desk = Desk::new(engine, table);
+        let mut reference = reference.map(|r| Desk::new(r, table));
+        let mut counts = Counts::default();
+        let first = PART * shard as u32;
+        for c in (first..first + PART).filter(|&c| asked(c)) {
+            one(&mut desk, &mut reference, &[c], &mut counts);
+            if !plain::is_scalar(c) {
+                assert_eq!(desk.name(&[c]), Err((4, 0)));
+            } else if c == plain::STOP {
+                assert_eq!(desk.name(&[c]), Err((6, 0)));
+                assert_eq!(desk.label(&[c]), Err((5, 0)));
+            }
         }
-    }
-    counts
+        counts
+    };
+    Counts::merged(on_all_processors((0x11_0000 / PART) as usize, part))
 }
 
 /// What random names are made of.
@@ -152,7 +183,7 @@ impl Vocabulary {
         let among = if rng.percent(60) { 8.min(self.groups.len()) } else { self.groups.len() };
         let group = rng.below(among);
         let style = rng.below(100);
-        let length = if rng.percent(1) { rng.between(900, 1100) } else { rng.between(1, 10) };
+        let length = if rng.below(500) == 0 { rng.between(900, 1100) } else { rng.between(1, 10) };
         if rng.percent(6) {
             out.extend(std::iter::repeat_n(0x5F, rng.between(1, 3)));
         }
@@ -215,22 +246,21 @@ impl Vocabulary {
     }
 }
 
-/// Random names of real characters.
-pub fn random_names(
-    engine: &dyn Engine,
-    reference: Option<&dyn Engine>,
-    made: &Made,
-    seed: u64,
-    count: usize,
-) -> Counts {
+/// Random names of real characters: `count` of them, a multiple of PART.
+pub fn random_names(engine: Shared, reference: Option<Shared>, made: &Made, seed: u64, count: usize) -> Counts {
+    const PART: usize = 200;
+    assert_eq!(count % PART, 0);
     let vocabulary = Vocabulary::new(made);
-    let mut desk = Desk::new(engine, &made.words);
-    let mut reference = reference.map(|r| Desk::new(r, &made.words));
-    let mut rng = Rng::new(seed);
-    let mut counts = Counts::default();
-    for _ in 0..count {
-        let name = vocabulary.name(&mut rng);
-        one(&mut desk, &mut reference, &name, &mut counts);
-    }
-    counts
+    let part = |shard: usize| {
+        let mut desk = Desk::new(engine, &made.words);
+        let mut reference = reference.map(|r| Desk::new(r, &made.words));
+        let mut rng = Rng::new(seed << 32 | shard as u64);
+        let mut counts = Counts::default();
+        for _ in 0..PART {
+            let name = vocabulary.name(&mut rng);
+            one(&mut desk, &mut reference, &name, &mut counts);
+        }
+        counts
+    };
+    Counts::merged(on_all_processors(count / PART, part))
 }

@@ -129,12 +129,17 @@ impl<'a> Desk<'a> {
     }
 
     /// An accepted name's answer, handed in again, is the same, with as many
-    /// labels of the same kinds. Answers the kinds.
-    pub fn again(&mut self, name: &[u32], first: &Name) -> Vec<Kind> {
-        let kinds = self.kinds(name, &first.answer);
+    /// labels, of these kinds.
+    pub fn keeps(&mut self, name: &[u32], first: &Name, kinds: &[Kind]) {
         assert_eq!(kinds.len(), first.labels as usize, "labels of {name:X?}");
         assert_eq!(self.name(&first.answer).as_ref(), Ok(first), "again: {name:X?}");
         assert_eq!(self.kinds(&first.answer, &first.answer), kinds, "kinds again: {name:X?}");
+    }
+
+    /// The same with the kinds of the name's own labels, which are answered.
+    pub fn again(&mut self, name: &[u32], first: &Name) -> Vec<Kind> {
+        let kinds = self.kinds(name, &first.answer);
+        self.keeps(name, first, &kinds);
         kinds
     }
 }

@@ -2,6 +2,7 @@
 //! Without `error` the normal form is `norm`, or the name itself.
 
 use crate::desk::Desk;
+use compare::Engine;
 use maker::json;
 
 /// What a run of the validation tests showed.
@@ -48,4 +49,17 @@ pub fn run(desk: &mut Desk, text: &str) -> Result<Outcome, String> {
         }
     }
     Ok(out)
+}
+
+/// Runs the published file on the full-size table, where data/published has
+/// it; panics where a test fails.
+pub fn run_published(engine: &dyn Engine, table: &[u32]) {
+    let Ok(text) = std::fs::read_to_string(crate::data().join("published/tests.json")) else {
+        println!("data/published/tests.json is not there: the published validation tests were not run");
+        return;
+    };
+    let outcome = run(&mut Desk::new(engine, table), &text).expect("tests.json");
+    println!("{} of the published validation tests pass, {} fail", outcome.passed, outcome.failed.len());
+    assert!(outcome.passed > 0);
+    assert!(outcome.failed.is_empty(), "{}", outcome.failed.join("\n"));
 }

@@ -1,13 +1,12 @@
 //! The counter cases and the examples of ENSIP-15, by the plain version.
 
-use standin::{cases, full, names, Desk, Prepared};
+use standin::{cases, full, names, Desk};
 
 #[test]
 fn counter_cases_on_the_full_table() {
     let made = full();
     cases::run(&compare::Plain, &made.words, &made.spec, &cases::counter());
-    let table = plain::parse(&made.words).expect("layout");
-    cases::run(&Prepared::new(&made.words, &table), &made.words, &made.spec, &cases::counter());
+    made.prepared(|engine| cases::run(engine, &made.words, &made.spec, &cases::counter()));
 }
 
 #[test]

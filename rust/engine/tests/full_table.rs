@@ -1,0 +1,40 @@
+//! The proved calls on the full-size table: every codepoint and random names of
+//! real characters, each answer held against the plain version and each accepted
+//! one handed in again; and the published validation tests.
+
+mod proved;
+
+use proved::Proved;
+use standin::bulk::{codepoints, random_names};
+
+#[test]
+fn every_codepoint() {
+    let made = standin::full();
+    let counts = made.prepared(|plain| codepoints(&Proved, Some(plain), &made.words, |_| true));
+    println!("{} accepted, {:?} refused", counts.accepted, counts.refused);
+    assert_eq!(counts.accepted + counts.refused.values().sum::<usize>(), 0x11_0000);
+    assert_eq!(counts.refusals(4), 2_048);
+    assert!(counts.accepted > 130_000 && counts.changed > 4_000 && counts.emoji > 1_000);
+    assert!(counts.refusals(5) > 900_000 && counts.refusals(11) > 100 && counts.refusals(14) > 100);
+    // Ignored ones and the stop leave no token.
+    assert_eq!(counts.refusals(6), made.spec.ignored.len() + 1);
+}
+
+#[test]
+fn random_names_of_real_characters() {
+    let made = standin::full();
+    let counts = made.prepared(|plain| random_names(&Proved, Some(plain), &made, 15, 100_000));
+    println!("{} accepted, {} changed, {:?} refused", counts.accepted, counts.changed, counts.refused);
+    println!("labels: {} emoji, {} ASCII, {:?}", counts.emoji, counts.ascii, counts.groups);
+    assert_eq!(counts.accepted + counts.refused.values().sum::<usize>(), 100_000);
+    assert!(counts.accepted > 40_000 && counts.changed > 20_000);
+    for number in 5..=14 {
+        assert!(counts.refusals(number) >= 50, "refusal {number}: {counts:?}");
+    }
+    assert!(counts.emoji > 1_000 && counts.ascii > 1_000 && counts.groups.len() > 120);
+}
+
+#[test]
+fn published_validation_tests() {
+    standin::validation::run_published(&Proved, &standin::full().words);
+}
