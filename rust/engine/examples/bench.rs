@@ -1,6 +1,10 @@
-//! Times the proved calls beside the plain version, in one run:
-//! `cargo run --release --offline -p engine --example bench`. Not a test.
+//! Times the proved calls beside the plain version, in one run, and measures
+//! the stack that they use. Not a test.
+//! `cargo run --release --offline -p engine --example bench`
 
+use engine::normal_forms::{nfc, nfd};
+use gen::worst;
+use std::hint::black_box;
 use std::time::Instant;
 
 const ROOM: usize = 1_024;
@@ -22,6 +26,15 @@ const NAMES: [&str; 12] = [
     "xn--abc.eth",
 ];
 
+fn codepoints(text: &str) -> Vec<u32> {
+    text.chars().map(u32::from).collect()
+}
+
+/// 61 and then `count` of these, in turn.
+fn after_a(of: impl Iterator<Item = u32> + Clone, count: usize) -> Vec<u32> {
+    std::iter::once(0x61).chain(of.cycle().take(count)).collect()
+}
+
 fn seconds(times: u32, mut job: impl FnMut()) -> f64 {
     let start = Instant::now();
     for _ in 0..times {
@@ -30,48 +43,138 @@ fn seconds(times: u32, mut job: impl FnMut()) -> f64 {
     start.elapsed().as_secs_f64() / f64::from(times)
 }
 
+/// The name call over these names, `times` times.
 fn compare(what: &str, names: &[Vec<u32>], table: &[u32], times: u32) {
-    let mut answer = vec![0; ROOM];
-    let mut work = vec![0; WORK];
+    let (mut answer, mut work) = (vec![0; ROOM], vec![0; WORK]);
     let per = names.len() as f64;
     let proved = seconds(times, || {
         for n in names {
-            std::hint::black_box(engine::name(n, table, &mut answer, &mut work));
+            black_box(engine::name(n, table, &mut answer, &mut work));
         }
     }) / per;
     let plain = seconds(times, || {
         for n in names {
-            std::hint::black_box(plain::name(n, table, &mut answer, &mut work));
+            black_box(plain::name(n, table, &mut answer, &mut work));
         }
     }) / per;
     println!(
-        "{what}: proved {:.1} us, plain {:.1} us a name, ratio {:.2}; {:.0} names a second",
+        "{what}: proved {:.1} us a name, {:.1} names a second; plain {:.1} us, {:.1} a second; ratio {:.2}",
         proved * 1e6,
+        1.0 / proved,
         plain * 1e6,
-        proved / plain,
-        1.0 / proved
+        1.0 / plain,
+        proved / plain
     );
+}
+
+fn times(full: &[u32], small: &[u32], names: &[Vec<u32>], worst: &[(&str, Vec<u32>)]) {
+    compare("twelve real-looking names, full-size table", names, full, 20);
+    compare("twelve real-looking names, names.tab", names, small, 100);
+    for (what, name) in worst {
+        compare(&format!("{what}, full-size table"), std::slice::from_ref(name), full, 3);
+    }
+    for (what, table) in [("full-size table", full), ("names.tab", small)] {
+        let proved = seconds(3, || {
+            black_box(engine::soundness(table));
+        });
+        let plain = seconds(3, || {
+            black_box(plain::soundness(table));
+        });
+        println!("soundness, {what}: proved {:.1} ms, plain {:.1} ms, ratio {:.0}", proved * 1e3, plain * 1e3, proved / plain);
+    }
+}
+
+/// What fills the stack before a call, and how many words of it there are.
+const PAINT: u64 = 0x5041_494E_5441_4C4C;
+const PAINTED: usize = 1 << 17;
+
+/// The bytes of stack that a job uses. It runs on an area of ours that is full
+/// of paint, and the lowest word that is no longer paint is as far as it came.
+/// So this is exact to a word for what is written; words that a call only sets
+/// aside below that one are not seen. The frames of the job itself and of the
+/// Rust wrapper are counted, some hundred bytes: those of an empty job are
+/// printed too.
+fn stack<F: FnMut()>(mut job: F) -> usize {
+    extern "C" fn run<F: FnMut()>(job: *mut F) {
+        // SAFETY: it is the job below, which nothing else uses meanwhile.
+        unsafe { (*job)() }
+    }
+    let call: extern "C" fn(*mut F) = run::<F>;
+    let mut area = vec![PAINT; PAINTED];
+    let top = area.as_mut_ptr_range().end as usize & !15;
+    // SAFETY: the area is ours and far larger than what a call uses, which is
+    // seen below; its end is aligned as a stack has to be before a call; `run`
+    // does not unwind; and the old stack is back before anything else uses it.
+    unsafe {
+        std::arch::asm!(
+            "mov r12, rsp",
+            "mov rsp, {top}",
+            "call {call}",
+            "mov rsp, r12",
+            top = in(reg) top,
+            call = in(reg) call,
+            in("rdi") &mut job,
+            out("r12") _,
+            clobber_abi("C"),
+        );
+    }
+    let deepest = area.iter().position(|&word| word != PAINT).expect("a call uses its stack");
+    assert!(deepest > PAINTED / 2, "the area is too small");
+    top - (area.as_ptr() as usize + 8 * deepest)
+}
+
+/// The stack of a call that is lent a text, a table and both buffers: the most
+/// on any of these texts.
+fn lent<R>(what: &str, call: fn(&[u32], &[u32], &mut [u32], &mut [u32]) -> R, of: &[(&[u32], &[u32])]) {
+    let (mut answer, mut work) = (vec![0; 8 * WORK], vec![0; 8 * WORK]);
+    let most = of.iter().map(|(text, table)| {
+        stack(|| {
+            black_box(call(text, table, &mut answer, &mut work));
+        })
+    });
+    println!("stack, {what}: {} bytes", most.max().expect("a text"));
+}
+
+fn stacks(full: &[u32], names: &[Vec<u32>], worst: &[(&str, Vec<u32>)]) {
+    let deep = worst::deep_text(vec![(worst::DEEP_TEXT, worst::DEEP_TEXT + 8)], 230).to_words();
+    let wide = worst::wide_whole().to_words();
+    let confused = worst::confused(16);
+    let mut texts: Vec<(&[u32], &[u32])> = names.iter().map(|n| (&n[..], full)).collect();
+    texts.extend(worst.iter().map(|(_, n)| (&n[..], full)));
+    // Those that reach 13 and 14.
+    texts.push((&[0x625, 0x610, 0x611, 0x612, 0x613, 0x614], full));
+    texts.push((&[0x30, 0x445], full));
+    texts.push((&[worst::DEEP_TEXT; 4], &deep));
+    texts.push((&confused, &wide));
+    println!("stack, an empty job: {} bytes", stack(|| ()));
+    lent("name", engine::name, &texts);
+    lent("label", engine::label, &texts);
+    lent("nfd", nfd, &texts);
+    lent("nfc", nfc, &texts);
+    let tables = [full, &deep, &wide];
+    let most = tables.map(|table| {
+        stack(|| {
+            black_box(engine::soundness(table));
+        })
+    });
+    println!("stack, soundness: {} bytes", most.into_iter().max().expect("a table"));
+    let (file, mut words) = (plain::pack(full), vec![0; full.len()]);
+    let unpack = stack(|| {
+        black_box(engine::unpack(&file, &mut words));
+    });
+    println!("stack, unpack: {unpack} bytes");
 }
 
 fn main() {
     let full = standin::full().words;
     let small = standin::names().words;
-    let names: Vec<Vec<u32>> = NAMES.iter().map(|s| s.chars().map(u32::from).collect()).collect();
-    compare("real-looking names, full-size table", &names, &full, 20);
-    compare("real-looking names, names.tab", &names, &small, 100);
-    let ignored: Vec<u32> = std::iter::once(0x61).chain(std::iter::repeat(0x34F).take(4_095)).collect();
-    compare("61 and 4,095 ignored, full-size table", &[ignored], &full, 1);
-    let marks: Vec<u32> = std::iter::once(0x61).chain((0..1_023).map(|i| 0x300 + i % 16)).collect();
-    compare("61 and 1,023 marks, full-size table", &[marks], &full, 1);
-    let emoji: Vec<u32> = [0x1F468, 0x200D, 0x2764, 0xFE0F, 0x200D, 0x1F468].repeat(170);
-    compare("170 long emoji, full-size table", &[emoji], &full, 1);
-    for (what, table) in [("full-size table", &full), ("names.tab", &small)] {
-        let proved = seconds(3, || {
-            std::hint::black_box(engine::soundness(table));
-        });
-        let plain = seconds(3, || {
-            std::hint::black_box(plain::soundness(table));
-        });
-        println!("soundness, {what}: proved {:.0} ms, plain {:.0} ms", proved * 1e3, plain * 1e3);
-    }
+    let names = NAMES.map(codepoints);
+    let family = [0x1F468, 0x200D, 0x2764, 0xFE0F, 0x200D, 0x1F468];
+    let worst = [
+        ("4,096 codepoints: 61 and 4,095 ignored", after_a(std::iter::once(0x34F), 4_095)),
+        ("1,024 codepoints: 61 and 1,023 marks", after_a(0x300..0x310, 1_023)),
+        ("1,020 codepoints: 170 long emoji", family.repeat(170)),
+    ];
+    times(&full, &small, &names, &worst);
+    stacks(&full, &names, &worst);
 }

@@ -40,6 +40,47 @@ pub const SOUNDNESS: [Hard; 21] = [
     Hard { name: "thousands that come from syllables alone", table: from_syllables, answer: 6 },
 ];
 
+/// For refusal 13: each of nine codepoints decomposes to four of the next, so
+/// that the text of four times the first that 13 looks at has 262,144
+/// codepoints, all of this class.
+pub fn deep_text(nsm: Vec<(u32, u32)>, class: u32) -> TableBuilder {
+    let at = |k: u32| DEEP_TEXT + k;
+    TableBuilder {
+        valid: vec![(at(0), at(8))],
+        nsm,
+        decompositions: (0..8).map(|k| (at(k), vec![at(k + 1); 4])).collect(),
+        classes: vec![(at(8), at(8), class)],
+        groups: vec![(0, vec![(at(0), at(8))])],
+        ..TableBuilder::default()
+    }
+}
+
+/// The first of its codepoints.
+pub const DEEP_TEXT: u32 = 0xE000;
+
+/// An NSM section that fills the table, with none of those codepoints.
+pub fn long_nsm() -> Vec<(u32, u32)> {
+    singles(FIRST, 65_000, 1)
+}
+
+/// For refusal 14: a whole of 60,000 confused members, and a group of 30,000
+/// pairs, of which none looks like another, so that every confused character is
+/// asked against all.
+pub fn wide_whole() -> TableBuilder {
+    let members = 60_000;
+    TableBuilder {
+        valid: vec![(FIRST, FIRST + members)],
+        groups: vec![(0, vec![(FIRST, FIRST + 1_023)]), (0, singles(FIRST + 2_000, 30_000, 2))],
+        wholes: vec![(vec![], (FIRST..FIRST + members).collect())],
+        ..TableBuilder::default()
+    }
+}
+
+/// Its first `count` confused characters.
+pub fn confused(count: u32) -> Vec<u32> {
+    (FIRST..FIRST + count).collect()
+}
+
 /// How many records of so many words fit beside `other` words, the counts of
 /// the sections and of the exclusions.
 fn fit(words: usize, other: usize) -> u32 {
