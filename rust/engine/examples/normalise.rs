@@ -5,7 +5,7 @@ use std::process::ExitCode;
 
 fn main() -> ExitCode {
     let name: Result<Vec<u32>, _> = std::env::args().skip(1).map(|a| u32::from_str_radix(&a, 16)).collect();
-    let Ok(name) = name else {
+    let Some(name) = name.ok().filter(|n| !n.is_empty()) else {
         eprintln!("usage: normalise HEX HEX ..");
         return ExitCode::from(2);
     };
