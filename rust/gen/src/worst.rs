@@ -7,6 +7,9 @@ use plain::TableBuilder;
 /// The first codepoint used; all from here to 10FFFF are scalar values.
 const FIRST: u32 = 0x20000;
 
+/// Hangul syllables.
+const SYLLABLES: (u32, u32) = (0xAC00, 0xD7A3);
+
 /// A table for the soundness check, and what the check has to answer: 0 to 7,
 /// or 8 for sound.
 pub struct Hard {
@@ -16,7 +19,7 @@ pub struct Hard {
 }
 
 /// Every table for the soundness check.
-pub const SOUNDNESS: [Hard; 21] = [
+pub const SOUNDNESS: [Hard; 23] = [
     Hard { name: "wide ranges", table: wide_ranges, answer: 1 },
     Hard { name: "wide classes", table: wide_classes, answer: 1 },
     Hard { name: "many ignored pairs", table: many_ignored, answer: 8 },
@@ -33,11 +36,13 @@ pub const SOUNDNESS: [Hard; 21] = [
     Hard { name: "composition pairs and classes", table: pairs_and_classes, answer: 8 },
     Hard { name: "heads that all grow", table: growing_heads, answer: 6 },
     Hard { name: "heads that become 256", table: deep_heads, answer: 8 },
+    Hard { name: "heads that become 256, and a long valid section", table: deep_heads_long_valid, answer: 8 },
     Hard { name: "items that no group holds", table: many_items, answer: 8 },
     Hard { name: "chains of four rounds", table: long_chains, answer: 8 },
     Hard { name: "many ways up", table: many_ways_up, answer: 8 },
     Hard { name: "jamo of syllables beside deep heads", table: jamo_of_syllables, answer: 8 },
     Hard { name: "thousands that come from syllables alone", table: from_syllables, answer: 6 },
+    Hard { name: "the same, and a long group", table: from_syllables_long_group, answer: 6 },
 ];
 
 /// For refusal 13: each of nine codepoints decomposes to four of the next, so
@@ -245,6 +250,14 @@ pub fn deep_heads() -> TableBuilder {
     beside_deep(fit(6, 24), vec![], vec![], vec![])
 }
 
+/// Sound: half as many, and the valid ones behind a pair that is repeated.
+pub fn deep_heads_long_valid() -> TableBuilder {
+    let count = fit(12, 30);
+    let mut table = beside_deep(count, vec![], vec![], vec![]);
+    table.valid.splice(0..0, vec![(FIRST, FIRST); 3 * count as usize]);
+    table
+}
+
 /// Sound: decompositions to four codepoints each that are valid and of no
 /// group, so that for each of them its head has to be found.
 pub fn many_items() -> TableBuilder {
@@ -280,7 +293,7 @@ pub fn many_ways_up() -> TableBuilder {
     let top = (0..fit(6, 100)).map(|i| (FIRST + i, layer(0).collect()));
     let between = (0..2).flat_map(|k| layer(k).map(move |h| (h, layer(k + 1).collect())));
     let last = layer(2).zip(0..).map(|(h, i)| (h, vowels(i).collect()));
-    let group = vec![(0x1100, 0x1112), (0x1171, 0x1175), (0x11A8, 0x11C2), (0xAC00, 0xD7A3)];
+    let group = vec![(0x1100, 0x1112), (0x1171, 0x1175), (0x11A8, 0x11C2), SYLLABLES];
     TableBuilder {
         valid: [&group[..], &[(0x1161, 0x1170)]].concat(),
         decompositions: top.chain(between).chain(last).collect(),
@@ -293,25 +306,44 @@ pub fn many_ways_up() -> TableBuilder {
 /// beside thousands of deep heads of a group.
 pub fn jamo_of_syllables() -> TableBuilder {
     let jamo = vec![(0x1100, 0x1112), (0x1161, 0x1175), (0x11A8, 0x11C2)];
-    beside_deep(fit(6, 40), vec![], vec![(0xAC00, 0xD7A3)], jamo)
+    beside_deep(fit(6, 40), vec![], vec![SYLLABLES], jamo)
 }
 
-/// Every jamo becomes 64 codepoints of its own in three rounds, and a group
-/// holds the syllables: 4,288 codepoints that come from syllables alone, beside
-/// thousands of deep heads of that group. Rule 6 forbids the jamo's records, but
-/// is tried behind rule 2.
-pub fn from_syllables() -> TableBuilder {
+/// Records by which every jamo becomes 64 codepoints of its own in three
+/// rounds, and the first and the last of these 4,288.
+fn spelled_jamo() -> (Vec<(u32, Vec<u32>)>, (u32, u32)) {
     const JAMO: u32 = 67;
     let jamo = (0x1100..=0x1112).chain(0x1161..=0x1175).chain(0x11A8..=0x11C2);
     let at = |round: u32, i: u32| 0xF0000 + 0x2000 * round + i;
     let four = |round: u32, i: u32| (4 * i..4 * i + 4).map(move |k| at(round, k)).collect::<Vec<u32>>();
-    let mut others: Vec<(u32, Vec<u32>)> = jamo.zip(0..).map(|(c, i)| (c, four(1, i))).collect();
+    let mut records: Vec<(u32, Vec<u32>)> = jamo.zip(0..).map(|(c, i)| (c, four(1, i))).collect();
     for (round, heads) in [(1, 4 * JAMO), (2, 16 * JAMO)] {
-        others.extend((0..heads).map(|i| (at(round, i), four(round + 1, i))));
+        records.extend((0..heads).map(|i| (at(round, i), four(round + 1, i))));
     }
-    let last = vec![(at(3, 0), at(3, 64 * JAMO - 1))];
-    let deep = fit(6, 6 * others.len() + 40);
-    beside_deep(deep, others, vec![(0xAC00, 0xD7A3)], last)
+    (records, (at(3, 0), at(3, 64 * JAMO - 1)))
+}
+
+/// 4,288 valid codepoints that come from syllables alone, beside thousands of
+/// deep heads; a group holds these and the syllables. Rule 6 forbids the jamo's
+/// records, but is tried behind rule 2.
+pub fn from_syllables() -> TableBuilder {
+    let (records, last) = spelled_jamo();
+    let deep = fit(6, 6 * records.len() + 40);
+    beside_deep(deep, records, vec![SYLLABLES], vec![last])
+}
+
+/// The same codepoints; the group has the syllables behind a pair that is
+/// repeated.
+pub fn from_syllables_long_group() -> TableBuilder {
+    let (records, last) = spelled_jamo();
+    let one = (FIRST, FIRST);
+    let pairs = fit(2, 6 * records.len() + 20) as usize;
+    TableBuilder {
+        valid: vec![one, SYLLABLES, last],
+        decompositions: records,
+        groups: vec![(0, [vec![one; pairs], vec![SYLLABLES]].concat())],
+        ..TableBuilder::default()
+    }
 }
 
 #[cfg(test)]
