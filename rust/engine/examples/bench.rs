@@ -151,7 +151,8 @@ fn stacks(full: &[u32], names: &[Vec<u32>], worst: &[(&str, Vec<u32>)]) {
     lent("label", engine::label, &texts);
     lent("nfd", nfd, &texts);
     lent("nfc", nfc, &texts);
-    let tables = [full, &deep, &wide];
+    let chain = worst::chains(1).to_words();
+    let tables = [full, &deep, &wide, &chain];
     let most = tables.map(|table| {
         stack(|| {
             black_box(engine::soundness(table));

@@ -271,10 +271,14 @@ pub fn many_items() -> TableBuilder {
     }
 }
 
+/// As many chains as fit.
+pub fn long_chains() -> TableBuilder {
+    chains(fit(12, 10))
+}
+
 /// Sound: chains of one-item decompositions, four long; the last of each chain
 /// is valid and of no group.
-pub fn long_chains() -> TableBuilder {
-    let chains = fit(12, 10);
+pub fn chains(chains: u32) -> TableBuilder {
     let at = |round: u32, i: u32| FIRST + round * chains + i;
     let of_round = |round: u32| (0..chains).map(move |i| (at(round, i), vec![at(round + 1, i)]));
     TableBuilder {
