@@ -26,7 +26,8 @@ fn main() -> ExitCode {
     println!("ok {}", form.join(" "));
     for label in answer[..r.length].split(|&c| c == 0x2E).filter(|l| !l.is_empty()) {
         let mut part = [0; 1_024];
-        println!("   {:?}", engine::label(label, table, &mut part, &mut work).kind);
+        let kind = engine::label(label, table, &mut part, &mut work).kind.expect("a label of an answer is accepted");
+        println!("   {kind:?}");
     }
     ExitCode::SUCCESS
 }

@@ -6,6 +6,11 @@
 pub mod normal_forms;
 mod raw;
 
+/// The Rust program of docs/USING.md, run by the tests.
+#[cfg(doctest)]
+#[doc = include_str!("../../../docs/USING.md")]
+struct Guide;
+
 /// What unpacking answers. `number` is 0, or 20, 21 or 22 for a refusal;
 /// beside a refusal `count` is 0.
 #[repr(C)]

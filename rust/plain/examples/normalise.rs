@@ -1,0 +1,33 @@
+//! Normalises a name given as hexadecimal codepoints, with data/names.tab, by
+//! the plain version: `cargo run --release --offline -p plain --example normalise -- 5F 24 41`.
+
+use std::process::ExitCode;
+
+fn main() -> ExitCode {
+    let name: Result<Vec<u32>, _> = std::env::args().skip(1).map(|a| u32::from_str_radix(&a, 16)).collect();
+    let Some(name) = name.ok().filter(|n| !n.is_empty()) else {
+        eprintln!("usage: normalise HEX HEX ..");
+        return ExitCode::from(2);
+    };
+    let path = concat!(env!("CARGO_MANIFEST_DIR"), "/../../data/names.tab");
+    let file = std::fs::read(path).expect("data/names.tab");
+    let mut words = vec![0; file.len() / 4];
+    let plain::Unpacked::Count(count) = plain::unpack(&file, &mut words) else {
+        panic!("data/names.tab unpacks");
+    };
+    let table = plain::parse(&words[..count]).expect("data/names.tab has no layout fault");
+    match plain::judge_name(&table, &name) {
+        Err(refusal) => {
+            println!("no {} {}", refusal.number, refusal.place);
+            ExitCode::FAILURE
+        }
+        Ok(labels) => {
+            let form: Vec<String> = plain::calls::join_labels(&labels).iter().map(|c| format!("{c:X}")).collect();
+            println!("ok {}", form.join(" "));
+            for label in &labels {
+                println!("   {:?}", label.kind);
+            }
+            ExitCode::SUCCESS
+        }
+    }
+}
