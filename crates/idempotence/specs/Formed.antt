@@ -19,7 +19,7 @@ use Rattle.tokens.specs.Emoji.{strip, Taken, takes, Found, find}
 use Rattle.tokens.specs.Finding.{find-best}
 use Rattle.tokens.specs.Scan as scan
 use Rattle.tokens.specs.Scan.{Step, codepointStep, stepAt, stepsFrom, steps}
-use Rattle.tokens.specs.Tokens.{Token, emoji, text, before, tokensOf, normalToken, normal, spelled, joinedText}
+use Rattle.tokens.specs.Tokens.{Token, emoji, text, before, tokensOf, normalToken, normal, joinedTokens, joinedText}
 use Rattle.text_laws.specs.Composing.{nfc-every}
 use Rattle.text_laws.specs.Laws.{nfc-empty, pair-is-not-ascii}
 use Rattle.idempotence.specs.Rules.{Sound, Valid, valid-text-rounds, items-valid}
@@ -189,11 +189,11 @@ before-text (c ∷ s) (emoji e ∷ ts) h k = refl
 before-text (c ∷ s) (text r ∷ ts) h k = absurd (false≢true (sym k))
 
 -- tokens of valid text, put together in order, are a rendering of themselves
-pub spelled-rendering : (t : Table) (ts : List Token) → Formed t (Valid t) ts → RenderedAs t ts (spelled ts)
-unfolding spelled tokensIn writtenAll
-spelled-rendering t [] h = record { pieces = []; proper = tt; tokens = refl; spelling = refl }
-spelled-rendering t (emoji e ∷ ts) h =
-    let r = spelled-rendering t ts (h .1) in
+pub joinedTokens-rendering : (t : Table) (ts : List Token) → Formed t (Valid t) ts → RenderedAs t ts (joinedTokens ts)
+unfolding joinedTokens tokensIn writtenAll
+joinedTokens-rendering t [] h = record { pieces = []; proper = tt; tokens = refl; spelling = refl }
+joinedTokens-rendering t (emoji e ∷ ts) h =
+    let r = joinedTokens-rendering t ts (h .1) in
     let q = h .0 in
     record {
       pieces = rendering.emoji (q .sequence) (strip (q .sequence)) ∷ r .pieces;
@@ -201,8 +201,8 @@ spelled-rendering t (emoji e ∷ ts) h =
       tokens = rw (r .tokens, q .stripped) refl;
       spelling = rw (r .spelling, q .stripped) refl;
     }
-spelled-rendering t (text s ∷ ts) h =
-    let r = spelled-rendering t ts (h .3) in
+joinedTokens-rendering t (text s ∷ ts) h =
+    let r = joinedTokens-rendering t ts (h .3) in
     record {
       pieces = map self s ++ r .pieces;
       proper = every-append (Proper t) (map self s) (r .pieces) (chars-proper t s (h .2)) (r .proper);

@@ -15,7 +15,7 @@ use Rattle.answers.specs.Verdict.{accepted}
 use Rattle.table.specs.Table.{Table}
 use Rattle.text.specs.Scalar.{isScalar}
 use Rattle.tokens.specs.Scan.{steps}
-use Rattle.tokens.specs.Tokens.{Token, emoji, text, tokensOf, workedToken, worked, normalToken, normal, spelled}
+use Rattle.tokens.specs.Tokens.{Token, emoji, text, tokensOf, workedToken, worked, normalToken, normal, joinedTokens}
 use Rattle.name.specs.Label.{Label, stop, answer, labelVerdict}
 use Rattle.name.specs.Name.{labelsVerdict}
 use Rattle.text_laws.specs.Laws.{nfc-twice, rounds-of-nfc}
@@ -24,7 +24,7 @@ use Rattle.joining.specs.Labels.{cons-accepts, accepts-cons}
 use Rattle.idempotence.specs.Rules.{Sound, Valid, valid-scalar, emoji-scalar, stop-not-valid}
 use Rattle.idempotence.specs.Sequences.{strip-some, strip-every, no-stop, no-selector-first}
 use Rattle.idempotence.specs.Rendering.{ScansTo, rescan}
-use Rattle.idempotence.specs.Formed.{IsSequence, Formed, RenderedAs, formed-text, formed-as, label-formed, normal-formed, spelled-rendering}
+use Rattle.idempotence.specs.Formed.{IsSequence, Formed, RenderedAs, formed-text, formed-as, label-formed, normal-formed, joinedTokens-rendering}
 use Rattle.idempotence.specs.ValidText.{judged-valid}
 use Rattle.idempotence.specs.Lengths.{accepted-tokens}
 
@@ -104,22 +104,22 @@ module _ (t : Table) (sound : Sound t) where
   -- the answers are renderings
   pub answers-rendered : (xs : List Label) → Every (λ x. Formed t (Valid t) (x .tokens)) xs → EachRendered t xs (map answer xs)
   answers-rendered [] h = tt
-  answers-rendered (x ∷ xs) h = (spelled-rendering t (x .tokens) (h .0), answers-rendered xs (h .1))
+  answers-rendered (x ∷ xs) h = (joinedTokens-rendering t (x .tokens) (h .0), answers-rendered xs (h .1))
 
   -- The codepoints of an answer
 
   -- what holds of valid codepoints and of those of the sequences holds of the answer
-  formed-every : (P : ℕ → Type 0) → ((c : ℕ) → Valid t c → P c) → ((seq : List ℕ) → List·Memᴰ seq (t .emoji) → Every P seq) → (ts : List Token) → Formed t (Valid t) ts → Every P (spelled ts)
-  unfolding spelled
+  formed-every : (P : ℕ → Type 0) → ((c : ℕ) → Valid t c → P c) → ((seq : List ℕ) → List·Memᴰ seq (t .emoji) → Every P seq) → (ts : List Token) → Formed t (Valid t) ts → Every P (joinedTokens ts)
+  unfolding joinedTokens
   formed-every P v q [] h = tt
   formed-every P v q (emoji e ∷ ts) h =
-      every-append P e (spelled ts) (rw (h .0 .stripped) (strip-every P (h .0 .sequence) (q (h .0 .sequence) (h .0 .listed)))) (formed-every P v q ts (h .1))
-  formed-every P v q (text s ∷ ts) h = every-append P s (spelled ts) (every-imp s v (h .2)) (formed-every P v q ts (h .3))
+      every-append P e (joinedTokens ts) (rw (h .0 .stripped) (strip-every P (h .0 .sequence) (q (h .0 .sequence) (h .0 .listed)))) (formed-every P v q ts (h .1))
+  formed-every P v q (text s ∷ ts) h = every-append P s (joinedTokens ts) (every-imp s v (h .2)) (formed-every P v q ts (h .3))
 
-  pub answer-scalars : (ts : List Token) → Formed t (Valid t) ts → Every (λ c. isScalar c ≡ true) (spelled ts)
+  pub answer-scalars : (ts : List Token) → Formed t (Valid t) ts → Every (λ c. isScalar c ≡ true) (joinedTokens ts)
   answer-scalars ts h = formed-every (λ c. isScalar c ≡ true) (valid-scalar t sound) (emoji-scalar t sound) ts h
 
-  pub answer-no-stop : (ts : List Token) → Formed t (Valid t) ts → Every (λ c. eqb c stop ≡ false) (spelled ts)
+  pub answer-no-stop : (ts : List Token) → Formed t (Valid t) ts → Every (λ c. eqb c stop ≡ false) (joinedTokens ts)
   answer-no-stop ts h = formed-every (λ c. eqb c stop ≡ false) valid seq ts h
     where
       valid : (c : ℕ) → Valid t c → eqb c stop ≡ false
@@ -131,8 +131,8 @@ module _ (t : Table) (sound : Sound t) where
   sequence-some : (e : List ℕ) → IsSequence t e → 1 ≤ length e
   sequence-some e q = rw (q .stripped) (strip-some (q .sequence) (no-selector-first t sound (q .sequence) (q .listed)) (q .some-item))
 
-  pub answer-some : (ts : List Token) → Formed t (Valid t) ts → isEmpty ts ≡ false → 1 ≤ length (spelled ts)
-  unfolding spelled
+  pub answer-some : (ts : List Token) → Formed t (Valid t) ts → isEmpty ts ≡ false → 1 ≤ length (joinedTokens ts)
+  unfolding joinedTokens
   answer-some [] h k = absurd (false≢true (sym k))
   answer-some (emoji e ∷ ts) h k = simp length-append (omega (arith, sequence-some e (h .0)))
   answer-some (text [] ∷ ts) h k = absurd (false≢true (sym (h .0)))

@@ -9,7 +9,7 @@ use Rattle.lists.specs.Laws.{Every}
 use Rattle.answers.specs.Verdict.{accepted}
 use Rattle.table.specs.Table.{Table}
 use Rattle.tokens.specs.Scan.{steps}
-use Rattle.tokens.specs.Tokens.{Token, emoji, text, tokensOf, workedToken, worked, normalToken, normal, spelled}
+use Rattle.tokens.specs.Tokens.{Token, emoji, text, tokensOf, workedToken, worked, normalToken, normal, joinedTokens}
 use Rattle.name.specs.Label.{Label, mostWorked, answer, labelVerdict}
 use Rattle.name.specs.Name.{labelsOf, labelsVerdict, workedLength, nameAnswer, nameVerdict}
 use Rattle.joining.specs.Places.{label-accepts, label-fits}
@@ -27,11 +27,11 @@ every-label t P f s d p (l ∷ ls) xs e =
     (f s d p l (c .first) (c .first-accepted), every-label t P f (s + length l + 1) (d + c .first .worked + 1) (suc p) ls (c .rest) (c .rest-accepted))
 
 -- the tokens put together are no longer than their worked length
-pub spelled-length : (t : Table) (ts : List Token) → length (spelled (normal t ts)) ≤ worked t ts
-unfolding spelled normal normalToken worked workedToken
-spelled-length t [] = omega arith
-spelled-length t (emoji e ∷ ts) = simp length-append (omega (arith, spelled-length t ts))
-spelled-length t (text s ∷ ts) = simp length-append (omega (arith, nfc-length t s, spelled-length t ts))
+pub joinedTokens-length : (t : Table) (ts : List Token) → length (joinedTokens (normal t ts)) ≤ worked t ts
+unfolding joinedTokens normal normalToken worked workedToken
+joinedTokens-length t [] = omega arith
+joinedTokens-length t (emoji e ∷ ts) = simp length-append (omega (arith, joinedTokens-length t ts))
+joinedTokens-length t (text s ∷ ts) = simp length-append (omega (arith, nfc-length t s, joinedTokens-length t ts))
 
 -- what an accepted label is: the normalised tokens of the label and their worked length
 pub accepted-tokens : (t : Table) (s d p : ℕ) (l : List ℕ) (x : Label) → labelVerdict t s d p l ≡ accepted x → x .tokens ≡ normal t (tokensOf (steps t l))
@@ -43,7 +43,7 @@ accepted-worked t s d p l x e = ap (λ (y : Label). y .worked) (label-accepts t 
 -- the answer of an accepted label is no longer than its worked length
 pub label-answer-length : (t : Table) (s d p : ℕ) (l : List ℕ) (x : Label) → labelVerdict t s d p l ≡ accepted x → length (answer x) ≤ x .worked
 label-answer-length t s d p l x e =
-    rw (accepted-tokens t s d p l x e, accepted-worked t s d p l x e) (spelled-length t (tokensOf (steps t l)))
+    rw (accepted-tokens t s d p l x e, accepted-worked t s d p l x e) (joinedTokens-length t (tokensOf (steps t l)))
 
 joined-length : (xs : List Label) → Every (λ x. length (answer x) ≤ x .worked) xs → length (nameAnswer xs) ≤ workedLength xs
 unfolding nameAnswer workedLength joinWith

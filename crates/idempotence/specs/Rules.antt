@@ -167,10 +167,10 @@ every-spellable t s = all-every (λ c. inRanges c (t .valid)) (spellable t) (rul
 pub group-valid : (t : Table) → Sound t → (g : Group) → List·Memᴰ g (t .groups) → (c : ℕ) → holds g c ≡ true → Valid t c
 unfolding spellable groupCharacters
 group-valid t s g m c h =
-    every-member (Valid t) (spellable t) (every-spellable t s) (spelled-by (listed-member (g .ranges) c h))
+    every-member (Valid t) (spellable t) (every-spellable t s) (joinedTokens-by (listed-member (g .ranges) c h))
   where
-    spelled-by : List·Memᴰ c (listed (g .ranges)) → List·Memᴰ c (spellable t)
-    spelled-by k = Memᴰ·append-left (fourRounds t (groupCharacters t)) (joined-member (λ (q : Group). listed (q .ranges)) (t .groups) m k)
+    joinedTokens-by : List·Memᴰ c (listed (g .ranges)) → List·Memᴰ c (spellable t)
+    joinedTokens-by k = Memᴰ·append-left (fourRounds t (groupCharacters t)) (joined-member (λ (q : Group). listed (q .ranges)) (t .groups) m k)
 
 -- what holds of the full decomposition of a text holds of that of each codepoint
 rounds-part : (P : ℕ → Type 0) (t : Table) (s : List ℕ) (c : ℕ) → List·Memᴰ c s → Every P (fourRounds t s) → Every P (fourRounds t (c ∷ []))
@@ -183,11 +183,11 @@ rounds-part P t (x ∷ s) c m h =
 pub valid-rounds : (t : Table) → Sound t → (c : ℕ) → Valid t c → Every (Valid t) (fourRounds t (c ∷ []))
 unfolding spellable
 valid-rounds t s c h =
-    let spelled = every-member (λ x. mem x (spellable t) ≡ true) (listed (t .valid)) (all-every (λ x. mem x (spellable t)) (listed (t .valid)) (rule2-parts t (s .rule-2) .spells)) (listed-member (t .valid) c h) in
+    let joinedTokens = every-member (λ x. mem x (spellable t) ≡ true) (listed (t .valid)) (all-every (λ x. mem x (spellable t)) (listed (t .valid)) (rule2-parts t (s .rule-2) .spells)) (listed-member (t .valid) c h) in
     let parts = every-back (Valid t) (groupCharacters t) (fourRounds t (groupCharacters t)) (every-spellable t s) in
     ⊎-elim (λ m. rounds-part (Valid t) t (groupCharacters t) c m parts)
     (λ m. let still : Stable t c = every-member (Stable t) (fourRounds t (groupCharacters t)) (rounds-are-stable t (s .shaped) (s .rule-6) (groupCharacters t)) m in rw (fully-one t c still) (h, tt))
-    (List·Memᴰ·append-cases (groupCharacters t) (member-of c (spellable t) spelled))
+    (List·Memᴰ·append-cases (groupCharacters t) (member-of c (spellable t) joinedTokens))
 
 -- so is that of a valid text
 pub valid-text-rounds : (t : Table) → Sound t → (r : List ℕ) → Every (Valid t) r → Every (Valid t) (fourRounds t r)

@@ -13,7 +13,7 @@ use Rattle.answers.specs.declared.Kind.{Kind}
 use Rattle.answers.specs.declared.Kind.the-variants.{Emoji}
 use Rattle.table.specs.Table.{Table}
 use Rattle.table.specs.Lookup.{holds}
-use Rattle.tokens.specs.Tokens.{Token, emoji, text, spelled, joinedText}
+use Rattle.tokens.specs.Tokens.{Token, emoji, text, joinedTokens, joinedText}
 use Rattle.label.specs.Spelling.{lowLine, fenced, leadingMark}
 use Rattle.label.specs.Groups.{Numbered, groupOf}
 use Rattle.label.specs.Judge.{onlyEmoji, onlyAscii, unless, judgeAscii, judgeInGroup, judgeText, judgeMixed, judge}
@@ -61,9 +61,9 @@ module _ (t : Table) (sound : Sound t) (place : ℕ) (k : Kind) where
   mixed-valid ts e =
       let last : Verdict Kind = judgeText t place (joinedText ts) in
       let marked : Verdict Kind = unless (leadingMark t ts) 11 place last in
-      let beside : Verdict Kind = unless (fenced t (spelled ts)) 10 place marked in
-      let e₁ : beside ≡ accepted k = unless-accepts (lowLine (spelled ts)) 8 place beside k e in
-      let e₂ : marked ≡ accepted k = unless-accepts (fenced t (spelled ts)) 10 place marked k e₁ in
+      let beside : Verdict Kind = unless (fenced t (joinedTokens ts)) 10 place marked in
+      let e₁ : beside ≡ accepted k = unless-accepts (lowLine (joinedTokens ts)) 8 place beside k e in
+      let e₂ : marked ≡ accepted k = unless-accepts (fenced t (joinedTokens ts)) 10 place marked k e₁ in
       text-valid (joinedText ts) (unless-accepts (leadingMark t ts) 11 place last k e₂)
 
   -- the text of tokens that are judged well is valid, if its ASCII is
@@ -71,7 +71,7 @@ module _ (t : Table) (sound : Sound t) (place : ℕ) (k : Kind) where
   unfolding judge
   judged-valid ts e h = go (onlyEmoji ts) refl (onlyAscii ts) refl e
     where
-      go : (a : Bool) → onlyEmoji ts ≡ a → (b : Bool) → onlyAscii ts ≡ b → cond a (accepted Emoji) (cond b (judgeAscii place (spelled ts)) (judgeMixed t place ts)) ≡ accepted k → Every (Valid t) (joinedText ts)
+      go : (a : Bool) → onlyEmoji ts ≡ a → (b : Bool) → onlyAscii ts ≡ b → cond a (accepted Emoji) (cond b (judgeAscii place (joinedTokens ts)) (judgeMixed t place ts)) ≡ accepted k → Every (Valid t) (joinedText ts)
       go true p b q f = only-emoji-text (Valid t) ts p
       go false p true q f = every-apply (λ c. c < 0x80) (Valid t) (joinedText ts) h (only-ascii-text ts q)
       go false p false q f = mixed-valid ts f

@@ -13,7 +13,7 @@ use Rattle.answers.specs.Verdict.{Verdict, accepted, refused, next}
 use Rattle.answers.specs.declared.Kind.{Kind}
 use Rattle.table.specs.Table.{Table}
 use Rattle.tokens.specs.Scan.{Step, emoji, text, ignored, disallowed, steps, firstDisallowed}
-use Rattle.tokens.specs.Tokens.{Token, tokensOf, worked, normal, spelled, joinedText}
+use Rattle.tokens.specs.Tokens.{Token, tokensOf, worked, normal, joinedTokens, joinedText}
 use Rattle.answers.specs.declared.Kind.the-variants.{Emoji, Ascii, Group}
 use Rattle.label.specs.Spelling.{lowLine, hyphens, fenced, leadingMark}
 use Rattle.label.specs.Marks.{nsmFits}
@@ -65,9 +65,9 @@ module _ (k : Kind) where
   mixed-moves t p q ts =
       let last : ℕ → Verdict Kind = λ x. judgeText t x (joinedText ts) in
       let marked : ℕ → Verdict Kind = λ x. unless (leadingMark t ts) 11 x (last x) in
-      let beside : ℕ → Verdict Kind = λ x. unless (fenced t (spelled ts)) 10 x (marked x) in
-      unless-moves (lowLine (spelled ts)) 8 p q (beside p) (beside q)
-      (unless-moves (fenced t (spelled ts)) 10 p q (marked p) (marked q)
+      let beside : ℕ → Verdict Kind = λ x. unless (fenced t (joinedTokens ts)) 10 x (marked x) in
+      unless-moves (lowLine (joinedTokens ts)) 8 p q (beside p) (beside q)
+      (unless-moves (fenced t (joinedTokens ts)) 10 p q (marked p) (marked q)
       (unless-moves (leadingMark t ts) 11 p q (last p) (last q) (text-moves t p q (joinedText ts))))
 
   ascii-moves : (p q : ℕ) (s : List ℕ) → judgeAscii p s ≡ accepted k → judgeAscii q s ≡ accepted k
@@ -81,9 +81,9 @@ module _ (k : Kind) where
   unfolding judge
   judge-moves t p q ts = go (onlyEmoji ts) (onlyAscii ts)
     where
-      go : (a b : Bool) → cond a (accepted Emoji) (cond b (judgeAscii p (spelled ts)) (judgeMixed t p ts)) ≡ accepted k → cond a (accepted Emoji) (cond b (judgeAscii q (spelled ts)) (judgeMixed t q ts)) ≡ accepted k
+      go : (a b : Bool) → cond a (accepted Emoji) (cond b (judgeAscii p (joinedTokens ts)) (judgeMixed t p ts)) ≡ accepted k → cond a (accepted Emoji) (cond b (judgeAscii q (joinedTokens ts)) (judgeMixed t q ts)) ≡ accepted k
       go true b e = e
-      go false true e = ascii-moves p q (spelled ts) e
+      go false true e = ascii-moves p q (joinedTokens ts) e
       go false false e = mixed-moves t p q ts e
 
 -- a refusal is no acceptance

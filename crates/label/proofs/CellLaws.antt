@@ -11,7 +11,7 @@ use lib.Dec.{eqb}
 use borrow.Author.Tests.{eq-eqb, ne-eqb}
 use Rattle.table.specs.Table.{Table}
 use Rattle.table.proofs.Lookups.{drop-next}
-use Rattle.tokens.specs.Tokens.{Token, emoji, text, codepoints, textPart, spelled, joinedText}
+use Rattle.tokens.specs.Tokens.{Token, emoji, text, codepoints, textPart, joinedTokens, joinedText}
 use Rattle.tokens.specs.Cells.{mostWorked, markToken, marksOf}
 use Rattle.label.specs.Spelling.{isMark, startsWithMark, leadingMark}
 use Rattle.label.specs.CellText.{leadingAt, textAt, codesIn, marksIn, TextAlone}
@@ -82,16 +82,16 @@ token-text (text []) = refl
 token-text (text (c ∷ s)) = ap (λ (r : List ℕ). c ∷ r) (text-all s)
 
 -- tokens
-pub leading-tokens : (t : Table) (ts : List Token) → leadingAt t (spelled ts) (marksOf ts) ≡ leadingMark t ts
-unfolding leadingAt spelled marksOf leadingMark
+pub leading-tokens : (t : Table) (ts : List Token) → leadingAt t (joinedTokens ts) (marksOf ts) ≡ leadingMark t ts
+unfolding leadingAt joinedTokens marksOf leadingMark
 leading-tokens t [] = refl
 leading-tokens t (x ∷ ts) =
-    leading-append t (codepoints x) (markToken x) (spelled ts) (marksOf ts) (mark-length x) ∙ rw (token-leading t x, leading-tokens t ts)
+    leading-append t (codepoints x) (markToken x) (joinedTokens ts) (marksOf ts) (mark-length x) ∙ rw (token-leading t x, leading-tokens t ts)
 
-pub text-tokens : (ts : List Token) → textAt (spelled ts) (marksOf ts) ≡ joinedText ts
-unfolding textAt spelled marksOf joinedText
+pub text-tokens : (ts : List Token) → textAt (joinedTokens ts) (marksOf ts) ≡ joinedText ts
+unfolding textAt joinedTokens marksOf joinedText
 text-tokens [] = refl
-text-tokens (x ∷ ts) = text-append (codepoints x) (markToken x) (spelled ts) (marksOf ts) (mark-length x) ∙ rw (token-text x, text-tokens ts)
+text-tokens (x ∷ ts) = text-append (codepoints x) (markToken x) (joinedTokens ts) (marksOf ts) (mark-length x) ∙ rw (token-text x, text-tokens ts)
 
 -- the elements of a part from its start on
 part-next : (s : List ℕ) (n i : ℕ) → i < n → n ≤ length s → drop i (take n s) ≡ getD s i 0 ∷ drop (i + 1) (take n s)

@@ -11,7 +11,7 @@ use Rattle.answers.specs.Verdict.{Verdict, accepted, refused}
 use Rattle.answers.specs.declared.Kind.{Kind}
 use Rattle.answers.specs.declared.Kind.the-variants.{Emoji, Ascii, Group}
 use Rattle.table.specs.Table.{Table}
-use Rattle.tokens.specs.Tokens.{Token, emoji, text, isEmoji, spelled}
+use Rattle.tokens.specs.Tokens.{Token, emoji, text, isEmoji, joinedTokens}
 use Rattle.tokens.specs.Cells.{marksOf, Cells}
 use Rattle.label.specs.declared.GroupFound.the-variants.{At, Nothing}
 use Rattle.label.specs.Spelling.{lowLine, hyphens, fenced}
@@ -139,29 +139,29 @@ only-emoji (emoji s ∷ ts) = only-emoji ts
 only-emoji (text s ∷ ts) = refl
 
 -- where there is text: ASCII's test, by whether there are emoji
-only-ascii : (ts : List Token) → Parted ts → anyText ts ≡ true → onlyAscii ts ≡ (not (any isEmoji ts) && allAscii (spelled ts))
-unfolding spelled
+only-ascii : (ts : List Token) → Parted ts → anyText ts ≡ true → onlyAscii ts ≡ (not (any isEmoji ts) && allAscii (joinedTokens ts))
+unfolding joinedTokens
 only-ascii [] p e = absurd (false≢true e)
 only-ascii (emoji s ∷ ts) p e = refl
 only-ascii (text s ∷ []) p e = rw (append-nil s)
 only-ascii (text s ∷ u ∷ us) p e = go (any isEmoji (u ∷ us)) refl
   where
-    go : (b : Bool) → any isEmoji (u ∷ us) ≡ b → false ≡ (not b && allAscii (spelled (text s ∷ u ∷ us)))
+    go : (b : Bool) → any isEmoji (u ∷ us) ≡ b → false ≡ (not b && allAscii (joinedTokens (text s ∷ u ∷ us)))
     go true f = refl
     go false f = absurd (let k : suc (suc (length us)) ≤ 1 = p f in omega arith)
 
 -- the verdict on the codepoints and marks of tokens is the verdict on the tokens
 pub judge-tokens : (t : Table) (place : ℕ) (ts : List Token) → Parted ts
-    → judgeAt t place (spelled ts) (marksOf ts) (any isEmoji ts) (anyText ts) ≡ judge t place ts
+    → judgeAt t place (joinedTokens ts) (marksOf ts) (any isEmoji ts) (anyText ts) ≡ judge t place ts
 unfolding judgeAt judge judgeMixed mixedAt
 judge-tokens t place ts p = go (anyText ts) refl
   where
-    mixed : mixedAt t place (spelled ts) (marksOf ts) ≡ judgeMixed t place ts
+    mixed : mixedAt t place (joinedTokens ts) (marksOf ts) ≡ judgeMixed t place ts
     mixed = rw (leading-tokens t ts, text-tokens ts)
 
     go : (b : Bool) → anyText ts ≡ b
-        → cond (not b) (accepted Emoji) (cond (not (any isEmoji ts) && allAscii (spelled ts)) (judgeAscii place (spelled ts)) (mixedAt t place (spelled ts) (marksOf ts)))
-        ≡ cond (onlyEmoji ts) (accepted Emoji) (cond (onlyAscii ts) (judgeAscii place (spelled ts)) (judgeMixed t place ts))
+        → cond (not b) (accepted Emoji) (cond (not (any isEmoji ts) && allAscii (joinedTokens ts)) (judgeAscii place (joinedTokens ts)) (mixedAt t place (joinedTokens ts) (marksOf ts)))
+        ≡ cond (onlyEmoji ts) (accepted Emoji) (cond (onlyAscii ts) (judgeAscii place (joinedTokens ts)) (judgeMixed t place ts))
     go true e = rw (only-emoji ts, e, only-ascii ts p e, mixed)
     go false e = rw (only-emoji ts, e)
 

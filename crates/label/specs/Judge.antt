@@ -9,7 +9,7 @@ use Rattle.answers.specs.Verdict.{Verdict, accepted, refused}
 use Rattle.answers.specs.declared.Kind.{Kind}
 use Rattle.answers.specs.declared.Kind.the-variants.{Emoji, Ascii, Group}
 use Rattle.table.specs.Table.{Table}
-use Rattle.tokens.specs.Tokens.{Token, emoji, text, isEmoji, spelled, joinedText}
+use Rattle.tokens.specs.Tokens.{Token, emoji, text, isEmoji, joinedTokens, joinedText}
 use Rattle.label.specs.Spelling.{lowLine, hyphens, fenced, leadingMark}
 use Rattle.label.specs.Groups.{Numbered, groupOf}
 use Rattle.label.specs.Marks.{nsmFits}
@@ -56,13 +56,13 @@ judgeText t place s = onSome (groupOf (t .groups) s) (judgeInGroup t place s) (r
 
 -- "Otherwise 8 and 10 over the joined tokens, 11 for each text token"
 unfoldable pub judgeMixed : Table → ℕ → List Token → Verdict Kind
-unfolding lowLine fenced leadingMark judgeText spelled joinedText
+unfolding lowLine fenced leadingMark judgeText joinedTokens joinedText
 judgeMixed t place ts =
-    unless (lowLine (spelled ts)) 8 place
-    (unless (fenced t (spelled ts)) 10 place (unless (leadingMark t ts) 11 place (judgeText t place (joinedText ts))))
+    unless (lowLine (joinedTokens ts)) 8 place
+    (unless (fenced t (joinedTokens ts)) 10 place (unless (leadingMark t ts) 11 place (judgeText t place (joinedText ts))))
 
 -- "Only emoji tokens: kind emoji." "A single token, which is text, all below 80 hex" is ASCII's; "otherwise" the rest.
 unfoldable pub judge : Table → ℕ → List Token → Verdict Kind
-unfolding judgeAscii judgeMixed spelled
+unfolding judgeAscii judgeMixed joinedTokens
 judge t place ts =
-    cond (onlyEmoji ts) (accepted Emoji) (cond (onlyAscii ts) (judgeAscii place (spelled ts)) (judgeMixed t place ts))
+    cond (onlyEmoji ts) (accepted Emoji) (cond (onlyAscii ts) (judgeAscii place (joinedTokens ts)) (judgeMixed t place ts))

@@ -13,7 +13,7 @@ use Rattle.table.specs.Table.{Table}
 use Rattle.table.specs.Layout.{parse}
 use Rattle.text.specs.Scalar.{isScalar}
 use Rattle.tokens.specs.Scan.{steps, firstDisallowed}
-use Rattle.tokens.specs.Tokens.{Token, tokensOf, worked, normal, spelled}
+use Rattle.tokens.specs.Tokens.{Token, tokensOf, worked, normal, joinedTokens}
 use Rattle.label.specs.Judge.{judge}
 
 -- the full stop, at which names are split
@@ -40,7 +40,7 @@ pub record Label : Type 0 where
 
 -- "a label's answer is its tokens put together in order"
 abbrev pub answer : Label → List ℕ
-answer l = spelled (l .tokens)
+answer l = joinedTokens (l .tokens)
 
 -- 6 to 14 on the tokens, in order. `done` is the worked length of the labels before this one, with the stops behind them, and
 -- `place` the label's number.
@@ -94,7 +94,7 @@ abbrev pub filled : ℕ → List ℕ → List ℕ
 filled room s = s ++ replicate (room - length s) 0
 
 unfoldable pub labelResult : ℕ → ℕ → Verdict Label → LabelResult
-unfolding spelled
+unfolding joinedTokens
 labelResult room work (accepted l) =
     record {
       values = record { number = 0; place = 0; length = length (answer l); kind = some (l .kind) };
@@ -106,7 +106,7 @@ labelResult room work (refused n p) =
 
 -- the verdict of the label call: 1 to 4, then 5 to 14 of the one label, then 15
 unfoldable pub labelCallVerdict : List ℕ → List ℕ → ℕ → ℕ → Verdict Label
-unfolding admitted oneLabel spelled
+unfolding admitted oneLabel joinedTokens
 labelCallVerdict words input room work =
     next (admitted words work input) (λ t. next (oneLabel t input) (λ l. fitting room (length (answer l)) l))
 

@@ -6,7 +6,7 @@ use Rattle.lists.specs.Lists.{split, joinWith}
 use Rattle.answers.specs.Verdict.{Verdict, accepted, refused, next}
 use Rattle.answers.specs.Values.{NameValues}
 use Rattle.table.specs.Table.{Table}
-use Rattle.tokens.specs.Tokens.{spelled}
+use Rattle.tokens.specs.Tokens.{joinedTokens}
 use Rattle.name.specs.Label.{Label, stop, leastWork, answer, admitted, labelVerdict, fitting, filled}
 
 -- "Split at 2E. The empty name has no labels."
@@ -32,7 +32,7 @@ workedLength (l ∷ m ∷ ms) = l .worked + 1 + workedLength (m ∷ ms)
 
 -- "Its answer is its labels' answers in order, joined by 2E"
 unfoldable pub nameAnswer : List Label → List ℕ
-unfolding spelled joinWith
+unfolding joinedTokens joinWith
 nameAnswer ls = joinWith stop (map answer ls)
 
 -- the verdict of the name call, which has every refusal: 1 to 4, then 5 to 14 for each label, then 15

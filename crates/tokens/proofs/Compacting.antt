@@ -10,7 +10,7 @@ use lib.Seq.{take-take, take-append-seam, drop-append-seam, drop-drop, drop-cons
 use lib.Dec.{eqb}
 use Rattle.table.specs.Table.{Table}
 use Rattle.table.proofs.Lookups.{drop-take}
-use Rattle.tokens.specs.Tokens.{Token, emoji, text, spelled, normal, normalToken}
+use Rattle.tokens.specs.Tokens.{Token, emoji, text, joinedTokens, normal, normalToken}
 use Rattle.tokens.specs.Cells.{mostWorked, markToken, marksOf, decomposed, decomposedToken, Cells}
 use Rattle.tokens.specs.Laying.{runMarks, PutAt}
 use Rattle.tokens.specs.Normal.{composedText, TextKept, EmojiKept, twos, NormalCells}
@@ -38,13 +38,13 @@ marks-length (suc n) = ap suc (length-replicate n 2)
 record FirstEmoji (t : Table) (left : List Token) : Type 0 where
   code : ℕ
   rest : List Token
-  words : spelled left ≡ code ∷ spelled rest
+  words : joinedTokens left ≡ code ∷ joinedTokens rest
   marks : marksOf left ≡ 0 ∷ marksOf rest
-  words-then : spelled (map (composedToken t) left) ≡ code ∷ spelled (map (composedToken t) rest)
+  words-then : joinedTokens (map (composedToken t) left) ≡ code ∷ joinedTokens (map (composedToken t) rest)
   marks-then : marksOf (map (composedToken t) left) ≡ 0 ∷ marksOf (map (composedToken t) rest)
 
 emoji-first : (t : Table) (left : List Token) (m : ℕ) (ms : List ℕ) → marksOf left ≡ m ∷ ms → m ≡ 0 → FirstEmoji t left
-unfolding spelled marksOf composedText
+unfolding joinedTokens marksOf composedText
 emoji-first t [] m ms e z = absurd (let q : _≡_ {A = ℕ} 0 1 = cc in omega arith)
 emoji-first t (emoji [] ∷ left) m ms e z =
     let r = emoji-first t left m ms e z in
@@ -63,13 +63,13 @@ record FirstText (t : Table) (left : List Token) : Type 0 where
   code : ℕ
   later : List ℕ
   rest : List Token
-  words : spelled left ≡ code ∷ later ++ spelled rest
+  words : joinedTokens left ≡ code ∷ later ++ joinedTokens rest
   marks : marksOf left ≡ 1 ∷ replicate (length later) 2 ++ marksOf rest
-  words-then : spelled (map (composedToken t) left) ≡ composedText t (code ∷ later) ++ spelled (map (composedToken t) rest)
+  words-then : joinedTokens (map (composedToken t) left) ≡ composedText t (code ∷ later) ++ joinedTokens (map (composedToken t) rest)
   marks-then : marksOf (map (composedToken t) left) ≡ runMarks 1 2 (length (composedText t (code ∷ later))) ++ marksOf (map (composedToken t) rest)
 
 text-first : (t : Table) (left : List Token) (m : ℕ) (ms : List ℕ) → marksOf left ≡ m ∷ ms → (m ≡ 0 → ⊥) → FirstText t left
-unfolding spelled marksOf composedText
+unfolding joinedTokens marksOf composedText
 text-first t [] m ms e z = absurd (let q : _≡_ {A = ℕ} 0 1 = cc in omega arith)
 text-first t (emoji [] ∷ left) m ms e z =
     let r = text-first t left m ms e z in
@@ -90,16 +90,16 @@ text-first t (text (c ∷ s) ∷ left) m ms e z =
     }
 
 -- where no cell is left, none is left in normal form
-no-words : (t : Table) (left : List Token) → spelled left ≡ [] → spelled (map (composedToken t) left) ≡ []
-unfolding spelled composedText
+no-words : (t : Table) (left : List Token) → joinedTokens left ≡ [] → joinedTokens (map (composedToken t) left) ≡ []
+unfolding joinedTokens composedText
 no-words t [] e = refl
 no-words t (emoji [] ∷ left) e = no-words t left e
 no-words t (emoji (c ∷ s) ∷ left) e = absurd (let q : _≡_ {A = ℕ} 0 1 = cc in omega arith)
 no-words t (text [] ∷ left) e = no-words t left e
 no-words t (text (c ∷ s) ∷ left) e = absurd (let q : _≡_ {A = ℕ} 0 1 = cc in omega arith)
 
-no-marks : (t : Table) (left : List Token) → spelled left ≡ [] → marksOf (map (composedToken t) left) ≡ []
-unfolding spelled marksOf composedText
+no-marks : (t : Table) (left : List Token) → joinedTokens left ≡ [] → marksOf (map (composedToken t) left) ≡ []
+unfolding joinedTokens marksOf composedText
 no-marks t [] e = refl
 no-marks t (emoji [] ∷ left) e = no-marks t left e
 no-marks t (emoji (c ∷ s) ∷ left) e = absurd (let q : _≡_ {A = ℕ} 0 1 = cc in omega arith)
@@ -145,9 +145,9 @@ cells-kept y y′ r i n h e =
 -- the goal, tokens in normal form, is what stands in the first `at` cells and what becomes of the tokens that are left from i on
 pub record Left (t : Table) (goal : List Token) (w : List ℕ) (n at i : ℕ) : Type 0 where
   left : List Token
-  words : spelled goal ≡ take at w ++ spelled (map (composedToken t) left)
+  words : joinedTokens goal ≡ take at w ++ joinedTokens (map (composedToken t) left)
   marks : marksOf goal ≡ take at (drop mostWorked w) ++ marksOf (map (composedToken t) left)
-  rest : drop i (take n w) ≡ spelled left
+  rest : drop i (take n w) ≡ joinedTokens left
   beside : drop i (take n (drop mostWorked w)) ≡ marksOf left
 
 pub record Compacting (t : Table) (w₀ w : List ℕ) (n at i : ℕ) : Type 0 where
@@ -166,7 +166,7 @@ compact-start t w n =
           λ ts c.
           record {
             left = decomposed t ts;
-            words = ap spelled (normal-composed t ts);
+            words = ap joinedTokens (normal-composed t ts);
             marks = ap marksOf (normal-composed t ts);
             rest = c .words;
             beside = c .marks;
@@ -211,17 +211,17 @@ module _ (t : Table) (w₀ w : List ℕ) (n at i : ℕ) (big : 2048 ≤ length w
     left-emoji goal l =
         let c : ℕ = getD w i 0 in
         let f = emoji-first t (l .left) (getD w (1024 + i) 0) (drop (i + 1) (take n marks)) (sym (l .beside) ∙ mark-here) z in
-        let both : c ∷ drop (i + 1) (take n w) ≡ f .code ∷ spelled (f .rest) = sym word-here ∙ l .rest ∙ f .words in
+        let both : c ∷ drop (i + 1) (take n w) ≡ f .code ∷ joinedTokens (f .rest) = sym word-here ∙ l .rest ∙ f .words in
         let beside : getD w (1024 + i) 0 ∷ drop (i + 1) (take n marks) ≡ 0 ∷ marksOf (f .rest) = sym mark-here ∙ l .beside ∙ f .marks in
         let code : c ≡ f .code = head-eq-of-cons-eq both in
         let small : r ≤ i + 1 = omega (arith, end-emoji, p .low) in
-        let words-then : spelled goal ≡ take at w ++ (c ∷ [] ++ spelled (map (composedToken t) (f .rest))) =
+        let words-then : joinedTokens goal ≡ take at w ++ (c ∷ [] ++ joinedTokens (map (composedToken t) (f .rest))) =
         l .words ∙ ap (λ (x : List ℕ). take at w ++ x) (rw code (f .words-then)) in
         let marks-then : marksOf goal ≡ take at marks ++ (0 ∷ [] ++ marksOf (map (composedToken t) (f .rest))) =
         l .marks ∙ ap (λ (x : List ℕ). take at marks ++ x) (f .marks-then) in
         record {
           left = f .rest;
-          words = put-words w′ (c ∷ []) (0 ∷ []) r (k .put) (omega arith) (spelled goal) _ words-then;
+          words = put-words w′ (c ∷ []) (0 ∷ []) r (k .put) (omega arith) (joinedTokens goal) _ words-then;
           marks = put-marks w′ (c ∷ []) (0 ∷ []) r (k .put) (omega arith) (marksOf goal) _ marks-then;
           rest = words-kept w′ (c ∷ []) (0 ∷ []) r (i + 1) (k .put) small (omega arith) ∙ tail-eq-of-cons-eq both;
           beside = marks-kept w′ (c ∷ []) (0 ∷ []) r (i + 1) (k .put) small (omega arith) ∙ tail-eq-of-cons-eq beside;
@@ -254,29 +254,29 @@ module _ (t : Table) (w₀ w : List ℕ) (n at i : ℕ) (big : 2048 ≤ length w
           let f = text-first t (l .left) (getD w (1024 + i) 0) (drop (i + 1) (take n marks)) (sym (l .beside) ∙ mark-here) z in
           let d : List ℕ = f .code ∷ f .later in
           let m : ℕ = length (f .later) in
-          let cells : drop i (take n w) ≡ d ++ spelled (f .rest) = l .rest ∙ f .words in
+          let cells : drop i (take n w) ≡ d ++ joinedTokens (f .rest) = l .rest ∙ f .words in
           let ms : List ℕ = 1 ∷ replicate m 2 in
           let beside : drop i (take n marks) ≡ ms ++ marksOf (f .rest) = l .beside ∙ f .marks in
           let later : drop (i + 1) (take n marks) ≡ replicate m 2 ++ marksOf (f .rest) = tail-eq-of-cons-eq (sym mark-here ∙ beside) in
           let count : twos (drop (i + 1) (take n marks)) ≡ m = ap twos later ∙ twos-run m (marksOf (f .rest)) (no-twos (f .rest)) in
           let wide : e - i ≡ suc m = omega (arith, found) in
           let end : i + suc m ≡ e = omega (arith, found) in
-          let front : take (suc m) (drop i (take n w)) ≡ d = ap (take (suc m)) cells ∙ take-append-seam d (spelled (f .rest)) in
+          let front : take (suc m) (drop i (take n w)) ≡ d = ap (take (suc m)) cells ∙ take-append-seam d (joinedTokens (f .rest)) in
           let within : take (suc m) (drop i (take n w)) ≡ take (suc m) (drop i w) =
           ap (take (suc m)) (drop-take i n w) ∙ take-take (suc m) (n - i) (drop i w) (omega (arith, end-inside)) in
           let part : take (e - i) (drop i w) ≡ d = ap (λ (j : ℕ). take j (drop i w)) wide ∙ sym within ∙ front in
           let s : List ℕ = composedText t d in
           let put : PutAt w w′ at s (runMarks 1 2 (length s)) r = rw part at (k .put) in
           let small : r ≤ mostWorked = omega (arith, low, end-inside) in
-          let rest : drop e (take n w) ≡ spelled (f .rest) =
-          ap (λ (j : ℕ). drop j (take n w)) (sym end) ∙ sym (drop-drop (suc m) i (take n w)) ∙ ap (drop (suc m)) cells ∙ drop-append-seam d (spelled (f .rest)) in
+          let rest : drop e (take n w) ≡ joinedTokens (f .rest) =
+          ap (λ (j : ℕ). drop j (take n w)) (sym end) ∙ sym (drop-drop (suc m) i (take n w)) ∙ ap (drop (suc m)) cells ∙ drop-append-seam d (joinedTokens (f .rest)) in
           let ms-length : length ms ≡ suc m = ap suc (length-replicate m 2) in
           let behind : drop e (take n marks) ≡ marksOf (f .rest) =
           ap (λ (j : ℕ). drop j (take n marks)) (sym end) ∙ sym (drop-drop (suc m) i (take n marks)) ∙ ap (drop (suc m)) beside
           ∙ ap (λ (j : ℕ). drop j (ms ++ marksOf (f .rest))) (sym ms-length) ∙ drop-append-seam ms (marksOf (f .rest)) in
           record {
             left = f .rest;
-            words = put-words w′ s (runMarks 1 2 (length s)) r put small (spelled goal) _ (l .words ∙ ap (λ (x : List ℕ). take at w ++ x) (f .words-then));
+            words = put-words w′ s (runMarks 1 2 (length s)) r put small (joinedTokens goal) _ (l .words ∙ ap (λ (x : List ℕ). take at w ++ x) (f .words-then));
             marks = put-marks w′ s (runMarks 1 2 (length s)) r put small (marksOf goal) _ (l .marks ∙ ap (λ (x : List ℕ). take at marks ++ x) (f .marks-then));
             rest = words-kept w′ s (runMarks 1 2 (length s)) r e put low end-inside ∙ rest;
             beside = marks-kept w′ s (runMarks 1 2 (length s)) r e put low end-inside ∙ behind;
@@ -298,8 +298,8 @@ compact-stop t w₀ w n at i big few p h =
     done : (goal : List Token) → Left t goal w n at i → Cells goal w at
     done goal l =
         let short : length (take n w) ≤ i = simp length-take (omega arith) in
-        let none-left : spelled (l .left) ≡ [] = sym (l .rest) ∙ drop-of-length-le (take n w) short in
-        let words : spelled goal ≡ take at w = l .words ∙ rw (no-words t (l .left) none-left) (append-nil (take at w)) in
+        let none-left : joinedTokens (l .left) ≡ [] = sym (l .rest) ∙ drop-of-length-le (take n w) short in
+        let words : joinedTokens goal ≡ take at w = l .words ∙ rw (no-words t (l .left) none-left) (append-nil (take at w)) in
         let marks : marksOf goal ≡ take at (drop mostWorked w) = l .marks ∙ rw (no-marks t (l .left) none-left) (append-nil (take at (drop mostWorked w))) in
         let room : at ≤ length w = omega (arith, p .low, p .inside, p .same) in
         record {

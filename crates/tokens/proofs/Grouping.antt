@@ -10,35 +10,35 @@ use Rattle.text.specs.Decomposition.{fourRounds}
 use Rattle.tokens.specs.declared.cells.Run.{Run}
 use Rattle.tokens.specs.Scan as scan
 use Rattle.tokens.specs.Scan.{Step}
-use Rattle.tokens.specs.Tokens.{Token, emoji, text, isEmoji, before, tokensOf, worked, workedToken, spelled}
+use Rattle.tokens.specs.Tokens.{Token, emoji, text, isEmoji, before, tokensOf, worked, workedToken, joinedTokens}
 use Rattle.tokens.specs.Cells.{mostWorked, marksOf, decomposed, decomposedToken, Cells}
 use Rattle.tokens.specs.Laying.{runMarks, nextMark, stepText, stepMarks, stepMark, laid, marksFrom, stepEmoji, stepTexts, Laying}
 use Rattle.tokens.proofs.Laying.{four-join, marks-join}
 
 -- the worked length is the number of codepoints of the decomposed tokens
-pub worked-length : (t : Table) (ts : List Token) → worked t ts ≡ length (spelled (decomposed t ts))
-unfolding worked workedToken spelled decomposed decomposedToken
+pub worked-length : (t : Table) (ts : List Token) → worked t ts ≡ length (joinedTokens (decomposed t ts))
+unfolding worked workedToken joinedTokens decomposed decomposedToken
 worked-length t [] = refl
-worked-length t (emoji s ∷ ts) = rw (worked-length t ts) (sym (length-append s (spelled (decomposed t ts))))
-worked-length t (text s ∷ ts) = rw (worked-length t ts) (sym (length-append (fourRounds t s) (spelled (decomposed t ts))))
+worked-length t (emoji s ∷ ts) = rw (worked-length t ts) (sym (length-append s (joinedTokens (decomposed t ts))))
+worked-length t (text s ∷ ts) = rw (worked-length t ts) (sym (length-append (fourRounds t s) (joinedTokens (decomposed t ts))))
 
 module _ (t : Table) where
   -- text in front of the tokens
-  before-spelled : (s : List ℕ) (ts : List Token) → spelled (decomposed t (before s ts)) ≡ fourRounds t s ++ spelled (decomposed t ts)
-  unfolding spelled decomposed decomposedToken
-  before-spelled [] ts = refl
-  before-spelled (c ∷ s) [] = refl
-  before-spelled (c ∷ s) (text r ∷ ts) =
-      rw (four-join t (c ∷ s) r) (append-assoc (fourRounds t (c ∷ s)) (fourRounds t r) (spelled (decomposed t ts)))
-  before-spelled (c ∷ s) (emoji e ∷ ts) = refl
+  before-joined : (s : List ℕ) (ts : List Token) → joinedTokens (decomposed t (before s ts)) ≡ fourRounds t s ++ joinedTokens (decomposed t ts)
+  unfolding joinedTokens decomposed decomposedToken
+  before-joined [] ts = refl
+  before-joined (c ∷ s) [] = refl
+  before-joined (c ∷ s) (text r ∷ ts) =
+      rw (four-join t (c ∷ s) r) (append-assoc (fourRounds t (c ∷ s)) (fourRounds t r) (joinedTokens (decomposed t ts)))
+  before-joined (c ∷ s) (emoji e ∷ ts) = refl
 
-  pub tokens-spelled : (ss : List Step) → spelled (decomposed t (tokensOf ss)) ≡ laid t ss
-  unfolding laid stepText tokensOf spelled decomposed decomposedToken
-  tokens-spelled [] = refl
-  tokens-spelled (scan.emoji f ∷ ss) = ap (λ (r : List ℕ). f .stripped ++ r) (tokens-spelled ss)
-  tokens-spelled (scan.text s ∷ ss) = before-spelled s (tokensOf ss) ∙ ap (λ (r : List ℕ). fourRounds t s ++ r) (tokens-spelled ss)
-  tokens-spelled (scan.ignored ∷ ss) = tokens-spelled ss
-  tokens-spelled (scan.disallowed ∷ ss) = tokens-spelled ss
+  pub tokens-joined : (ss : List Step) → joinedTokens (decomposed t (tokensOf ss)) ≡ laid t ss
+  unfolding laid stepText tokensOf joinedTokens decomposed decomposedToken
+  tokens-joined [] = refl
+  tokens-joined (scan.emoji f ∷ ss) = ap (λ (r : List ℕ). f .stripped ++ r) (tokens-joined ss)
+  tokens-joined (scan.text s ∷ ss) = before-joined s (tokensOf ss) ∙ ap (λ (r : List ℕ). fourRounds t s ++ r) (tokens-joined ss)
+  tokens-joined (scan.ignored ∷ ss) = tokens-joined ss
+  tokens-joined (scan.disallowed ∷ ss) = tokens-joined ss
 
 -- the marks of tokens, where m is the mark of the first codepoint if it is text
 marksWith : ℕ → List Token → List ℕ
@@ -118,8 +118,8 @@ pub laying-cells : (t : Table) (ss : List Step) (run : Run) (w : List ℕ) → L
     → Cells (decomposed t (tokensOf ss)) w (run .worked)
 laying-cells t ss run w l h =
     record {
-      count = l .worked ∙ ap length (sym (tokens-spelled t ss));
+      count = l .worked ∙ ap length (sym (tokens-joined t ss));
       few = h;
-      words = l .words h ∙ sym (tokens-spelled t ss);
+      words = l .words h ∙ sym (tokens-joined t ss);
       marks = l .marks h ∙ sym (tokens-marks t ss);
     }

@@ -31,7 +31,7 @@ use Rattle.tokens.specs.Tokens.{tokensOf}
 use Rattle.tokens.specs.Laying.{mostFromOne, Laying, EmojiPut, TextPut, ItemsPut}
 use Rattle.tokens.specs.Scanning.{firstStep, Went, StepPut, Scans}
 use Rattle.tokens.proofs.Laying.{laying-start, laying-empty, laying-ignored}
-use Rattle.tokens.proofs.Grouping.{worked-length, tokens-spelled, tokens-emoji, tokens-text, laying-cells}
+use Rattle.tokens.proofs.Grouping.{worked-length, tokens-joined, tokens-emoji, tokens-text, laying-cells}
 
 -- text is not disallowed, and takes one codepoint
 text-allowed : (s : Step) (a : List ℕ) → text a ≡ s → s ≡ disallowed → ⊥
@@ -265,7 +265,7 @@ module _ (t : Table) (l w₀ : List ℕ) where
         is = (
           p .search ∙ rw none-left refl,
           record {
-            worked = lays .worked ∙ ap length (sym (tokens-spelled t s)) ∙ sym (worked-length t (tokensOf s));
+            worked = lays .worked ∙ ap length (sym (tokens-joined t s)) ∙ sym (worked-length t (tokensOf s));
             emoji = lays .emoji ∙ sym (tokens-emoji s);
             text = lays .text ∙ sym (tokens-text s);
             cells = laying-cells t s run w lays;

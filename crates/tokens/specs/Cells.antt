@@ -7,7 +7,7 @@ use lib.ListN.{length, take, drop, replicate}
 use Rattle.lists.specs.Lists.{joinedMap}
 use Rattle.table.specs.Table.{Table}
 use Rattle.text.specs.Decomposition.{fourRounds}
-use Rattle.tokens.specs.Tokens.{Token, emoji, text, spelled}
+use Rattle.tokens.specs.Tokens.{Token, emoji, text, joinedTokens}
 
 -- the most codepoints that the tokens of a label may have, decomposed: "worked length over 1,024"
 abbrev pub mostWorked : ℕ
@@ -34,7 +34,7 @@ decomposed t ts = map (decomposedToken t) ts
 
 -- the tokens stand in the work area, n codepoints in all
 pub record Cells (ts : List Token) (w : List ℕ) (n : ℕ) : Type 0 where
-  pub count : n ≡ length (spelled ts)
+  pub count : n ≡ length (joinedTokens ts)
   pub few : n ≤ mostWorked
-  pub words : take n w ≡ spelled ts
+  pub words : take n w ≡ joinedTokens ts
   pub marks : take n (drop mostWorked w) ≡ marksOf ts

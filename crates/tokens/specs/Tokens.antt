@@ -66,8 +66,8 @@ unfolding normalToken
 normal t ts = map (normalToken t) ts
 
 -- "a label's answer is its tokens put together in order"
-unfoldable pub spelled : List Token → List ℕ
-spelled ts = joinedMap codepoints ts
+unfoldable pub joinedTokens : List Token → List ℕ
+joinedTokens ts = joinedMap codepoints ts
 
 -- "the joined text alone"
 unfoldable pub joinedText : List Token → List ℕ
