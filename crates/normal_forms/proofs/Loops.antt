@@ -1,26 +1,17 @@
--- A codepoint that a round leaves as it is; and what the two loops keep: the rounds of the codepoints that are read are written, and the
--- classes of those. Assumes nothing.
+-- What the two loops keep: the rounds of the codepoints that are read are written, and the classes of those. Assumes nothing.
 use Prim.Native.Nat.{ℕ, _+_, _^_, _≤_, _<_}
 use native.Mathlib.Numerals.{add-one}
 use native.Mathlib.Omega.{arith}
-use mathlib.Core.Path.{_≡_, refl, sym, _∙_}
+use mathlib.Core.Path.{_≡_}
 use mathlib.Core.List.{List, [], _∷_, _++_, map, map-append, append-nil}
 use lib.ListN.{length, getD, take, set, drop-of-length-le}
 use lib.Seq.{take-suc, take-all}
 use Rattle.buffers.proofs.Front.{Front, front-more}
 use Rattle.table.specs.Table.{Table}
-use Rattle.text.specs.declared.decompose.Parts.{Parts}
-use Rattle.text.specs.Decomposition.{single, fourRounds}
-use Rattle.text.specs.Rounds.{mostFrom, rounds, PartsAre, Appended, Decomposed}
-use Rattle.text.proofs.Rounds.{Expanding, expand-more, expanded-same, expanded-four, one-part, rounds-four}
+use Rattle.text.specs.Decomposition.{fourRounds}
+use Rattle.text.specs.Rounds.{mostFrom, rounds, Appended, Decomposed}
+use Rattle.text.proofs.Rounds.{Expanding, expand-more, rounds-four}
 use Rattle.normal_forms.specs.Forms.{mostText}
-
--- a codepoint that is its own single replacement
-pub same-written : (t : Table) (c : ℕ) (out out′ : List ℕ) (at : ℕ) (parts : Parts) → PartsAre (single t c) parts → parts .count ≡ 1 → getD (parts .items) 0 0 ≡ c
-    → Appended out out′ at (c ∷ []) (at + 1) → Decomposed t c out out′ at (at + 1)
-same-written t c out out′ at parts p n e a =
-    let s : single t c ≡ c ∷ [] = sym (p .is) ∙ one-part (parts .count) (parts .items) c n (omega (arith, p .whole)) e in
-    expanded-four t c out out′ at (at + 1) (expanded-same t 4 c out out′ at (at + 1) s a)
 
 module _ (t : Table) (text out out′ : List ℕ) (i to : ℕ) (o : Expanding t 4 text out out′ 0 i to) where
   -- the next codepoint starts within the bound of `append_decomposed`

@@ -3,15 +3,16 @@ pub mod export;
 
 use table::Layout;
 use table::Sections;
+use text::decompose::append_decomposed;
 ghost use mathlib.Core.Path.{_≡_};
 ghost use mathlib.Core.List.{map};
-ghost use Prim.Native.Nat.{_≤_, _^_};
+ghost use Prim.Native.Nat.{_≤_};
 ghost use lib.ListN.{length};
 ghost use Rattle.table.specs.Laid.{Laid, theTable};
 ghost use Rattle.text.specs.Decomposition.{classOf, fourRounds};
 ghost use Rattle.text.specs.Ordering.{nfd};
 ghost use Rattle.text.specs.Composition.{nfc};
-ghost use Rattle.text.specs.Rounds.{Appended, Decomposed};
+ghost use Rattle.text.specs.Rounds.{Appended};
 ghost use Rattle.normal_forms.specs.Forms.{mostText, formValues, lengthOf, nfdCall, nfcCall};
 ghost use Rattle.normal_forms.specs.Promise.{Arranged, Standing, Stands, Cleared, Forms};
 
@@ -27,28 +28,6 @@ pub enum FormAnswer {
     BufferTooSmall,
 }
 
-// Writes the four rounds of c at `at`, as far as there is room, and answers the place behind them. What one round leaves as it is, the
-// later ones leave too, so that most codepoints are looked up once.
-fn append(words: &[u32], ix: Sections, out: &mut [u32], at: usize, c: u32) -> usize
-    requires { ⌜ Laid (now words) ix ⌝ }
-    requires { ⌜ at ≤ 2 ^ 40 ⌝ }
-    ensures { λ r. ⌜ Decomposed (theTable (now (words .entry))) c (now (out .entry)) (now (out .exit)) at r ⌝ }
-{
-    let parts = text::decompose::replaced(words, ix, c);
-    let items = parts.items;
-    if parts.count != 1 {
-        return text::decompose::append_decomposed(words, ix, out, at, c);
-    }
-    if items[0] != c {
-        return text::decompose::append_decomposed(words, ix, out, at, c);
-    }
-    let next = at + 1;
-    if at < out.len() {
-        out[at] = c;
-    }
-    next
-}
-
 // Writes the four rounds of the text, as far as there is room, and answers their length.
 fn decompose_into(words: &[u32], ix: Sections, text: &[u32], out: &mut [u32]) -> usize
     requires { ⌜ Laid (now words) ix ⌝ }
@@ -58,7 +37,7 @@ fn decompose_into(words: &[u32], ix: Sections, text: &[u32], out: &mut [u32]) ->
     let mut to = 0;
     let mut i = 0;
     while i < text.len() {
-        to = append(words, ix, out, to, text[i]);
+        to = append_decomposed(words, ix, out, to, text[i]);
         i += 1;
     }
     to

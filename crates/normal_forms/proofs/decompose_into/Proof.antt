@@ -19,14 +19,14 @@ abbrev μ-loop : tie.MeasureT-loop
 loop-holds : tie.Need-loop-holds Inv-loop μ-loop
 loop-holds c = (expand-start _ 4 _ _ 0, omega arith)
 
-mul-append : tie.Need-mul-append Inv-loop μ-loop
-mul-append c = search needs
+mul-append-decomposed : tie.Need-mul-append-decomposed Inv-loop μ-loop
+mul-append-decomposed c = search needs
 
-shared-slice-read-append : tie.Need-shared-slice-read-append Inv-loop μ-loop
-shared-slice-read-append c = search needs
+shared-slice-read-append-decomposed : tie.Need-shared-slice-read-append-decomposed Inv-loop μ-loop
+shared-slice-read-append-decomposed c = search needs
 
-append-requires : tie.Need-append-requires Inv-loop μ-loop
-append-requires c κs =
+append-decomposed-requires : tie.Need-append-decomposed-requires Inv-loop μ-loop
+append-decomposed-requires c κs =
     let l = c .before .before .before .loop in
     let s = c .before .before .before .before .before .before .before in
     (s .pre .0, reads-fit _ _ _ _ _ _ (l .inv .0) (l .inv .1) (s .pre .1))
@@ -40,7 +40,7 @@ loop-less c = search needs
 loop-again : tie.Need-loop-again Inv-loop μ-loop
 loop-again c =
     let l = c .before .before .before .before .before .before .loop in
-    (reads-more _ _ _ _ _ _ (l .inv .0) _ _ _ refl (omega arith) (c .before .before .append .ensures), omega arith)
+    (reads-more _ _ _ _ _ _ (l .inv .0) _ _ _ refl (omega arith) (c .before .before .append-decomposed .ensures), omega arith)
 
 same-length : tie.Need-same-length Inv-loop μ-loop
 same-length c = search needs
@@ -55,9 +55,9 @@ decompose-into-spec =
     Inv-loop
     μ-loop
     loop-holds
-    mul-append
-    shared-slice-read-append
-    append-requires
+    mul-append-decomposed
+    shared-slice-read-append-decomposed
+    append-decomposed-requires
     add-i
     loop-less
     loop-again
