@@ -4,12 +4,13 @@ use native.Mathlib.Numerals.{add-one}
 use native.Mathlib.Nat.{add-zero, suc-mul, mul-le-mul-right, le-trans}
 use native.Mathlib.Omega.{arith}
 use mathlib.Core.Path.{_≡_, refl, sym, ap, _∙_}
-use mathlib.Core.Bool.{true, false}
+use mathlib.Core.Bool.{Bool, true, false, _&&_}
 use mathlib.Core.Option.{some, none}
 use mathlib.Core.List.{List, [], _∷_, _++_, append-assoc, append-nil}
 use lib.ListN.{length, getD, take, drop, set, length-append, length-take, length-drop}
 use lib.Seq.{getD-take, take-take, set-out, getD-drop, take-suc-set, take-suc, take-set-le, length-sets}
-use Rattle.lists.specs.Lists.{joinedMap}
+use lib.Dec.{eqb}
+use Rattle.lists.specs.Lists.{joinedMap, sameList}
 use Rattle.table.specs.Table.{Table}
 use Rattle.table.specs.Lookup.{itemsOf}
 use Rattle.text.specs.Hangul.{isSyllable, jamoOf}
@@ -132,10 +133,32 @@ expanded-none t n c out out′ at r e a =
 pub expanded-same : (t : Table) (n c : ℕ) (out out′ : List ℕ) (at r : ℕ) → single t c ≡ c ∷ [] → Appended out out′ at (c ∷ []) r → Expanded t n c out out′ at r
 expanded-same t n c out out′ at r e a = let s : rounds n t (c ∷ []) ≡ c ∷ [] = rounds-same n t c e in record { written = rw s a; few = rw s (most-pos n) }
 
--- the first n of the items are c alone
-pub one-part : (n : ℕ) (items : List ℕ) (c : ℕ) → n ≡ 1 → 0 < length items → getD items 0 0 ≡ c → take n items ≡ c ∷ []
-one-part n [] c o h e = absurd (omega arith)
-one-part n (x ∷ items) c o h e = rw (o, e)
+-- whether the first n of the items are c alone
+module _ (n : ℕ) (items : List ℕ) (c : ℕ) where
+  pub alone-other : n ≤ length items → (n ≡ 1 → ⊥) → false ≡ sameList (take n items) (c ∷ [])
+  alone-other h e =
+      let k : length (take n items) ≡ n = simp length-take (omega arith) in
+      go (take n items) k
+    where
+      go : (s : List ℕ) → length s ≡ n → false ≡ sameList s (c ∷ [])
+      go [] k = refl
+      go (x ∷ []) k = absurd (e (sym k))
+      go (x ∷ y ∷ s) k = ends (eqb x c)
+        where
+          ends : (b : Bool) → false ≡ b && false
+          ends true = refl
+          ends false = refl
+
+  pub alone-one : 1 ≤ length items → n ≡ 1 → eqb (getD items 0 0) c ≡ sameList (take n items) (c ∷ [])
+  alone-one h e = rw e (go items h)
+    where
+      go : (l : List ℕ) → 1 ≤ length l → eqb (getD l 0 0) c ≡ sameList (take 1 l) (c ∷ [])
+      go [] k = absurd (omega arith)
+      go (x ∷ l) k = ends (eqb x c)
+        where
+          ends : (b : Bool) → b ≡ b && true
+          ends true = refl
+          ends false = refl
 
 -- one round more than the items of the single replacement got
 pub expanded-more : (t : Table) (n k c : ℕ) (items out out′ : List ℕ) (at j to : ℕ) → n ≡ suc k → Expanding t k items out out′ at j to

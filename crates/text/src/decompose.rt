@@ -5,9 +5,9 @@ use table::Sections;
 use table::Span;
 ghost use Prim.Native.Nat.{_≤_, _<_, _+_, _^_};
 ghost use mathlib.Core.Path.{_≡_};
-ghost use mathlib.Core.Bool.{true};
 ghost use mathlib.Core.List.{[], _∷_};
 ghost use lib.ListN.{length, take};
+ghost use Rattle.lists.specs.Lists.{sameList};
 ghost use Rattle.table.specs.Laid.{Laid, theTable, within};
 ghost use Rattle.text.specs.Hangul.{jamoOf};
 ghost use Rattle.text.specs.Decomposition.{single};
@@ -88,9 +88,9 @@ fn put(out: &mut [u32], at: usize, c: u32) -> usize
 }
 
 // Whether the parts are c alone.
-fn is_alone(parts: Parts, c: u32) -> bool
-    requires { ⌜ length (parts .items) ≡ 4 ⌝ }
-    ensures { λ r. ⌜ (r ≡ true → take (parts .count) (parts .items) ≡ c ∷ []) ⌝ }
+pub fn is_alone(parts: Parts, c: u32) -> bool
+    requires { ⌜ (parts .count ≤ 4) × (length (parts .items) ≡ 4) ⌝ }
+    ensures { λ r. ⌜ r ≡ sameList (take (parts .count) (parts .items)) (c ∷ []) ⌝ }
 {
     let items = parts.items;
     if parts.count != 1 {

@@ -5,6 +5,7 @@ use borrow.Author.Needs.{needs}
 use denote.Ref.{now}
 use mathlib.Core.Path.{sym, _∙_}
 use lib.ListN.{take}
+use Rattle.lists.specs.Laws.{same-list}
 use Rattle.table.specs.Laid.{theTable}
 use Rattle.text.specs.Decomposition.{single}
 use Rattle.text.specs.Rounds.{mostFrom, PartsAre}
@@ -98,7 +99,7 @@ expand-is-alone-requires : (t : ℕ) → expand-lts.Need-is-alone-requires (
   expand-below t,
   expand.Post,
 ) (expand-at t) expand.Post expand-Inv-loop expand-μ-loop
-expand-is-alone-requires t c κs = c .replaced .ensures .whole
+expand-is-alone-requires t c κs = (c .replaced .ensures .few, c .replaced .ensures .whole)
 
 expand-put-requires-2 : (t : ℕ) → expand-lts.Need-put-requires-2 (
   put-reads.Asked,
@@ -140,7 +141,7 @@ expand-returns-2 t c =
     let o = i .before in
     let r = o .before in
     let a = r .before .before .before .before .args in
-    expanded-same (theTable (now (a .words))) (a .rounds) (a .c) (now (a .out)) _ (a .at) (p .put2 .result) (sym (r .replaced .ensures .is) ∙ o .is-alone .ensures (i .if2 .taken)) (p .put2 .ensures)
+    expanded-same (theTable (now (a .words))) (a .rounds) (a .c) (now (a .out)) _ (a .at) (p .put2 .result) (sym (r .replaced .ensures .is) ∙ same-list _ _ (sym (o .is-alone .ensures) ∙ i .if2 .taken)) (p .put2 .ensures)
 
 expand-loop-holds : (t : ℕ) → expand-lts.Need-loop-holds (
   put-reads.Asked,
