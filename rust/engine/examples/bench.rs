@@ -30,9 +30,9 @@ fn codepoints(text: &str) -> Vec<u32> {
     text.chars().map(u32::from).collect()
 }
 
-/// 61 and then `count` of these, in turn.
-fn after_a(of: impl Iterator<Item = u32> + Clone, count: usize) -> Vec<u32> {
-    std::iter::once(0x61).chain(of.cycle().take(count)).collect()
+/// This one and then `count` of the others, in turn.
+fn followed(first: u32, by: &[u32], count: usize) -> Vec<u32> {
+    std::iter::once(first).chain(by.iter().copied().cycle().take(count)).collect()
 }
 
 fn seconds(times: u32, mut job: impl FnMut()) -> f64 {
@@ -71,7 +71,9 @@ fn times(full: &[u32], small: &[u32], names: &[Vec<u32>], worst: &[(&str, Vec<u3
     compare("twelve real-looking names, full-size table", names, full, 20);
     compare("twelve real-looking names, names.tab", names, small, 100);
     for (what, name) in worst {
-        compare(&format!("{what}, full-size table"), std::slice::from_ref(name), full, 3);
+        let refusal = engine::name(name, full, &mut [0; ROOM], &mut [0; WORK]).number;
+        let what = format!("{what} (refusal {refusal}), full-size table");
+        compare(&what, std::slice::from_ref(name), full, 3);
     }
     for (what, table) in [("full-size table", full), ("names.tab", small)] {
         let proved = seconds(3, || {
@@ -172,8 +174,9 @@ fn main() {
     let names = NAMES.map(codepoints);
     let family = [0x1F468, 0x200D, 0x2764, 0xFE0F, 0x200D, 0x1F468];
     let worst = [
-        ("4,096 codepoints: 61 and 4,095 ignored", after_a(std::iter::once(0x34F), 4_095)),
-        ("1,024 codepoints: 61 and 1,023 marks", after_a(0x300..0x310, 1_023)),
+        ("4,096 codepoints: 61 and 4,095 ignored", followed(0x61, &[0x34F], 4_095)),
+        ("1,024 codepoints: 61 and 1,023 marks of two classes in turn", followed(0x61, &[0x301, 0x323], 1_023)),
+        ("1,024 codepoints: 1A00 and 1,023 marks", followed(0x1A00, &[0x1A1B, 0x1A1A, 0x1A19, 0x1A18, 0x1A17], 1_023)),
         ("1,020 codepoints: 170 long emoji", family.repeat(170)),
     ];
     times(&full, &small, &names, &worst);
