@@ -2,11 +2,10 @@
 use table::Sections;
 use table::Span;
 use table::lookup::counted;
-ghost use Prim.Native.Nat.{ℕ};
 ghost use mathlib.Core.Path.{_≡_};
-ghost use mathlib.Core.Bool.{true};
-ghost use mathlib.Core.List.{List, _∷_};
-ghost use mathlib.Core.Option.{none};
+ghost use mathlib.Core.Bool.{not};
+ghost use mathlib.Core.List.{[], _∷_};
+ghost use Rattle.lists.specs.Lists.{isSome};
 ghost use Rattle.table.specs.Laid.{Laid, theTable};
 ghost use Rattle.tokens.specs.Emoji.{takes, find};
 ghost use Rattle.tokens.specs.Match.{takenOf, matchOf, betterOf, FoundBy, Sequences, sequencesOf};
@@ -55,9 +54,9 @@ pub fn takes(seq: &[u32], rest: &[u32]) -> Taking
     }
 }
 
-// Whether a sequence that starts with e takes nothing of the rest, by its start alone.
+// Whether e alone, as a sequence, takes nothing of the rest; then no sequence that starts with e does.
 fn misses(e: u32, rest: &[u32]) -> bool
-    ensures { λ r. ⌜ (r ≡ true → (seq : List ℕ) → takes (e ∷ seq) (now (rest .entry)) ≡ none) ⌝ }
+    ensures { λ r. ⌜ r ≡ not (isSome (takes (e ∷ []) (now (rest .entry)))) ⌝ }
 {
     if e == 0xFE0F {
         return false;
@@ -65,7 +64,7 @@ fn misses(e: u32, rest: &[u32]) -> bool
     if rest.len() == 0 {
         return true;
     }
-    rest[0] != e
+    e != rest[0]
 }
 
 // The match of a record that takes so much: "A match takes at least one codepoint."

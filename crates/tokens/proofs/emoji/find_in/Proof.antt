@@ -1,9 +1,11 @@
 -- `tokens::emoji::find_in` meets its contract: the loop keeps the best match of the records before, and the records that are left. Assumes nothing.
 use Prim.Native.Nat.{_-_}
 use native.Mathlib.Omega.{arith}
+use mathlib.Core.Path.{sym, _∙_}
 use lib.ListN.{length}
 use borrow.Author.Needs.{needs}
 use Rattle.tokens.proofs.Finding.{Finder, finder-start, finder-here, finder-past, finder-more, finder-end}
+use Rattle.tokens.proofs.Taking.{takes-none}
 use Rattle.tokens.proofs.emoji.find_in.Statement.{statement}
 use Rattle.tokens.proofs.emoji.find_in.Tie as tie
 
@@ -45,7 +47,7 @@ loop-again : tie.Need-loop-again Inv-loop μ-loop
 loop-again c =
     let k = c .before .before .before in
     let s = k .counted .ensures in
-    rw s (finder-past _ _ _ _ _ (k .before .before .loop .inv) (k .before .loop-test .taken) (rw s at (c .before .misses .ensures (c .if1 .taken))))
+    rw s (finder-past _ _ _ _ _ (k .before .before .loop .inv) (k .before .loop-test .taken) (rw s at (takes-none _ _ (sym (c .before .misses .ensures) ∙ c .if1 .taken))))
 
 mul-takes : tie.Need-mul-takes Inv-loop μ-loop
 mul-takes c =
