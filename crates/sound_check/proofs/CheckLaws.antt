@@ -2,7 +2,7 @@
 use Prim.Native.Nat.{ℕ}
 use native.Mathlib.Omega.{arith}
 use mathlib.Core.Path.{_≡_, refl, sym, _∙_}
-use mathlib.Core.Bool.{Bool, true, false, not, cond}
+use mathlib.Core.Bool.{Bool, not, cond}
 use mathlib.Core.List.{List, [], _∷_}
 use mathlib.Core.Option.{Option, none, some}
 use Rattle.lists.specs.Lists.{placeWith, isSome}
@@ -11,7 +11,7 @@ use Rattle.table.specs.declared.Layout.{Layout}
 use Rattle.table.specs.declared.Layout.the-variants.{Fault, Found}
 use Rattle.table.specs.Table.{Table}
 use Rattle.table.specs.Layout.{parse}
-use Rattle.table.specs.Laid.{Laid, theTable, layoutOf, sectionsOf}
+use Rattle.table.specs.Laid.{theTable, layoutOf, sectionsOf}
 use Rattle.table.proofs.SectionLaws.{found-laid, laid-parse}
 use Rattle.soundness.specs.Scalars.{rule1}
 use Rattle.soundness.specs.Valid.{rule2, rule3}

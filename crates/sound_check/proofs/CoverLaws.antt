@@ -1,36 +1,32 @@
 -- Laws of rule 2: the codepoints of ranges, of groups and of decompositions, and the rule by its codepoints. Assumes nothing.
-use Prim.Native.Nat.{ℕ, zero, suc, _+_, _-_, _<_, _≤_}
+use Prim.Native.Nat.{ℕ, zero, suc, _+_, _-_, _≤_}
 use native.Mathlib.Omega.{arith}
-use mathlib.Core.Path.{_≡_, refl, sym, _∙_, ap}
+use mathlib.Core.Path.{_≡_, refl, sym, _∙_}
 use mathlib.Core.Bool.{Bool, true, false, not, _&&_, _||_, cond, false≢true}
-use mathlib.Core.List.{List, [], _∷_, _++_, map}
-use mathlib.Core.List.{List·Memᴰ, List·Memᴰ·head, List·Memᴰ·tail}
-use mathlib.Core.Logic.{_⊎_, inl, inr, ⊎-elim}
-use mathlib.Core.Option.{Option, none, some, Option·map, Option·getD}
+use mathlib.Core.List.{List, [], _∷_, _++_}
+use mathlib.Core.Logic.{_⊎_, ⊎-elim}
+use mathlib.Core.Option.{Option, none, some}
 use lib.ListN.{length, take, drop}
 use lib.Dec.{leb, ltb, eqb}
-use borrow.Author.Tests.{eq-eqb, ne-eqb, eqb-true, eqb-false, le-leb, lt-leb, lt-ltb, leb-true, leb-false, ltb-true, ltb-false}
-use Rattle.lists.specs.Lists.{all, any, mem, joinedMap, firstWith, andThen, isSome}
-use Rattle.lists.specs.Laws.{Every, both, both-left, both-right, either, every-all, all-every, every-member, every-of-all, member-of, mem-of}
+use borrow.Author.Tests.{ne-eqb, eqb-true, eqb-false, le-leb, lt-leb, lt-ltb, leb-true, ltb-true}
+use Rattle.lists.specs.Lists.{all, keep, mem, joinedMap, andThen, isSome}
+use Rattle.lists.specs.Laws.{both, both-left, both-right, either, every-all, all-every, every-member, every-of-all, member-of, mem-of}
 use Rattle.table.specs.declared.Sections.{Sections}
-use Rattle.table.specs.Table.{Range, ClassRange, Headed, Group, Table}
+use Rattle.table.specs.Table.{Range, ClassRange, Group, Table}
 use Rattle.table.specs.Layout.{mostFlags, inFront, ranges, group, groups}
-use Rattle.table.specs.Lookup.{inRange, inRanges, itemsOf, holds}
-use Rattle.table.specs.Laid.{Laid, theTable, within}
+use Rattle.table.specs.Lookup.{inRanges, itemsOf}
+use Rattle.table.specs.Laid.{Laid, theTable}
 use Rattle.table.proofs.SectionLaws.{laid-reads}
 use Rattle.table.proofs.Lookups.{onlyIf-some, inFront-some, andThen-some}
 use Rattle.text.specs.Hangul.{firstSyllable, syllableCount, isSyllable}
 use Rattle.text.specs.Decomposition.{single, round, fourRounds}
-use Rattle.text.specs.Rounds.{rounds}
 use Rattle.text.proofs.Rounds.{rounds-join, rounds-four, single-itself}
 use Rattle.tokens.specs.Emoji.{selector}
-use Rattle.sound_check.specs.declared.cover.Wanted.{Wanted}
-use Rattle.sound_check.specs.declared.cover.Wanted.the-variants.{Valid, Other}
 use Rattle.soundness.specs.Scalars.{scalarsBetween, scalarRanges, rule1}
 use Rattle.soundness.specs.Valid.{countedFrom, listed, groupCharacters, spellable, rule2}
 use Rattle.sound_check.specs.Parts.{isValid, rangesScalar, recordsScalar, othersScalar, scalarGroup, scalarWhole}
 use Rattle.sound_check.specs.Heads.{headsOf}
-use Rattle.sound_check.specs.Cover.{inGroups, passes, groupPasses, syllables, spelledPass, spelled, pointFits, PointsFit}
+use Rattle.sound_check.specs.Cover.{inGroups, grouped, syllables, respelled, spelled, pointFits, PointsFit}
 use Rattle.sound_check.proofs.ScalarLaws.{all-both, rule1-parts}
 use Rattle.sound_check.proofs.HeadLaws.{found-head}
 
@@ -55,6 +51,20 @@ mem-both c (x ∷ a) b = rw (mem-both c a b) (go (eqb c x))
     go : (t : Bool) → t || (mem c a || mem c b) ≡ (t || mem c a) || mem c b
     go true = refl
     go false = refl
+
+pub mem-keep : (p : ℕ → Bool) (c : ℕ) (s : List ℕ) → mem c (keep p s) ≡ mem c s && p c
+mem-keep p c [] = refl
+mem-keep p c (x ∷ s) = go (p x) (eqb c x) refl refl (mem-keep p c s)
+  where
+    go : (q b : Bool) → p x ≡ q → eqb c x ≡ b → mem c (keep p s) ≡ mem c s && p c → mem c (cond q (x ∷ keep p s) (keep p s)) ≡ (b || mem c s) && p c
+    go true true e f r = let k : c ≡ x = eqb-true c x f in rw (f, k, e)
+    go true false e f r = rw (f, r)
+    go false true e f r = let k : c ≡ x = eqb-true c x f in rw (r, k, e) (none (mem x s))
+      where
+        none : (a : Bool) → a && false ≡ false
+        none true = refl
+        none false = refl
+    go false false e f r = r
 
 -- n codepoints from a on
 pub mem-counted : (c a n : ℕ) → mem c (countedFrom a n) ≡ leb a c && ltb c (a + n)
@@ -150,85 +160,98 @@ module _ (t : Table) where
   unfolding fourRounds
   stable-rounds c e = let r : round t (c ∷ []) ≡ c ∷ [] = stable-round c e in rw (r, r, r, r)
 
-  -- a codepoint that is neither a syllable nor a head is its own full decomposition
-  pub plain-rounds : (c : ℕ) → isSyllable c ≡ false → mem c (headsOf (t .decompositions)) ≡ false → fourRounds t (c ∷ []) ≡ c ∷ []
-  plain-rounds c e f = stable-rounds c (sym (single-itself t c e (missing (itemsOf (t .decompositions) c) (found-head (t .decompositions) c ∙ f))))
+  -- a codepoint that is neither a syllable nor a head is its own replacement and its own full decomposition
+  pub plain-single : (c : ℕ) → isSyllable c ≡ false → mem c (headsOf (t .decompositions)) ≡ false → single t c ≡ c ∷ []
+  plain-single c e f = sym (single-itself t c e (missing (itemsOf (t .decompositions) c) (found-head (t .decompositions) c ∙ f)))
     where
       missing : (o : Option (List ℕ)) → isSome o ≡ false → o ≡ none
       missing none k = refl
       missing (some s) k = absurd (false≢true (sym k))
 
+  pub plain-rounds : (c : ℕ) → isSyllable c ≡ false → mem c (headsOf (t .decompositions)) ≡ false → fourRounds t (c ∷ []) ≡ c ∷ []
+  plain-rounds c e f = stable-rounds c (plain-single c e f)
+
 -- a syllable is one of the syllables
 syllable-listed : (c : ℕ) → isSyllable c ≡ true → mem c syllables ≡ true
 syllable-listed c e = mem-counted c firstSyllable syllableCount ∙ e
 
--- What is wanted of the full decompositions of the groups' characters, asked of the heads and the syllables.
-module _ (t : Table) (m : Members t) (w : Wanted) where
-  group-passes : (c : ℕ) → inGroups c (t .groups) ≡ true → groupPasses t w c ≡ true → all (passes t w) (fourRounds t (c ∷ [])) ≡ true
-  unfolding groupPasses
-  group-passes c g e = rw g at e
+-- A test of the full decompositions of the groups' characters, asked of those of the heads and the syllables.
+module _ (t : Table) (m : Members t) (p : ℕ → Bool) where
+  asked : List ℕ
+  asked = grouped (t .groups) syllables ++ grouped (t .groups) (headsOf (t .decompositions))
 
-  passes-group : (c : ℕ) → (inGroups c (t .groups) ≡ true → all (passes t w) (fourRounds t (c ∷ [])) ≡ true) → groupPasses t w c ≡ true
-  unfolding groupPasses
-  passes-group c f = go (inGroups c (t .groups)) refl
+  asked-group : (c : ℕ) → mem c asked ≡ true → inGroups c (t .groups) ≡ true
+  unfolding asked
+  asked-group c i =
+      let g : (s : List ℕ) → mem c (grouped (t .groups) s) ≡ true → inGroups c (t .groups) ≡ true
+      = λ s e. both-right (mem c s) (inGroups c (t .groups)) (sym (mem-keep (λ x. inGroups x (t .groups)) c s) ∙ e) in
+      ⊎-elim (g syllables) (g (headsOf (t .decompositions)))
+      (either (mem c (grouped (t .groups) syllables)) (mem c (grouped (t .groups) (headsOf (t .decompositions)))) (sym (mem-both c (grouped (t .groups) syllables) (grouped (t .groups) (headsOf (t .decompositions)))) ∙ i))
+
+  asked-member : (c : ℕ) → inGroups c (t .groups) ≡ true → mem c syllables || mem c (headsOf (t .decompositions)) ≡ true → mem c asked ≡ true
+  unfolding asked
+  asked-member c g e =
+      mem-both c (grouped (t .groups) syllables) (grouped (t .groups) (headsOf (t .decompositions)))
+      ∙ rw (mem-keep (λ x. inGroups x (t .groups)) c syllables, mem-keep (λ x. inGroups x (t .groups)) c (headsOf (t .decompositions)), g)
+      (go (mem c syllables) (mem c (headsOf (t .decompositions))) e)
     where
-      go : (b : Bool) → inGroups c (t .groups) ≡ b → not b || all (passes t w) (fourRounds t (c ∷ [])) ≡ true
-      go true e = f e
-      go false e = refl
+      go : (a b : Bool) → a || b ≡ true → a && true || b && true ≡ true
+      go true b f = refl
+      go false true f = refl
+      go false false f = f
 
   -- one group's character
-  character : spelledPass t w ≡ true → ((c : ℕ) → inGroups c (t .groups) ≡ true → passes t w c ≡ true) → (c : ℕ) → inGroups c (t .groups) ≡ true
-      → all (passes t w) (fourRounds t (c ∷ [])) ≡ true
-  unfolding spelledPass
+  character : all p (fourRounds t asked) ≡ true → ((c : ℕ) → inGroups c (t .groups) ≡ true → p c ≡ true) → (c : ℕ) → inGroups c (t .groups) ≡ true
+      → all p (fourRounds t (c ∷ [])) ≡ true
   character e f c g = go (isSyllable c) (mem c (headsOf (t .decompositions))) refl refl
     where
-      heads : all (groupPasses t w) (headsOf (t .decompositions)) ≡ true
-      heads = both-left (all (groupPasses t w) (headsOf (t .decompositions))) (all (groupPasses t w) syllables) e
+      one : mem c syllables || mem c (headsOf (t .decompositions)) ≡ true → all p (fourRounds t (c ∷ [])) ≡ true
+      one k = of-all (λ x. all p (fourRounds t (x ∷ []))) asked (sym (all-rounds t p asked) ∙ e) c (asked-member c g k)
 
-      others : all (groupPasses t w) syllables ≡ true
-      others = both-right (all (groupPasses t w) (headsOf (t .decompositions))) (all (groupPasses t w) syllables) e
+      go : (a b : Bool) → isSyllable c ≡ a → mem c (headsOf (t .decompositions)) ≡ b → all p (fourRounds t (c ∷ [])) ≡ true
+      go true b i j = one (rw (syllable-listed c i))
+      go false true i j = one (rw j (last (mem c syllables)))
+        where
+          last : (a : Bool) → a || true ≡ true
+          last true = refl
+          last false = refl
+      go false false i j = rw (plain-rounds t c i j) (both (p c) true (f c g) refl)
 
-      go : (a b : Bool) → isSyllable c ≡ a → mem c (headsOf (t .decompositions)) ≡ b → all (passes t w) (fourRounds t (c ∷ [])) ≡ true
-      go true b i j = group-passes c g (of-all (groupPasses t w) syllables others c (syllable-listed c i))
-      go false true i j = group-passes c g (of-all (groupPasses t w) (headsOf (t .decompositions)) heads c j)
-      go false false i j = rw (plain-rounds t c i j) (both (passes t w c) true (f c g) refl)
+  pub respelled-all : ((c : ℕ) → inGroups c (t .groups) ≡ true → p c ≡ true) → all p (respelled t) ≡ all p (fourRounds t (groupCharacters t))
+  unfolding respelled asked
+  respelled-all f = agree _ _ there back
+    where
+      there : all p (fourRounds t asked) ≡ true → all p (fourRounds t (groupCharacters t)) ≡ true
+      there e =
+          all-rounds t p (groupCharacters t)
+          ∙ all-of (λ c. all p (fourRounds t (c ∷ []))) (groupCharacters t) (λ c i. character e f c (sym (m .groups c) ∙ i))
 
-  pub spelled-pass : spelledPass t w ≡ true → ((c : ℕ) → inGroups c (t .groups) ≡ true → passes t w c ≡ true)
-      → all (passes t w) (fourRounds t (groupCharacters t)) ≡ true
-  spelled-pass e f =
-      all-rounds t (passes t w) (groupCharacters t)
-      ∙ all-of (λ c. all (passes t w) (fourRounds t (c ∷ []))) (groupCharacters t) (λ c i. character e f c (sym (m .groups c) ∙ i))
-
-  pub pass-spelled : all (passes t w) (fourRounds t (groupCharacters t)) ≡ true → spelledPass t w ≡ true
-  unfolding spelledPass
-  pass-spelled e =
-      let each : (c : ℕ) → groupPasses t w c ≡ true
-      = λ c. passes-group c (λ g. of-all (λ c. all (passes t w) (fourRounds t (c ∷ []))) (groupCharacters t) (sym (all-rounds t (passes t w) (groupCharacters t)) ∙ e) c (m .groups c ∙ g)) in
-      both (all (groupPasses t w) (headsOf (t .decompositions))) (all (groupPasses t w) syllables)
-      (all-of (groupPasses t w) (headsOf (t .decompositions)) (λ c i. each c))
-      (all-of (groupPasses t w) syllables (λ c i. each c))
+      back : all p (fourRounds t (groupCharacters t)) ≡ true → all p (fourRounds t asked) ≡ true
+      back e =
+          all-rounds t p asked
+          ∙ all-of (λ c. all p (fourRounds t (c ∷ []))) asked
+          (λ c i. of-all (λ x. all p (fourRounds t (x ∷ []))) (groupCharacters t) (sym (all-rounds t p (groupCharacters t)) ∙ e) c (m .groups c ∙ asked-group c i))
 
 -- no codepoint of a list is c exactly where c is no member
-others-member : (t : Table) (c : ℕ) (s : List ℕ) → all (passes t (Other c)) s ≡ not (mem c s)
-unfolding passes
-others-member t c [] = refl
-others-member t c (x ∷ s) = rw (others-member t c s) (go (eqb c x))
+others-member : (c : ℕ) (s : List ℕ) → all (λ x. not (eqb c x)) s ≡ not (mem c s)
+others-member c [] = refl
+others-member c (x ∷ s) = rw (others-member c s) (go (eqb c x))
   where
     go : (b : Bool) → not b && not (mem c s) ≡ not (b || mem c s)
     go true = refl
     go false = refl
 
-not-twice : (b : Bool) → not (not b) ≡ b
-not-twice true = refl
-not-twice false = refl
+not-same : (a b : Bool) → not a ≡ not b → a ≡ b
+not-same true true e = refl
+not-same true false e = absurd (false≢true e)
+not-same false true e = absurd (false≢true (sym e))
+not-same false false e = refl
 
--- c is in no group: it is in a full decomposition exactly where not all of their codepoints are others
-pub spelled-is : (t : Table) → Members t → (c : ℕ) → inGroups c (t .groups) ≡ false → not (spelledPass t (Other c)) ≡ spelled t c
-unfolding spelled passes
+-- c is in no group: it is in a full decomposition exactly where it is in that of a head or a syllable
+pub spelled-is : (t : Table) → Members t → (c : ℕ) → inGroups c (t .groups) ≡ false → mem c (respelled t) ≡ spelled t c
+unfolding spelled
 spelled-is t m c g =
-    let e : spelledPass t (Other c) ≡ all (passes t (Other c)) (fourRounds t (groupCharacters t))
-    = agree _ _ (λ k. spelled-pass t m (Other c) k others) (pass-spelled t m (Other c)) in
-    ap not (e ∙ others-member t c (fourRounds t (groupCharacters t))) ∙ not-twice _
+    not-same _ _ (sym (others-member c (respelled t)) ∙ respelled-all t m (λ x. not (eqb c x)) others ∙ others-member c (fourRounds t (groupCharacters t)))
   where
     others : (x : ℕ) → inGroups x (t .groups) ≡ true → not (eqb c x) ≡ true
     others x k = rw (ne-eqb c x (λ q. never (inGroups c (t .groups)) (rw q k) g))
@@ -295,8 +318,7 @@ module _ (t : Table) (m : Members t) where
       go false v = rw (not-so (inGroups c (t .groups)) (λ k. never (isValid t c) (g k) v))
 
   -- rule 2 holds where each codepoint fits and the decompositions are valid
-  rule2-holds : ((c : ℕ) → pointFits t c ≡ true) → spelledPass t Valid ≡ true → isValid t 0x2E ≡ false → isValid t selector ≡ false → rule2 t ≡ true
-  unfolding passes
+  rule2-holds : ((c : ℕ) → pointFits t c ≡ true) → all (isValid t) (respelled t) ≡ true → isValid t 0x2E ≡ false → isValid t selector ≡ false → rule2 t ≡ true
   rule2-holds points passed stop selects =
       let valid-group : (c : ℕ) → inGroups c (t .groups) ≡ true → isValid t c ≡ true = λ c g. point-group c g (points c) in
       rule2-made t
@@ -306,7 +328,7 @@ module _ (t : Table) (m : Members t) where
             spellable-all (isValid t)
             ∙ both (all (isValid t) (groupCharacters t)) (all (isValid t) (fourRounds t (groupCharacters t)))
             (all-of (isValid t) (groupCharacters t) (λ c i. valid-group c (sym (m .groups c) ∙ i)))
-            (spelled-pass t m Valid passed valid-group);
+            (sym (respelled-all t m (isValid t) valid-group) ∙ passed);
         stop = stop;
         selects = selects;
       })
@@ -322,16 +344,15 @@ module _ (t : Table) (m : Members t) where
   pub rule2-point : (bound : ℕ) (r : Bool) → PointsFit t bound r → r ≡ false → false ≡ rule2 t
   rule2-point bound r p e = sym (not-so (rule2 t) (λ k. p .no e (rule2-fits k)))
 
-  rule2-passes : rule2 t ≡ true → spelledPass t Valid ≡ true
-  unfolding passes
-  rule2-passes k =
+  rule2-passes : ((c : ℕ) → pointFits t c ≡ true) → rule2 t ≡ true → all (isValid t) (respelled t) ≡ true
+  rule2-passes points k =
       let a : Bool = all (isValid t) (groupCharacters t) in
       let b : Bool = all (isValid t) (fourRounds t (groupCharacters t)) in
-      pass-spelled t m Valid (both-right a b (sym (spellable-all (isValid t)) ∙ rule2-facts t k .inside))
+      respelled-all t m (isValid t) (λ c g. point-group c g (points c)) ∙ both-right a b (sym (spellable-all (isValid t)) ∙ rule2-facts t k .inside)
 
   -- the last test decides where the others passed
-  pub rule2-last : ((c : ℕ) → pointFits t c ≡ true) → isValid t 0x2E ≡ false → isValid t selector ≡ false → spelledPass t Valid ≡ rule2 t
-  rule2-last points stop selects = agree (spelledPass t Valid) (rule2 t) (λ e. rule2-holds points e stop selects) rule2-passes
+  pub rule2-last : ((c : ℕ) → pointFits t c ≡ true) → isValid t 0x2E ≡ false → isValid t selector ≡ false → all (isValid t) (respelled t) ≡ rule2 t
+  rule2-last points stop selects = agree (all (isValid t) (respelled t)) (rule2 t) (λ e. rule2-holds points e stop selects) (rule2-passes points)
 
 pub rule2-stop : (t : Table) → isValid t 0x2E ≡ true → false ≡ rule2 t
 rule2-stop t e = sym (not-so (rule2 t) (λ k. never (isValid t 0x2E) e (rule2-facts t k .stop)))

@@ -1,17 +1,14 @@
 -- Laws of the places where the answers of rule 2's tests can change. Assumes nothing.
-use Prim.Native.Nat.{ℕ, zero, suc, _+_, _-_, _<_, _≤_}
-use native.Mathlib.Numerals.{add-one}
+use Prim.Native.Nat.{ℕ, _+_, _-_, _<_, _≤_}
 use native.Mathlib.Omega.{arith}
-use mathlib.Core.Path.{_≡_, refl, sym, _∙_, ap}
-use mathlib.Core.Bool.{Bool, true, false, not, _&&_, _||_, cond, false≢true}
+use mathlib.Core.Path.{_≡_, refl, sym, _∙_}
+use mathlib.Core.Bool.{Bool, true, false, not, _||_, cond, false≢true}
 use mathlib.Core.List.{List, [], _∷_}
-use mathlib.Core.Option.{some}
 use lib.ListN.{length, getD, drop, length-drop}
-use lib.Dec.{leb, eqb}
+use lib.Dec.{leb}
 use borrow.Author.Tests.{le-leb, lt-leb, leb-true, leb-false}
-use Rattle.lists.specs.Lists.{all}
 use Rattle.table.specs.declared.Span.{Span}
-use Rattle.table.specs.Table.{Headed, Group, Table}
+use Rattle.table.specs.Table.{Group, Table}
 use Rattle.table.specs.Layout.{group, groups}
 use Rattle.table.specs.Lookup.{holds}
 use Rattle.table.specs.Laid.{within, Fits}
@@ -19,13 +16,8 @@ use Rattle.table.specs.Part.{inPairs, RecordsAt, GroupHere, countedAt}
 use Rattle.table.proofs.Lookups.{drop-two, pairs-ranges}
 use Rattle.table.proofs.Records.{groups-step, groups-end, group-fits, group-holds, group-next}
 use Rattle.sound_check.specs.Parts.{recordsIn, Holds, isValid}
-use Rattle.sound_check.specs.Cover.{between, inGroups, passes, headPasses, groupPasses, spelled, pointFits, Steady, NextEnd, NextPoint, PointsFit}
-use Rattle.sound_check.specs.Heads.{headsOf}
-use Rattle.soundness.specs.Valid.{countedFrom}
-use Rattle.sound_check.specs.declared.cover.Wanted.{Wanted}
-use Rattle.sound_check.specs.declared.cover.Wanted.the-variants.{Valid, Other}
+use Rattle.sound_check.specs.Cover.{between, inGroups, spelled, pointFits, Steady, NextEnd, NextPoint, PointsFit}
 use Rattle.sound_check.proofs.Walks.{Through, through-start, through-on, through-at, group-here, group-is, group-behind}
-use Rattle.sound_check.proofs.StripLaws.{all-map}
 
 -- One pair: below it, in it and above it the answer does not change.
 module _ (c a b : ℕ) where
@@ -164,44 +156,6 @@ module _ (c : ℕ) (part : List ℕ) (at : ℕ) (w : Through (inGroups c) groups
 
   pub group-nowhere : length part ≤ at → false ≡ inGroups c (recordsIn groups part)
   group-nowhere h = through-at (inGroups c) groups part at [] w (groups-end part at (w .left) (w .walk) h)
-
--- What is wanted, case by case.
-module _ (t : Table) (w : Wanted) (x : ℕ) where
-  pub passes-valid : w ≡ Valid → isValid t x ≡ passes t w x
-  unfolding passes
-  passes-valid e = rw e
-
-  pub passes-other : (c : ℕ) → w ≡ Other c → not (eqb c x) ≡ passes t w x
-  unfolding passes
-  passes-other c e = rw e
-
--- A walk over codepoints that follow one another has come to c.
-pub record Counting (p : ℕ → Bool) (from count last c : ℕ) : Type 0 where
-  pub high : c ≤ last
-  pub same : all p (countedFrom from count) ≡ all p (countedFrom c (last - c))
-
-module _ (p : ℕ → Bool) (from count last c : ℕ) where
-  pub count-start : from ≡ c → count ≡ last - c → c ≤ last → Counting p from count last c
-  count-start e f h = record { high = h; same = rw (e, f) }
-
-  module _ (w : Counting p from count last c) where
-    counted-next : c < last → countedFrom c (last - c) ≡ c ∷ countedFrom (c + 1) (last - (c + 1))
-    unfolding countedFrom
-    counted-next h = let k : last - c ≡ suc (last - (c + 1)) = omega arith in rw (k, add-one)
-
-    pub count-broken : c < last → p c ≡ false → false ≡ all p (countedFrom from count)
-    count-broken h e = rw (w .same, counted-next h, e)
-
-    pub count-on : c < last → p c ≡ true → Counting p from count last (c + 1)
-    count-on h e = record { high = omega arith; same = w .same ∙ rw (counted-next h, e) }
-
-    pub count-done : last ≤ c → true ≡ all p (countedFrom from count)
-    unfolding countedFrom
-    count-done h = let k : last - c ≡ 0 = omega arith in rw (w .same, k)
-
--- heads by their records
-pub heads-listed : (t : Table) (w : Wanted) (rs : List Headed) → rs ≡ t .decompositions → all (headPasses t w) rs ≡ all (groupPasses t w) (headsOf (t .decompositions))
-heads-listed t w rs e = rw e (sym (all-map (groupPasses t w) (λ (r : Headed). r .head) (t .decompositions)))
 
 -- the test of one codepoint, case by case
 module _ (t : Table) (c : ℕ) where

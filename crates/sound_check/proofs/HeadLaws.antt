@@ -1,12 +1,11 @@
 -- Laws of rule 6, head by head. Assumes nothing.
-use Prim.Native.Nat.{ℕ, zero, suc, _+_, _-_, _<_, _≤_, _/_, _%_}
+use Prim.Native.Nat.{ℕ, zero, suc, _+_, _-_, _≤_, _/_, _%_}
 use native.Mathlib.Omega.{arith}
 use mathlib.Core.Path.{_≡_, refl, sym, _∙_, ap}
-use mathlib.Core.Bool.{Bool, true, false, not, _&&_, _||_, cond, false≢true}
-use mathlib.Core.List.{List, [], _∷_, _++_, map}
+use mathlib.Core.Bool.{Bool, true, false, not, _&&_, _||_, cond}
+use mathlib.Core.List.{List, [], _∷_}
 use mathlib.Core.Option.{Option, none, some, Option·map, Option·getD}
 use lib.ListN.{length, getD, take, drop, length-take}
-use lib.Seq.{sets, sets-eq, take-append-seam}
 use lib.Dec.{leb, eqb}
 use borrow.Author.Tests.{eq-eqb, ne-eqb, eqb-true, eqb-false, le-leb, leb-true}
 use Rattle.lists.specs.Lists.{all, mem, firstWith, joinedMap, isSome, sameList, distinct}
@@ -15,10 +14,10 @@ use Rattle.table.specs.declared.Span.{Span}
 use Rattle.table.specs.declared.Sections.{Sections}
 use Rattle.table.specs.declared.Items.{Items}
 use Rattle.table.specs.declared.Items.the-variants.{At, Nothing}
-use Rattle.table.specs.Table.{ClassRange, Headed, Table}
+use Rattle.table.specs.Table.{Headed, Table}
 use Rattle.table.specs.Layout.{mostItems, mostParts, inFront, countFits, headed}
 use Rattle.table.specs.Lookup.{itemsOf}
-use Rattle.table.specs.Laid.{Laid, theTable, within}
+use Rattle.table.specs.Laid.{Laid, theTable}
 use Rattle.table.specs.Part.{ItemsFound, headsIn}
 use Rattle.table.proofs.SectionLaws.{laid-reads}
 use Rattle.table.proofs.Lookups.{onlyIf-some, inFront-some}
@@ -26,8 +25,7 @@ use Rattle.table.proofs.Records.{count-fits}
 use Rattle.table.proofs.Searches.{items-there, items-missing}
 use Rattle.text.specs.Hangul.{firstSyllable, isSyllable, jamoOf}
 use Rattle.text.specs.Decomposition.{single, round, fourRounds}
-use Rattle.text.specs.Rounds.{Decomposed}
-use Rattle.soundness.specs.Pairs.{decomposesFully, plainHead, sparesHangul, rule6}
+use Rattle.soundness.specs.Pairs.{decomposesFully, heads, plainHead, sparesHangul, rule6}
 use Rattle.sound_check.specs.Parts.{recordsIn, asHeaded}
 use Rattle.sound_check.specs.Heads.{isStable, headsOf, recordOf, headFits, headsFit}
 
@@ -129,17 +127,6 @@ module _ (t : Table) (filled : (c : ℕ) → 1 ≤ length (single t c)) where
   unfolding decomposesFully round
   fully-is c = let s = fourRounds t (c ∷ []) in agree _ _ (stable-fixed s) (fixed-stable s)
 
--- what is written from the start of a list, where there is room
-pub written-front : (t : Table) (c : ℕ) (out new : List ℕ) (r : ℕ) → Decomposed t c out new 0 r → 256 ≤ length out → take r new ≡ fourRounds t (c ∷ [])
-written-front t c out new r d h =
-    let s : List ℕ = fourRounds t (c ∷ []) in
-    let room : 0 + length s ≤ length out = omega (arith, d .written .end, d .few) in
-    let e : new ≡ s ++ drop (0 + length s) out = d .written .put ∙ sets-eq s out 0 room in
-    rw (d .written .end, e) (go s (drop (0 + length s) out))
-  where
-    go : (s r : List ℕ) → take (0 + length s) (s ++ r) ≡ s
-    go s r = let z : 0 + length s ≡ length s = omega arith in rw z (take-append-seam s r)
-
 eqb-turn : (a b : ℕ) → eqb a b ≡ eqb b a
 eqb-turn a b = go (eqb b a) refl
   where
@@ -170,45 +157,43 @@ module _ (part : List ℕ) (c : ℕ) (r : Items) (i : ItemsFound part mostItems 
   head-missing e = ap isSome (sym (items-missing part mostItems _ r i e)) ∙ head-is
 
 -- the first head, and the later ones
-module _ (t : Table) (h : ℕ) (s : List ℕ) (later : List Headed) where
-  heads-step : (d m p : Bool) → decomposesFully t h ≡ d → mem h (headsOf later) ≡ m → plainHead h ≡ p
-      → headsFit t (recordOf h s ∷ later) ≡ cond (p && not m && d) (headsFit t later) false
+module _ (h : ℕ) (s : List ℕ) (later : List Headed) where
+  heads-step : (m p : Bool) → mem h (headsOf later) ≡ m → plainHead h ≡ p → headsFit (recordOf h s ∷ later) ≡ cond (p && not m) (headsFit later) false
   unfolding headsFit
-  heads-step true false true e f g = rw (e, f, g)
-  heads-step true false false e f g = rw (e, f, g) (ends (all (decomposesFully t) (headsOf later) && distinct (headsOf later)))
+  heads-step false true f g = rw (f, g)
+  heads-step false false f g = rw (f, g) (ends (distinct (headsOf later)))
     where
       ends : (a : Bool) → a && false ≡ false
       ends true = refl
       ends false = refl
-  heads-step true true p e f g = rw (e, f) (ends (all (decomposesFully t) (headsOf later)) p)
+  heads-step true p f g = rw f (ends p)
     where
-      ends : (a p : Bool) → a && false && (plainHead h && all plainHead (headsOf later)) ≡ cond (p && false && true) (headsFit t later) false
-      ends true true = refl
-      ends true false = refl
-      ends false true = refl
-      ends false false = refl
-  heads-step false m p e f g = rw e (ends m p)
-    where
-      ends : (m p : Bool) → false ≡ cond (p && not m && false) (headsFit t later) false
-      ends true true = refl
-      ends true false = refl
-      ends false true = refl
-      ends false false = refl
+      ends : (p : Bool) → false ≡ cond (p && false) (headsFit later) false
+      ends true = refl
+      ends false = refl
 
-  heads-split : headsFit t (recordOf h s ∷ later) ≡ cond (headFits t h later) (headsFit t later) false
+  heads-split : headsFit (recordOf h s ∷ later) ≡ cond (headFits h later) (headsFit later) false
   unfolding headFits
-  heads-split = heads-step (decomposesFully t h) (mem h (headsOf later)) (plainHead h) refl refl refl
+  heads-split = heads-step (mem h (headsOf later)) (plainHead h) refl refl
 
-  pub head-broken : headFits t h later ≡ false → false ≡ headsFit t (recordOf h s ∷ later)
+  pub head-broken : headFits h later ≡ false → false ≡ headsFit (recordOf h s ∷ later)
   head-broken e = rw (heads-split, e)
 
-  pub head-later : headFits t h later ≡ true → headsFit t (recordOf h s ∷ later) ≡ headsFit t later
+  pub head-later : headFits h later ≡ true → headsFit (recordOf h s ∷ later) ≡ headsFit later
   head-later e = rw (heads-split, e)
 
-pub heads-none : (t : Table) → true ≡ headsFit t []
+pub heads-none : true ≡ headsFit []
 unfolding headsFit
-heads-none t = refl
+heads-none = refl
 
-pub rule6-is : (t : Table) (rs : List Headed) → rs ≡ t .decompositions → rule6 t ≡ headsFit t rs && all sparesHangul (t .classes)
+pub rule6-is : (t : Table) (rs : List Headed) → rs ≡ t .decompositions → rule6 t ≡ headsFit rs && all (decomposesFully t) (heads t) && all sparesHangul (t .classes)
 unfolding headsFit rule6
-rule6-is t rs e = rw e
+rule6-is t rs e = rw e (go (all (decomposesFully t) (heads t)) (distinct (heads t)) (all plainHead (heads t)) (all sparesHangul (t .classes)))
+  where
+    go : (a b c d : Bool) → a && b && c && d ≡ (b && c) && a && d
+    go true true true d = refl
+    go true true false d = refl
+    go true false c d = refl
+    go false true true d = refl
+    go false true false d = refl
+    go false false c d = refl

@@ -6,6 +6,7 @@ pub mod ApartLaws
 pub mod PairLaws
 pub mod HeadLaws
 pub mod CoverLaws
+pub mod SetLaws
+pub mod PointLaws
 pub mod EndLaws
 pub mod CheckLaws
-pub mod ClimbLaws

@@ -1,14 +1,14 @@
 -- Laws of rule 7, record by record. Assumes nothing.
 use Prim.Native.Nat.{ℕ, suc, _+_, _<_, _≤_}
 use native.Mathlib.Omega.{arith}
-use mathlib.Core.Path.{_≡_, refl, sym, _∙_, ap}
+use mathlib.Core.Path.{_≡_, refl, _∙_, ap}
 use mathlib.Core.Bool.{Bool, true, false, not, _&&_, _||_, cond}
 use mathlib.Core.List.{List, [], _∷_, map}
-use mathlib.Core.Option.{Option, none, some}
+use mathlib.Core.Option.{none, some}
 use lib.ListN.{length, getD, drop, drop-of-length-le}
 use lib.Dec.{eqb}
 use borrow.Author.Tests.{eq-eqb, ne-eqb}
-use Rattle.lists.specs.Lists.{all, any, keep, mem, isSome, sameList, distinctLists}
+use Rattle.lists.specs.Lists.{any, keep, mem, isSome, sameList, distinctLists}
 use Rattle.table.specs.Table.{Headed, Table}
 use Rattle.table.proofs.Lookups.{drop-next}
 use Rattle.text.specs.Hangul.{isLeading, isVowel, isOpenSyllable, isTrailing}

@@ -2,7 +2,7 @@
 use Prim.Native.Nat.{ℕ, zero, suc, _+_, _-_, _<_, _≤_}
 use native.Mathlib.Omega.{arith}
 use mathlib.Core.Path.{_≡_, refl, sym, _∙_, ap}
-use mathlib.Core.Bool.{Bool, true, false, _&&_, _||_}
+use mathlib.Core.Bool.{Bool, true, false, _&&_}
 use mathlib.Core.List.{List, [], _∷_}
 use mathlib.Core.Option.{Option, none, some}
 use lib.ListN.{length, getD, take, drop, length-drop, drop-of-length-le}
@@ -14,7 +14,7 @@ use Rattle.table.specs.Table.{Range, ClassRange, Headed, Group, Whole}
 use Rattle.table.specs.Layout.{inFront, countFits, headed, ranges, classRanges, sequences, group, groups, wholes, mostClass, mostItems}
 use Rattle.table.specs.Laid.{within, Fits}
 use Rattle.table.specs.Part.{RecordsAt, HeadedAt, SequencesAt, GroupsAt, WholesAt, HeadedHere, SequenceHere, GroupHere, WholeHere, countedAt, confusedAt}
-use Rattle.table.proofs.Lookups.{onlyIf-some, inFront-some, drop-next, drop-two, drop-three, Walk, walk-start, walk-on}
+use Rattle.table.proofs.Lookups.{onlyIf-some, inFront-some, drop-next, drop-two, drop-three, Walk, walk-on}
 use Rattle.table.proofs.Records.{records-start, headed-step, headed-end, sequences-step, sequences-end, groups-step, groups-end, wholes-step, wholes-end, within-count, sequence-fits, sequence-items, group-fits, group-reads, group-next}
 use Rattle.sound_check.specs.Parts.{allPairs, allTriples, recordsIn, Holds, asHeaded}
 

@@ -2,18 +2,14 @@
 use Prim.Native.Nat.{ℕ, _≤_, _<_}
 use mathlib.Core.Path.{_≡_}
 use mathlib.Core.Bool.{Bool, true, false, not, _&&_, _||_, cond}
-use mathlib.Core.List.{List, [], _∷_}
-use lib.Dec.{leb, eqb}
-use Rattle.lists.specs.Lists.{all, any, mem}
-use Rattle.table.specs.Table.{Headed, Group, Table}
+use mathlib.Core.List.{List, _++_}
+use lib.Dec.{leb}
+use Rattle.lists.specs.Lists.{any, keep, mem}
+use Rattle.table.specs.Table.{Group, Table}
 use Rattle.table.specs.Layout.{groups}
-use Rattle.table.specs.Lookup.{inRanges, holds}
-use Rattle.table.specs.Part.{inPairs}
+use Rattle.table.specs.Lookup.{holds}
 use Rattle.text.specs.Hangul.{firstSyllable, syllableCount}
 use Rattle.text.specs.Decomposition.{fourRounds}
-use Rattle.text.specs.Rounds.{rounds}
-use Rattle.sound_check.specs.declared.cover.Wanted.{Wanted}
-use Rattle.sound_check.specs.declared.cover.Wanted.the-variants.{Valid, Other}
 use Rattle.soundness.specs.Valid.{countedFrom, groupCharacters}
 use Rattle.sound_check.specs.Parts.{isValid, recordsIn, Holds}
 use Rattle.sound_check.specs.Heads.{headsOf}
@@ -22,23 +18,17 @@ use Rattle.sound_check.specs.Heads.{headsOf}
 abbrev pub inGroups : ℕ → List Group → Bool
 inGroups c gs = any (λ (g : Group). holds g c) gs
 
--- what is wanted of a codepoint: that it is valid, or another than c
-unfoldable pub passes : Table → Wanted → ℕ → Bool
-passes t Valid x = isValid t x
-passes t (Other c) x = not (eqb c x)
+-- those that a group holds
+abbrev pub grouped : List Group → List ℕ → List ℕ
+grouped gs s = keep (λ c. inGroups c gs) s
 
--- what is wanted of the codepoints of the full decomposition of c, where a group holds c
-unfoldable pub groupPasses : Table → Wanted → ℕ → Bool
-unfolding passes fourRounds
-groupPasses t w c = not (inGroups c (t .groups)) || all (passes t w) (fourRounds t (c ∷ []))
-
--- Only heads and syllables decompose to anything but themselves.
 abbrev pub syllables : List ℕ
 syllables = countedFrom firstSyllable syllableCount
 
-unfoldable pub spelledPass : Table → Wanted → Bool
-unfolding groupPasses
-spelledPass t w = all (groupPasses t w) (headsOf (t .decompositions)) && all (groupPasses t w) syllables
+-- the full decompositions of the groups' syllables and heads: no other codepoint decomposes to anything but itself
+unfoldable pub respelled : Table → List ℕ
+unfolding fourRounds
+respelled t = fourRounds t (grouped (t .groups) syllables ++ grouped (t .groups) (headsOf (t .decompositions)))
 
 -- c is in the full decomposition of a group's character
 unfoldable pub spelled : Table → ℕ → Bool
@@ -79,10 +69,3 @@ pub record GroupsPart (t : Table) (part : List ℕ) : Type 0 where
 -- c lies from a to b
 abbrev pub between : ℕ → ℕ → ℕ → Bool
 between a b c = leb a c && leb c b
-
-abbrev pub headPasses : Table → Wanted → Headed → Bool
-headPasses t w r = groupPasses t w (r .head)
-
--- where the answer is yes, c is among what n rounds make of the groups' characters
-pub record Reached (t : Table) (n c : ℕ) (r : Bool) : Type 0 where
-  pub so : r ≡ true → mem c (rounds n t (groupCharacters t)) ≡ true

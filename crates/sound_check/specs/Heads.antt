@@ -1,12 +1,12 @@
 -- What the check asks of decompositions, one by one. Assumes nothing.
 use Prim.Native.Nat.{ℕ}
-use mathlib.Core.Bool.{Bool, true, false, not, _&&_, _||_, cond}
+use mathlib.Core.Bool.{Bool, not, _&&_, _||_}
 use mathlib.Core.List.{List, [], _∷_, map}
 use Rattle.lists.specs.Lists.{all, any, mem, keep, sameList, distinct, distinctLists}
-use Rattle.table.specs.Table.{ClassRange, Headed, Table}
+use Rattle.table.specs.Table.{Headed, Table}
 use Rattle.text.specs.Decomposition.{single}
 use Rattle.text.specs.Composition.{isPair}
-use Rattle.soundness.specs.Pairs.{decomposesFully, plainHead, sparesHangul, isHangulPair}
+use Rattle.soundness.specs.Pairs.{plainHead, sparesHangul, isHangulPair}
 
 -- a record of this head and these items
 abbrev pub recordOf : ℕ → List ℕ → Headed
@@ -45,15 +45,13 @@ isStable t c = sameList (single t c) (c ∷ [])
 abbrev pub headsOf : List Headed → List ℕ
 headsOf rs = map (λ (r : Headed). r .head) rs
 
--- a head keeps rule 6 and is none of the later ones
-unfoldable pub headFits : Table → ℕ → List Headed → Bool
-unfolding decomposesFully
-headFits t h later = plainHead h && not (mem h (headsOf later)) && decomposesFully t h
+-- a head is plain and none of the later ones
+unfoldable pub headFits : ℕ → List Headed → Bool
+headFits h later = plainHead h && not (mem h (headsOf later))
 
--- rule 6, of the heads of a list
-unfoldable pub headsFit : Table → List Headed → Bool
-unfolding decomposesFully
-headsFit t rs = all (decomposesFully t) (headsOf rs) && distinct (headsOf rs) && all plainHead (headsOf rs)
+-- the heads of a list are plain and distinct
+unfoldable pub headsFit : List Headed → Bool
+headsFit rs = distinct (headsOf rs) && all plainHead (headsOf rs)
 
 -- an entry first, last, class gives no jamo and no syllable a class other than 0
 abbrev pub sparesTriple : ℕ → ℕ → ℕ → Bool

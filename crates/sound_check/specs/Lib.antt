@@ -1,5 +1,6 @@
 pub mod Parts
 pub mod Strips
 pub mod Heads
+pub mod Sets
 pub mod Cover
 pub mod Differences

@@ -1,14 +1,14 @@
 -- What the check asks of the words of one section, and how those words hold the records of a table. Assumes nothing.
 use Prim.Native.Nat.{ℕ, _+_, _<_, _≤_}
 use mathlib.Core.Path.{_≡_}
-use mathlib.Core.Bool.{Bool, true, false, _&&_}
+use mathlib.Core.Bool.{Bool, true, _&&_}
 use mathlib.Core.List.{List, [], _∷_, _++_}
 use mathlib.Core.Option.{Option, Option·getD}
 use lib.ListN.{length}
 use Rattle.lists.specs.Lists.{all, isSome}
 use Rattle.table.specs.declared.Span.{Span}
 use Rattle.table.specs.Table.{Headed, ClassRange, Group, Whole, Table}
-use Rattle.table.specs.Layout.{mostItems, headed, sequences, groups, wholes}
+use Rattle.table.specs.Layout.{mostItems, headed, groups, wholes}
 use Rattle.table.specs.Lookup.{inRanges}
 use Rattle.text.specs.Scalar.{isScalar}
 use Rattle.soundness.specs.Scalars.{scalarsBetween, scalarRanges, scalarHeaded}

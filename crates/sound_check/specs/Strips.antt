@@ -2,10 +2,10 @@
 use Prim.Native.Nat.{ℕ, _≤_, _<_}
 use mathlib.Core.Path.{_≡_}
 use mathlib.Core.Bool.{Bool, false, not, _&&_, _||_}
-use mathlib.Core.List.{List, [], _∷_, map}
+use mathlib.Core.List.{List, map}
 use lib.ListN.{length, getD, take, drop}
 use lib.Dec.{eqb}
-use Rattle.lists.specs.Lists.{any, mem, sameList, distinctLists}
+use Rattle.lists.specs.Lists.{mem, sameList, distinctLists}
 use Rattle.table.specs.Table.{Table}
 use Rattle.table.specs.Layout.{sequences}
 use Rattle.tokens.specs.Emoji.{selector, strip}

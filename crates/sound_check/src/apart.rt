@@ -7,14 +7,14 @@ use table::Span;
 use table::lookup::counted;
 use table::lookup::is_valid;
 ghost use mathlib.Core.Path.{_≡_};
-ghost use mathlib.Core.Bool.{_&&_, _||_, not};
+ghost use mathlib.Core.Bool.{_&&_};
 ghost use Prim.Native.Nat.{_<_};
 ghost use lib.ListN.{length, getD, take};
 ghost use Rattle.lists.specs.Lists.{all, any};
 ghost use Rattle.table.specs.Layout.{sequences};
 ghost use Rattle.table.specs.Laid.{Laid, Fits, within, theTable};
 ghost use Rattle.tokens.specs.Emoji.{strip};
-ghost use Rattle.soundness.specs.Sequences.{startsWith, oneValid, isStripped, canStart, apart, rule5};
+ghost use Rattle.soundness.specs.Sequences.{startsWith, oneValid, canStart, apart, rule5};
 ghost use Rattle.sound_check.specs.Parts.{recordsIn, Holds};
 ghost use Rattle.sound_check.specs.Strips.{keepsApart, EmojiPart, standsAlone};
 

@@ -1,67 +1,27 @@
 // Rule 2: valid is exactly the groups' characters and those of their full decompositions.
-use crate::climb::climbs;
+use crate::sets::four_rounds;
+use crate::sets::has;
+use crate::sets::put;
 use table::Sections;
 use table::Span;
 use table::lookup::counted;
-use table::lookup::in_pairs;
 use table::lookup::in_pairs_of;
 use table::lookup::is_valid;
-use text::decompose::append_decomposed;
-ghost use Prim.Native.Nat.{_≤_, _<_, _+_};
+ghost use Prim.Native.Nat.{_<_, _+_};
 ghost use mathlib.Core.Path.{_≡_};
 ghost use mathlib.Core.Bool.{true, false};
 ghost use mathlib.Core.List.{[], _∷_};
+ghost use lib.ListN.{length};
 ghost use Rattle.lists.specs.Lists.{all};
 ghost use Rattle.table.specs.Layout.{groups};
 ghost use Rattle.table.specs.Laid.{Laid, Fits, within, theTable};
 ghost use Rattle.table.specs.Part.{inPairs};
-ghost use Rattle.text.specs.Decomposition.{fourRounds};
 ghost use Rattle.soundness.specs.Scalars.{rule1};
 ghost use Rattle.soundness.specs.Valid.{rule2};
-ghost use Rattle.sound_check.specs.Parts.{recordsIn, Holds, asHeaded};
-ghost use Rattle.sound_check.specs.Cover.{inGroups, passes, between, headPasses, groupPasses, syllables, spelledPass, spelled, pointFits, NextEnd, NextPoint, PointsFit, GroupsPart, Reached};
-
-// What is wanted of a codepoint: that it is valid, or another than this one.
-pub enum Wanted {
-    Valid,
-    Other(u32),
-}
-
-// Whether a codepoint is what is wanted.
-fn passes(words: &[u32], ix: Sections, w: Wanted, x: u32) -> bool
-    requires { ⌜ Laid (now words) ix ⌝ }
-    ensures { λ r. ⌜ r ≡ passes (theTable (now (words .entry))) w x ⌝ }
-{
-    match w {
-        Wanted::Valid => is_valid(words, ix, x),
-        Wanted::Other(c) => c != x,
-    }
-}
-
-// Whether the items are what is wanted.
-fn items_pass(words: &[u32], ix: Sections, w: Wanted, items: &[u32]) -> bool
-    requires { ⌜ Laid (now words) ix ⌝ }
-    ensures { λ r. ⌜ r ≡ all (passes (theTable (now (words .entry))) w) (now (items .entry)) ⌝ }
-{
-    let mut i: usize = 0;
-    while i < items.len() {
-        if !passes(words, ix, w, items[i]) {
-            return false;
-        }
-        i += 1;
-    }
-    true
-}
-
-// Whether the codepoints of the full decomposition of c are what is wanted.
-fn decomposed_passes(words: &[u32], ix: Sections, w: Wanted, c: u32) -> bool
-    requires { ⌜ Laid (now words) ix ⌝ }
-    ensures { λ r. ⌜ r ≡ all (passes (theTable (now (words .entry))) w) (fourRounds (theTable (now (words .entry))) (c ∷ [])) ⌝ }
-{
-    let mut out: [u32; 256] = [0; 256];
-    let n = append_decomposed(words, ix, &mut out, 0, c);
-    items_pass(words, ix, w, &out[..n])
-}
+ghost use Rattle.sound_check.specs.Parts.{recordsIn, Holds, asHeaded, isValid};
+ghost use Rattle.sound_check.specs.Heads.{headsOf};
+ghost use Rattle.sound_check.specs.Sets.{setWords, isPoint, ifHeld, SetOf, Added};
+ghost use Rattle.sound_check.specs.Cover.{inGroups, between, syllables, grouped, respelled, pointFits, NextEnd, NextPoint, PointsFit, GroupsPart};
 
 // Whether some group of a part holds c.
 pub fn in_groups(part: &[u32], c: u32) -> bool
@@ -79,57 +39,96 @@ pub fn in_groups(part: &[u32], c: u32) -> bool
     false
 }
 
-// Whether a group holds c and the codepoints of its full decomposition are not all what is wanted: the answer is no then.
-fn group_passes(words: &[u32], ix: Sections, gs: &[u32], w: Wanted, c: u32) -> bool
-    requires { ⌜ Laid (now words) ix ⌝ }
-    requires { ⌜ GroupsPart (theTable (now words)) (now gs) ⌝ }
-    ensures { λ r. ⌜ r ≡ groupPasses (theTable (now (words .entry))) w c ⌝ }
+// Puts c into the set, if a group holds it.
+fn put_grouped(gs: &[u32], set: &mut [u32], c: u32)
+    requires { ⌜ Holds groups (now gs) ⌝ }
+    requires { ⌜ length (now set) ≡ setWords ⌝ }
+    requires { ⌜ c < 0x110000 ⌝ }
+    ensures { λ _. ⌜ Added (now (set .entry)) (now (set .exit)) (grouped (recordsIn groups (now (gs .entry))) (c ∷ [])) ⌝ }
 {
-    if !in_groups(gs, c) {
-        return true;
+    if in_groups(gs, c) {
+        put(set, c);
     }
-    decomposed_passes(words, ix, w, c)
 }
 
-// The same for the heads of records.
-fn heads_pass(words: &[u32], ix: Sections, gs: &[u32], w: Wanted, part: &[u32]) -> bool
-    requires { ⌜ Laid (now words) ix ⌝ }
-    requires { ⌜ GroupsPart (theTable (now words)) (now gs) ⌝ }
+// Puts the heads that a group holds into the set.
+fn put_heads(gs: &[u32], part: &[u32], set: &mut [u32])
+    requires { ⌜ Holds groups (now gs) ⌝ }
     requires { ⌜ Holds asHeaded (now part) ⌝ }
-    ensures { λ r. ⌜ r ≡ all (headPasses (theTable (now (words .entry))) w) (recordsIn asHeaded (now (part .entry))) ⌝ }
+    requires { ⌜ all isPoint (headsOf (recordsIn asHeaded (now part))) ≡ true ⌝ }
+    requires { ⌜ length (now set) ≡ setWords ⌝ }
+    ensures { λ _. ⌜ Added (now (set .entry)) (now (set .exit)) (grouped (recordsIn groups (now (gs .entry))) (headsOf (recordsIn asHeaded (now (part .entry))))) ⌝ }
 {
     let mut i: usize = 0;
     while i < part.len() {
         let s = counted(part, i + 1);
-        if !group_passes(words, ix, gs, w, part[i]) {
-            return false;
-        }
+        put_grouped(gs, set, part[i]);
         i = s.to;
+    }
+}
+
+fn put_heads_of(words: &[u32], gs: &[u32], s: Span, set: &mut [u32])
+    requires { ⌜ Holds groups (now gs) ⌝ }
+    requires { ⌜ Fits (now words) s ⌝ }
+    requires { ⌜ Holds asHeaded (within s (now words)) ⌝ }
+    requires { ⌜ all isPoint (headsOf (recordsIn asHeaded (within s (now words)))) ≡ true ⌝ }
+    requires { ⌜ length (now set) ≡ setWords ⌝ }
+    ensures { λ _. ⌜ Added (now (set .entry)) (now (set .exit)) (grouped (recordsIn groups (now (gs .entry))) (headsOf (recordsIn asHeaded (within s (now (words .entry)))))) ⌝ }
+{
+    let from = s.from;
+    let to = s.to;
+    put_heads(gs, &words[from..to], set);
+}
+
+// The same for the syllables.
+fn put_syllables(gs: &[u32], set: &mut [u32])
+    requires { ⌜ Holds groups (now gs) ⌝ }
+    requires { ⌜ length (now set) ≡ setWords ⌝ }
+    ensures { λ _. ⌜ Added (now (set .entry)) (now (set .exit)) (grouped (recordsIn groups (now (gs .entry))) syllables) ⌝ }
+{
+    let mut c: u32 = 0xAC00;
+    while c < 0xAC00 + 11172 {
+        put_grouped(gs, set, c);
+        c += 1;
+    }
+}
+
+// Puts the codepoints of the full decompositions of the groups' heads and syllables into an empty set.
+fn spell(words: &[u32], ix: Sections, gs: &[u32], set: &mut [u32])
+    requires { ⌜ Laid (now words) ix ⌝ }
+    requires { ⌜ GroupsPart (theTable (now words)) (now gs) ⌝ }
+    requires { ⌜ rule1 (theTable (now words)) ≡ true ⌝ }
+    requires { ⌜ SetOf (now set) [] ⌝ }
+    ensures { λ _. ⌜ SetOf (now (set .exit)) (respelled (theTable (now (words .entry)))) ⌝ }
+{
+    put_heads_of(words, gs, ix.decompositions, set);
+    put_syllables(gs, set);
+    let mut other = [0u32; 34816];
+    four_rounds(words, ix, set, &mut other);
+}
+
+// Whether c is valid, where the set holds it.
+fn valid_at(words: &[u32], ix: Sections, set: &[u32], c: u32) -> bool
+    requires { ⌜ Laid (now words) ix ⌝ }
+    requires { ⌜ length (now set) ≡ setWords ⌝ }
+    requires { ⌜ c < 0x110000 ⌝ }
+    ensures { λ r. ⌜ r ≡ ifHeld (isValid (theTable (now (words .entry)))) (now (set .entry)) c ⌝ }
+{
+    if has(set, c) {
+        return is_valid(words, ix, c);
     }
     true
 }
 
-fn heads_pass_of(words: &[u32], ix: Sections, gs: &[u32], w: Wanted, s: Span) -> bool
+// Whether the codepoints of the set are valid.
+fn all_valid(words: &[u32], ix: Sections, set: &[u32]) -> bool
     requires { ⌜ Laid (now words) ix ⌝ }
-    requires { ⌜ GroupsPart (theTable (now words)) (now gs) ⌝ }
-    requires { ⌜ Fits (now words) s ⌝ }
-    requires { ⌜ Holds asHeaded (within s (now words)) ⌝ }
-    ensures { λ r. ⌜ r ≡ all (headPasses (theTable (now (words .entry))) w) (recordsIn asHeaded (within s (now (words .entry)))) ⌝ }
+    requires { ⌜ SetOf (now set) (respelled (theTable (now words))) ⌝ }
+    ensures { λ r. ⌜ r ≡ all (isValid (theTable (now (words .entry)))) (respelled (theTable (now (words .entry)))) ⌝ }
 {
-    let from = s.from;
-    let to = s.to;
-    heads_pass(words, ix, gs, w, &words[from..to])
-}
-
-// The same for the syllables.
-fn syllables_pass(words: &[u32], ix: Sections, gs: &[u32], w: Wanted) -> bool
-    requires { ⌜ Laid (now words) ix ⌝ }
-    requires { ⌜ GroupsPart (theTable (now words)) (now gs) ⌝ }
-    ensures { λ r. ⌜ r ≡ all (groupPasses (theTable (now (words .entry))) w) syllables ⌝ }
-{
-    let mut c: u32 = 0xAC00;
-    while c < 0xAC00 + 11172 {
-        if !group_passes(words, ix, gs, w, c) {
+    let mut c: u32 = 0;
+    while c < 0x110000 {
+        if !valid_at(words, ix, set, c) {
             return false;
         }
         c += 1;
@@ -137,48 +136,12 @@ fn syllables_pass(words: &[u32], ix: Sections, gs: &[u32], w: Wanted) -> bool
     true
 }
 
-// Whether the codepoints of the full decompositions of the groups' heads and syllables are what is wanted.
-fn spelled_pass(words: &[u32], ix: Sections, gs: &[u32], w: Wanted) -> bool
-    requires { ⌜ Laid (now words) ix ⌝ }
-    requires { ⌜ GroupsPart (theTable (now words)) (now gs) ⌝ }
-    ensures { λ r. ⌜ r ≡ spelledPass (theTable (now (words .entry))) w ⌝ }
-{
-    if !heads_pass_of(words, ix, gs, w, ix.decompositions) {
-        return false;
-    }
-    syllables_pass(words, ix, gs, w)
-}
-
-fn climbs_of(words: &[u32], ix: Sections, gs: &[u32], s: Span, c: u32) -> bool
-    requires { ⌜ Laid (now words) ix ⌝ }
-    requires { ⌜ GroupsPart (theTable (now words)) (now gs) ⌝ }
-    requires { ⌜ Fits (now words) s ⌝ }
-    requires { ⌜ Holds asHeaded (within s (now words)) ⌝ }
-    ensures { λ r. ⌜ Reached (theTable (now (words .entry))) 4 c r ⌝ }
-{
-    let from = s.from;
-    let to = s.to;
-    climbs(words, ix, gs, &words[from..to], c, 4)
-}
-
-// Whether c, which no group holds, is in the full decomposition of a group's character. The way up from c says yes in most
-// cases; else the decompositions of all of the groups' heads and syllables are asked.
-fn is_spelled(words: &[u32], ix: Sections, gs: &[u32], c: u32) -> bool
-    requires { ⌜ Laid (now words) ix ⌝ }
-    requires { ⌜ GroupsPart (theTable (now words)) (now gs) ⌝ }
-    requires { ⌜ inGroups c (theTable (now words) .groups) ≡ false ⌝ }
-    ensures { λ r. ⌜ r ≡ spelled (theTable (now (words .entry))) c ⌝ }
-{
-    if climbs_of(words, ix, gs, ix.decompositions, c) {
-        return true;
-    }
-    !spelled_pass(words, ix, gs, Wanted::Other(c))
-}
-
 // Whether c keeps rule 2: a valid one is spelled by the groups, a group's character is valid.
-fn point_fits(words: &[u32], ix: Sections, gs: &[u32], c: u32) -> bool
+fn point_fits(words: &[u32], ix: Sections, gs: &[u32], set: &[u32], c: u32) -> bool
     requires { ⌜ Laid (now words) ix ⌝ }
     requires { ⌜ GroupsPart (theTable (now words)) (now gs) ⌝ }
+    requires { ⌜ SetOf (now set) (respelled (theTable (now words))) ⌝ }
+    requires { ⌜ c < 0x110000 ⌝ }
     ensures { λ r. ⌜ r ≡ pointFits (theTable (now (words .entry))) c ⌝ }
 {
     let valid = is_valid(words, ix, c);
@@ -188,7 +151,7 @@ fn point_fits(words: &[u32], ix: Sections, gs: &[u32], c: u32) -> bool
     if !valid {
         return true;
     }
-    is_spelled(words, ix, gs, c)
+    has(set, c)
 }
 
 // The place up to which the answer for one pair does not change from c on, if it is below r.
@@ -268,14 +231,15 @@ fn next_point(words: &[u32], ix: Sections, gs: &[u32], c: u32) -> u32
 }
 
 // Whether every codepoint keeps rule 2.
-fn points_fit(words: &[u32], ix: Sections, gs: &[u32]) -> bool
+fn points_fit(words: &[u32], ix: Sections, gs: &[u32], set: &[u32]) -> bool
     requires { ⌜ Laid (now words) ix ⌝ }
     requires { ⌜ GroupsPart (theTable (now words)) (now gs) ⌝ }
+    requires { ⌜ SetOf (now set) (respelled (theTable (now words))) ⌝ }
     ensures { λ r. ⌜ PointsFit (theTable (now (words .entry))) 0x110000 r ⌝ }
 {
     let mut c: u32 = 0;
     while c < 0x110000 {
-        if !point_fits(words, ix, gs, c) {
+        if !point_fits(words, ix, gs, set, c) {
             return false;
         }
         c = next_point(words, ix, gs, c);
@@ -295,10 +259,12 @@ fn valid_fits(words: &[u32], ix: Sections, gs: &[u32]) -> bool
     if is_valid(words, ix, 0xFE0F) {
         return false;
     }
-    if !points_fit(words, ix, gs) {
+    let mut set = [0u32; 34816];
+    spell(words, ix, gs, &mut set);
+    if !points_fit(words, ix, gs, &set) {
         return false;
     }
-    spelled_pass(words, ix, gs, Wanted::Valid)
+    all_valid(words, ix, &set)
 }
 
 fn valid_fits_of(words: &[u32], ix: Sections, s: Span) -> bool

@@ -1,11 +1,11 @@
 // The soundness check of a name table.
 pub mod apart;
-pub mod climb;
 pub mod cover;
 pub mod heads;
 pub mod pairs;
 pub mod scalars;
 pub mod sequences;
+pub mod sets;
 pub mod valid;
 
 use answers::Soundness;

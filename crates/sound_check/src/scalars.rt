@@ -3,12 +3,11 @@ use table::Sections;
 use table::Span;
 use table::lookup::counted;
 ghost use mathlib.Core.Path.{_≡_};
-ghost use mathlib.Core.Bool.{_&&_};
 ghost use Rattle.lists.specs.Lists.{all};
 ghost use Rattle.table.specs.Layout.{sequences, groups, wholes};
 ghost use Rattle.table.specs.Laid.{Laid, Fits, within, theTable};
 ghost use Rattle.text.specs.Scalar.{isScalar};
-ghost use Rattle.soundness.specs.Scalars.{scalarsBetween, scalarRanges, scalarHeaded, rule1};
+ghost use Rattle.soundness.specs.Scalars.{scalarsBetween, scalarHeaded, rule1};
 ghost use Rattle.sound_check.specs.Parts.{allPairs, allTriples, recordsIn, Holds, asHeaded, scalarTriple, scalarGroup, scalarWhole, rangesScalar, recordsScalar, othersScalar, behindCount, ExcludedFits};
 
 // Whether every codepoint from first to last is a scalar value.

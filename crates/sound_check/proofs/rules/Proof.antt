@@ -66,7 +66,7 @@ returns-5 c =
     )
 
 keeps-rule6-requires : tie.Need-keeps-rule6-requires
-keeps-rule6-requires c κs = c .before .before .before .before .before .before .before .before .before .before .before .pre
+keeps-rule6-requires c κs = (c .before .before .before .before .before .before .before .before .before .before .before .pre, sym (c .before .before .before .before .before .before .before .before .before .keeps-rule1 .ensures) ∙ not-false _ (c .before .before .before .before .before .before .before .before .if1 .left))
 
 returns-6 : tie.Need-returns-6
 returns-6 c =

@@ -9,24 +9,23 @@ use Rattle.sound_check.proofs.cover.points_fit.Statement.{statement}
 use Rattle.sound_check.proofs.cover.points_fit.Tie as tie
 
 abbrev Inv-loop : tie.InvT-loop
-Inv-loop words ix gs c₀ c = PointWalk (theTable words) 0x110000 c
+Inv-loop words ix gs set c₀ c = PointWalk (theTable words) 0x110000 c
 
 abbrev μ-loop : tie.MeasureT-loop
-μ-loop words ix gs c₀ c = 0x110000 - c
+μ-loop words ix gs set c₀ c = 0x110000 - c
 
 loop-holds : tie.Need-loop-holds Inv-loop μ-loop
 loop-holds c = points-start _ _
 
 point-fits-requires : tie.Need-point-fits-requires Inv-loop μ-loop
-point-fits-requires c κs = c .before .before .before .before .pre
+point-fits-requires c κs = (c .before .before .before .before .before .pre .0, (c .before .before .before .before .before .pre .1 .0, (c .before .before .before .before .before .pre .1 .1, c .loop-test .taken)))
 
 returns : tie.Need-returns Inv-loop μ-loop
 returns c =
     points-broken _ _ (c .before .before .before .loop .c) (sym (c .before .point-fits .ensures) ∙ not-true _ (c .if1 .taken))
 
 next-point-requires : tie.Need-next-point-requires Inv-loop μ-loop
-next-point-requires c κs =
-    (c .before .before .before .before .before .before .pre .0, (c .before .before .before .before .before .before .pre .1, c .before .before .loop-test .taken))
+next-point-requires c κs = (c .before .before .before .before .before .before .before .pre .0, (c .before .before .before .before .before .before .before .pre .1 .0, c .before .before .loop-test .taken))
 
 loop-less : tie.Need-loop-less Inv-loop μ-loop
 loop-less c = omega (arith, c .next-point .ensures .above, c .next-point .ensures .below)

@@ -17,7 +17,7 @@ part-head-fits-end : tie.Need-part-head-fits-end
 part-head-fits-end c = search needs
 
 head-fits-requires : tie.Need-head-fits-requires
-head-fits-requires c κs = (c .before .before .before .pre .0, rw (tail-is _ _) (c .before .before .before .pre .1 .1))
+head-fits-requires c κs = rw (tail-is _ _) (c .before .before .pre .1)
 
 returns : tie.Need-returns
 returns c = rw (tail-is _ _) at (c .head-fits .ensures)

@@ -1,10 +1,8 @@
 -- `soundness::heads::heads_fit` meets its contract, by the laws of a walk over records. Assumes nothing.
-use denote.Ref.{now}
 use Prim.Native.Nat.{_-_}
 use mathlib.Core.Path.{sym, _∙_}
 use borrow.Author.Tests.{not-true, not-false}
 use lib.ListN.{length}
-use Rattle.table.specs.Laid.{theTable}
 use Rattle.sound_check.specs.Parts.{asHeaded}
 use Rattle.sound_check.specs.Heads.{headsFit}
 use Rattle.sound_check.proofs.Walks.{Through, through-start, head-room, head-fits, head-less, heads-left, heads-stop, heads-pass, heads-last}
@@ -15,13 +13,13 @@ use Rattle.sound_check.proofs.heads.heads_fit.Statement.{statement}
 use Rattle.sound_check.proofs.heads.heads_fit.Tie as tie
 
 abbrev Inv-loop : tie.InvT-loop
-Inv-loop words ix part i₀ i = Through (headsFit (theTable words)) asHeaded part i
+Inv-loop part i₀ i = Through headsFit asHeaded part i
 
 abbrev μ-loop : tie.MeasureT-loop
-μ-loop words ix part i₀ i = length part - i
+μ-loop part i₀ i = length part - i
 
 loop-holds : tie.Need-loop-holds Inv-loop μ-loop
-loop-holds c = through-start _ _ _ (c .before .before .pre .1)
+loop-holds c = through-start _ _ _ (c .before .pre)
 
 add-counted : tie.Need-add-counted Inv-loop μ-loop
 add-counted c = search needs
@@ -36,24 +34,19 @@ shared-slice-read-head-fits-of : tie.Need-shared-slice-read-head-fits-of Inv-loo
 shared-slice-read-head-fits-of c = search needs
 
 head-fits-of-requires : tie.Need-head-fits-of-requires Inv-loop μ-loop
-head-fits-of-requires c κs =
-    (c .before .before .before .before .before .before .pre .0, (head-fits _ _ (c .before .before .before .loop .i) (c .before .before .before .loop .inv) (c .before .before .loop-test .taken) (c .before .counted .result) (c .before .counted .ensures), heads-left _ _ (c .before .before .before .loop .i) (c .before .before .before .loop .inv) (c .before .before .loop-test .taken) (c .before .counted .result) (c .before .counted .ensures)))
+head-fits-of-requires c κs = (head-fits _ _ (c .before .before .before .loop .i) (c .before .before .before .loop .inv) (c .before .before .loop-test .taken) (c .before .counted .result) (c .before .counted .ensures), heads-left _ _ (c .before .before .before .loop .i) (c .before .before .before .loop .inv) (c .before .before .loop-test .taken) (c .before .counted .result) (c .before .counted .ensures))
 
 returns : tie.Need-returns Inv-loop μ-loop
-returns c =
-    head-broken (theTable (now (c .before .before .before .before .before .before .before .before .args .words))) _ _ _ (sym (c .before .head-fits-of .ensures) ∙ not-true _ (c .if1 .taken)) ∙ heads-stop _ _ (c .before .before .before .before .before .loop .i) (c .before .before .before .before .before .loop .inv) (c .before .before .before .before .loop-test .taken) (c .before .before .before .counted .result) (c .before .before .before .counted .ensures)
+returns c = head-broken _ _ _ (sym (c .before .head-fits-of .ensures) ∙ not-true _ (c .if1 .taken)) ∙ heads-stop _ _ (c .before .before .before .before .before .loop .i) (c .before .before .before .before .before .loop .inv) (c .before .before .before .before .loop-test .taken) (c .before .before .before .counted .result) (c .before .before .before .counted .ensures)
 
 loop-less : tie.Need-loop-less Inv-loop μ-loop
-loop-less c =
-    omega (arith, head-less _ _ (c .before .before .before .before .before .loop .i) (c .before .before .before .before .before .loop .inv) (c .before .before .before .before .loop-test .taken) (c .before .before .before .counted .result) (c .before .before .before .counted .ensures))
+loop-less c = omega (arith, head-less _ _ (c .before .before .before .before .before .loop .i) (c .before .before .before .before .before .loop .inv) (c .before .before .before .before .loop-test .taken) (c .before .before .before .counted .result) (c .before .before .before .counted .ensures))
 
 loop-again : tie.Need-loop-again Inv-loop μ-loop
-loop-again c =
-    heads-pass _ _ (c .before .before .before .before .before .loop .i) (c .before .before .before .before .before .loop .inv) (c .before .before .before .before .loop-test .taken) (c .before .before .before .counted .result) (c .before .before .before .counted .ensures) (head-later (theTable (now (c .before .before .before .before .before .before .before .before .args .words))) _ _ _ (sym (c .before .head-fits-of .ensures) ∙ not-false _ (c .if1 .left)))
+loop-again c = heads-pass _ _ (c .before .before .before .before .before .loop .i) (c .before .before .before .before .before .loop .inv) (c .before .before .before .before .loop-test .taken) (c .before .before .before .counted .result) (c .before .before .before .counted .ensures) (head-later _ _ _ (sym (c .before .head-fits-of .ensures) ∙ not-false _ (c .if1 .left)))
 
 returns-2 : tie.Need-returns-2 Inv-loop μ-loop
-returns-2 c =
-    heads-none (theTable (now (c .before .before .before .before .args .words))) ∙ heads-last _ _ (c .before .loop .i) (c .before .loop .inv) (c .loop-test .left)
+returns-2 c = heads-none ∙ heads-last _ _ (c .before .loop .i) (c .before .loop .inv) (c .loop-test .left)
 
 pub heads-fit-spec : {M : Type 1} → statement M
 heads-fit-spec =

@@ -12,20 +12,27 @@ use Rattle.sound_check.proofs.heads.keeps_rule6.Statement.{statement}
 use Rattle.sound_check.proofs.heads.keeps_rule6.Tie as tie
 
 heads-fit-of-requires : tie.Need-heads-fit-of-requires
-heads-fit-of-requires c κs = (c .before .pre, (laid-fits _ _ (c .before .pre) .decompositions, decompositions-hold _ _ (c .before .pre)))
+heads-fit-of-requires c κs = (laid-fits _ _ (c .before .pre .0) .decompositions, decompositions-hold _ _ (c .before .pre .0))
 
 returns : tie.Need-returns
-returns c =
-    rw (rule6-is (theTable (now (c .before .before .before .args .words))) _ (decompositions-are _ _ (c .before .before .before .pre)), sym (c .before .heads-fit-of .ensures) ∙ not-true _ (c .if1 .taken))
+returns c = rw (rule6-is (theTable (now (c .before .before .before .args .words))) _ (decompositions-are _ _ (c .before .before .before .pre .0)), sym (c .before .heads-fit-of .ensures) ∙ not-true _ (c .if1 .taken))
 
-classes-spare-of-requires : tie.Need-classes-spare-of-requires
-classes-spare-of-requires c κs = laid-fits _ _ (c .before .before .before .pre) .classes
+decompose-fully-requires : tie.Need-decompose-fully-requires
+decompose-fully-requires c κs = c .before .before .before .pre
 
 returns-2 : tie.Need-returns-2
 returns-2 c =
-    rw (rule6-is (theTable (now (c .before .before .before .before .args .words))) _ (decompositions-are _ _ (c .before .before .before .before .pre)), sym (c .before .before .heads-fit-of .ensures) ∙ not-false _ (c .before .if1 .left))
-    (c .classes-spare-of .ensures ∙ triples-all sparesTriple _ _ (laid-reads _ _ (c .before .before .before .before .pre) .classes))
+    rw (rule6-is (theTable (now (c .before .before .before .before .before .args .words))) _ (decompositions-are _ _ (c .before .before .before .before .before .pre .0)), sym (c .before .before .before .heads-fit-of .ensures) ∙ not-false _ (c .before .before .if1 .left), sym (c .before .decompose-fully .ensures) ∙ not-true _ (c .if2 .taken))
+
+classes-spare-of-requires : tie.Need-classes-spare-of-requires
+classes-spare-of-requires c κs = laid-fits _ _ (c .before .before .before .before .before .pre .0) .classes
+
+returns-3 : tie.Need-returns-3
+returns-3 c =
+    rw (rule6-is (theTable (now (c .before .before .before .before .before .before .args .words))) _ (decompositions-are _ _ (c .before .before .before .before .before .before .pre .0)), sym (c .before .before .before .before .heads-fit-of .ensures) ∙ not-false _ (c .before .before .before .if1 .left), sym (c .before .before .decompose-fully .ensures) ∙ not-false _ (c .before .if2 .left))
+    (c .classes-spare-of .ensures ∙ triples-all sparesTriple _ _ (laid-reads _ _ (c .before .before .before .before .before .before .pre .0) .classes))
 
 pub keeps-rule6-spec : {M : Type 1} → statement M
 keeps-rule6-spec =
-    tie.close (tie.spec heads-fit-of-requires returns classes-spare-of-requires returns-2)
+    tie.close
+    (tie.spec heads-fit-of-requires returns decompose-fully-requires returns-2 classes-spare-of-requires returns-3)

@@ -1,6 +1,5 @@
 -- `soundness::sequences::plain_sequence` meets its contract. Assumes nothing.
-use mathlib.Core.Path.{sym, _∙_}
-use mathlib.Core.Path.{ap}
+use mathlib.Core.Path.{sym, _∙_, ap}
 use mathlib.Core.Bool.{not}
 use borrow.Author.Needs.{needs}
 use Rattle.sound_check.proofs.sequences.plain_sequence.Statement.{statement}

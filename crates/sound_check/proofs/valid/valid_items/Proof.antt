@@ -5,7 +5,7 @@ use borrow.Author.Tests.{not-true, not-false}
 use lib.ListN.{length}
 use Rattle.table.proofs.Lookups.{Walk, walk-start}
 use Rattle.lists.specs.Lists.{all}
-use Rattle.table.specs.Laid.{Laid, theTable}
+use Rattle.table.specs.Laid.{theTable}
 use Rattle.sound_check.specs.Parts.{isValid}
 use Rattle.sound_check.proofs.Walks.{items-broken, items-on, items-done}
 use borrow.Author.Needs.{needs}

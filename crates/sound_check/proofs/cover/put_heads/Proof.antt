@@ -1,0 +1,67 @@
+-- `soundness::cover::put_heads` meets its contract, by the laws of a walk over records. Assumes nothing.
+use Prim.Native.Nat.{_-_}
+use native.Mathlib.Omega.{arith}
+use mathlib.Core.Path.{sym, _∙_}
+use lib.ListN.{length}
+use borrow.Author.Needs.{needs}
+use Rattle.table.specs.Layout.{groups}
+use Rattle.sound_check.specs.Parts.{recordsIn}
+use Rattle.sound_check.specs.Cover.{grouped}
+use Rattle.sound_check.proofs.Walks.{head-room, head-less}
+use Rattle.sound_check.proofs.SetLaws.{kept}
+use Rattle.sound_check.proofs.PointLaws.{HeadFill, head-fill-start, head-fill-point, head-fill-on, head-fill-done}
+use Rattle.sound_check.proofs.cover.put_heads.Statement.{statement}
+use Rattle.sound_check.proofs.cover.put_heads.Tie as tie
+
+abbrev Inv-loop : tie.InvT-loop
+Inv-loop gs part set₀ i₀ set i = HeadFill (grouped (recordsIn groups gs)) part set₀ set i
+
+abbrev μ-loop : tie.MeasureT-loop
+μ-loop gs part set₀ i₀ set i = length part - i
+
+loop-holds : tie.Need-loop-holds Inv-loop μ-loop
+loop-holds c = head-fill-start _ (kept _) _ _ (c .before .before .before .pre .1 .0) (c .before .before .before .pre .1 .1 .0) (c .before .before .before .pre .1 .1 .1)
+
+add-counted : tie.Need-add-counted Inv-loop μ-loop
+add-counted c = search needs
+
+counted-requires : tie.Need-counted-requires Inv-loop μ-loop
+counted-requires c κs = head-room _ _ (c .before .loop .i) (c .before .loop .inv .walk) (c .loop-test .taken)
+
+mul-put-grouped : tie.Need-mul-put-grouped Inv-loop μ-loop
+mul-put-grouped c = search needs
+
+shared-slice-read-put-grouped : tie.Need-shared-slice-read-put-grouped Inv-loop μ-loop
+shared-slice-read-put-grouped c = search needs
+
+put-grouped-requires : tie.Need-put-grouped-requires Inv-loop μ-loop
+put-grouped-requires c κs = (c .before .before .before .before .before .before .before .before .pre .0, (c .before .before .before .before .loop .inv .fill .room, head-fill-point _ (kept _) _ _ _ (c .before .before .before .before .loop .i) (c .before .before .before .before .loop .inv) (c .before .before .before .loop-test .taken)))
+
+loop-less : tie.Need-loop-less Inv-loop μ-loop
+loop-less c = omega (arith, head-less _ _ (c .before .before .before .before .before .before .before .loop .i) (c .before .before .before .before .before .before .before .loop .inv .walk) (c .before .before .before .before .before .before .loop-test .taken) (c .before .before .before .before .before .counted .result) (c .before .before .before .before .before .counted .ensures))
+
+loop-again : tie.Need-loop-again Inv-loop μ-loop
+loop-again c = head-fill-on _ (kept _) _ _ _ (c .before .before .before .before .before .before .before .loop .i) (c .before .before .before .before .before .before .before .loop .inv) (c .before .before .before .before .before .before .loop-test .taken) (c .before .before .before .before .before .counted .result) (c .before .before .before .before .before .counted .ensures) _ (c .before .before .put-grouped .ensures)
+
+same-length : tie.Need-same-length Inv-loop μ-loop
+same-length c = c .before .loop .inv .fill .room ∙ sym (c .before .before .before .before .before .pre .1 .1 .1)
+
+returns : tie.Need-returns Inv-loop μ-loop
+returns c = head-fill-done _ (kept _) _ _ _ (c .before .loop .i) (c .before .loop .inv) (c .loop-test .left)
+
+pub put-heads-spec : {M : Type 1} → statement M
+put-heads-spec =
+    tie.close
+    (tie.spec
+    Inv-loop
+    μ-loop
+    loop-holds
+    add-counted
+    counted-requires
+    mul-put-grouped
+    shared-slice-read-put-grouped
+    put-grouped-requires
+    loop-less
+    loop-again
+    same-length
+    returns)

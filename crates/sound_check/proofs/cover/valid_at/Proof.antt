@@ -1,0 +1,21 @@
+-- `soundness::cover::valid_at` meets its contract. Assumes nothing.
+use mathlib.Core.Path.{sym, _∙_}
+use borrow.Author.Needs.{needs}
+use Rattle.sound_check.proofs.SetLaws.{held-asked, held-not}
+use Rattle.sound_check.proofs.cover.valid_at.Statement.{statement}
+use Rattle.sound_check.proofs.cover.valid_at.Tie as tie
+
+has-requires : tie.Need-has-requires
+has-requires c κs = search needs
+
+is-valid-requires : tie.Need-is-valid-requires
+is-valid-requires c κs = search needs
+
+returns : tie.Need-returns
+returns c = held-asked _ _ _ _ (sym (c .before .before .has .ensures) ∙ c .before .if1 .taken) (c .is-valid .ensures)
+
+returns-2 : tie.Need-returns-2
+returns-2 c = held-not _ _ _ (sym (c .before .has .ensures) ∙ c .if1 .left)
+
+pub valid-at-spec : {M : Type 1} → statement M
+valid-at-spec = tie.close (tie.spec has-requires is-valid-requires returns returns-2)
