@@ -1,8 +1,8 @@
 -- Laws of rule 5, for items with FE0F among them. Assumes nothing.
 use Prim.Native.Nat.{ℕ, _+_, _-_, _<_, _≤_}
 use native.Mathlib.Numerals.{add-one}
-use mathlib.Core.Path.{_≡_, sym, _∙_, ap}
-use mathlib.Core.Bool.{true, false, not, _&&_}
+use mathlib.Core.Path.{_≡_, sym, _∙_, ap, refl}
+use mathlib.Core.Bool.{Bool, true, false, not, _&&_}
 use mathlib.Core.List.{List, [], _∷_, _++_}
 use lib.ListN.{length, getD, take, drop}
 use lib.Seq.{take-suc}
@@ -100,3 +100,12 @@ module _ (t : Table) (part : List ℕ) (p : EmojiPart t part) where
   pub rule5-is : all (keepsApart t) (recordsIn sequences part) ≡ rule5 t
   unfolding rule5 keepsApart strippedEmoji
   rule5-is = rw (p .are) (sym (all-map (λ (s : List ℕ). not (oneValid t s) && apart t s) strip (t .emoji)))
+
+-- the second of two tests decides
+pub and-true : (a b : Bool) → b ≡ true → a ≡ a && b
+and-true true b e = sym e
+and-true false b e = refl
+
+pub and-false : (a b : Bool) → b ≡ false → false ≡ a && b
+and-false true b e = sym e
+and-false false b e = refl

@@ -3,27 +3,19 @@ use Prim.Native.Nat.{ℕ, _+_, _-_, _<_, _≤_}
 use native.Mathlib.Numerals.{add-one}
 use native.Mathlib.Omega.{arith}
 use mathlib.Core.Path.{_≡_, refl, sym, _∙_, ap}
-use mathlib.Core.Bool.{Bool, true, false, not, _&&_, _||_, cond}
+use mathlib.Core.Bool.{Bool, true, false, not, _&&_, _||_}
 use mathlib.Core.List.{List, [], _∷_, _++_, map, append-nil}
 use lib.ListN.{length, getD, take, drop, length-drop, drop-of-length-le}
 use lib.Seq.{take-suc}
 use lib.Dec.{leb, eqb}
 use borrow.Author.Tests.{eq-eqb, ne-eqb, leb-true, leb-false}
-use Rattle.lists.specs.Lists.{all, any, keep, sameList}
+use Rattle.lists.specs.Lists.{all, any, sameList}
+use Rattle.lists.specs.Elements.{keep-append}
 use Rattle.table.proofs.Lookups.{drop-next, drop-two, Walk, walk-on}
 use Rattle.table.specs.Table.{Table}
 use Rattle.tokens.specs.Emoji.{selector, strip}
 use Rattle.soundness.specs.Sequences.{startsWith, twoSelectors, strippedEmoji, rule4}
 use Rattle.sound_check.specs.Strips.{plainSequence, sameStripped, distinctStripped, NextItem}
-
-module _ {A : Type 0} (p : A → Bool) where
-  pub keep-append : (a b : List A) → keep p (a ++ b) ≡ keep p a ++ keep p b
-  keep-append [] b = refl
-  keep-append (x ∷ a) b = go (p x) (keep-append a b)
-    where
-      go : (t : Bool) → keep p (a ++ b) ≡ keep p a ++ keep p b → cond t (x ∷ keep p (a ++ b)) (keep p (a ++ b)) ≡ cond t (x ∷ keep p a) (keep p a) ++ keep p b
-      go true e = ap (λ (l : List A). x ∷ l) e
-      go false e = e
 
 pub strip-append : (a b : List ℕ) → strip (a ++ b) ≡ strip a ++ strip b
 unfolding strip

@@ -83,15 +83,15 @@ fn stands_alone(words: &[u32], ix: Sections, emoji: &[u32], items: &[u32]) -> bo
     one_valid(words, ix, items)
 }
 
-// Whether the start before k stands alone and the item at k can start.
+// Whether the start before k stands alone and the item at k can start, which is asked first: it is cheaper.
 fn parts_at(words: &[u32], ix: Sections, emoji: &[u32], items: &[u32], k: usize) -> bool
     requires { ⌜ Laid (now words) ix ⌝ }
     requires { ⌜ EmojiPart (theTable (now words)) (now emoji) ⌝ }
     requires { ⌜ k < length (now items) ⌝ }
     ensures { λ r. ⌜ r ≡ (standsAlone (theTable (now (words .entry))) (take k (now (items .entry))) && canStart (theTable (now (words .entry))) (getD (now (items .entry)) k 0)) ⌝ }
 {
-    if stands_alone(words, ix, emoji, &items[..k]) {
-        return can_start(words, ix, emoji, items[k]);
+    if can_start(words, ix, emoji, items[k]) {
+        return stands_alone(words, ix, emoji, &items[..k]);
     }
     false
 }

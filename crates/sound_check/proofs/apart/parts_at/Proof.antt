@@ -1,16 +1,14 @@
 -- `soundness::apart::parts_at` meets its contract. Assumes nothing.
+use denote.Ref.{now}
 use mathlib.Core.Path.{sym, _∙_}
-use lib.ListN.{length-take}
+use lib.ListN.{take, length-take}
 use borrow.Author.Needs.{needs}
 use native.Mathlib.Omega.{arith}
+use Rattle.table.specs.Laid.{theTable}
+use Rattle.sound_check.specs.Strips.{standsAlone}
+use Rattle.sound_check.proofs.ApartLaws.{and-true, and-false}
 use Rattle.sound_check.proofs.apart.parts_at.Statement.{statement}
 use Rattle.sound_check.proofs.apart.parts_at.Tie as tie
-
-slice-aggregate-stands-alone : tie.Need-slice-aggregate-stands-alone
-slice-aggregate-stands-alone c = simp length-take (omega arith)
-
-stands-alone-requires : tie.Need-stands-alone-requires
-stands-alone-requires c κs = (c .before .before .before .before .pre .0, c .before .before .before .before .pre .1 .0)
 
 mul-can-start : tie.Need-mul-can-start
 mul-can-start c = search needs
@@ -19,24 +17,29 @@ shared-slice-read-can-start : tie.Need-shared-slice-read-can-start
 shared-slice-read-can-start c = search needs
 
 can-start-requires : tie.Need-can-start-requires
-can-start-requires c κs =
-    (c .before .before .before .before .before .before .before .pre .0, c .before .before .before .before .before .before .before .pre .1 .0)
+can-start-requires c κs = (c .before .before .before .before .pre .0, c .before .before .before .before .pre .1 .0)
+
+slice-aggregate-stands-alone : tie.Need-slice-aggregate-stands-alone
+slice-aggregate-stands-alone c = simp length-take (omega arith)
+
+stands-alone-requires : tie.Need-stands-alone-requires
+stands-alone-requires c κs = (c .before .before .before .before .before .before .before .pre .0, c .before .before .before .before .before .before .before .pre .1 .0)
 
 returns : tie.Need-returns
-returns c =
-    rw (sym (c .before .before .before .stands-alone .ensures) ∙ c .before .before .if1 .taken) (c .can-start .ensures)
+returns c = c .stands-alone .ensures ∙ and-true _ _ (sym (c .before .before .before .can-start .ensures) ∙ c .before .before .if1 .taken)
 
 returns-2 : tie.Need-returns-2
-returns-2 c = rw (sym (c .before .stands-alone .ensures) ∙ c .if1 .left)
+returns-2 c =
+    and-false (standsAlone (theTable (now (c .before .before .before .before .before .before .args .words))) (take (c .before .before .before .before .before .before .args .k) (now (c .before .before .before .before .before .before .args .items)))) _ (sym (c .before .can-start .ensures) ∙ c .if1 .left)
 
 pub parts-at-spec : {M : Type 1} → statement M
 parts-at-spec =
     tie.close
     (tie.spec
-    slice-aggregate-stands-alone
-    stands-alone-requires
     mul-can-start
     shared-slice-read-can-start
     can-start-requires
+    slice-aggregate-stands-alone
+    stands-alone-requires
     returns
     returns-2)
