@@ -1,5 +1,5 @@
 -- Laws of rule 5, for items with FE0F among them. Assumes nothing.
-use Prim.Native.Nat.{ℕ, _+_, _-_, _<_, _≤_}
+use Prim.Native.Nat.{ℕ, _+_, _<_, _≤_}
 use native.Mathlib.Numerals.{add-one}
 use mathlib.Core.Path.{_≡_, sym, _∙_, ap, refl}
 use mathlib.Core.Bool.{Bool, true, false, not, _&&_}

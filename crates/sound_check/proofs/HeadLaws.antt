@@ -5,7 +5,7 @@ use mathlib.Core.Path.{_≡_, refl, sym, _∙_, ap}
 use mathlib.Core.Bool.{Bool, true, false, not, _&&_, _||_, cond}
 use mathlib.Core.List.{List, [], _∷_}
 use mathlib.Core.Option.{Option, none, some, Option·map, Option·getD}
-use lib.ListN.{length, getD, take, drop, length-take}
+use lib.ListN.{length, take, drop, length-take}
 use lib.Dec.{leb, eqb}
 use borrow.Author.Tests.{eq-eqb, ne-eqb, eqb-true, eqb-false, le-leb, leb-true}
 use Rattle.lists.specs.Lists.{all, mem, firstWith, joinedMap, isSome, sameList, distinct}
@@ -28,35 +28,6 @@ use Rattle.text.specs.Decomposition.{single, round, fourRounds}
 use Rattle.soundness.specs.Pairs.{decomposesFully, heads, plainHead, sparesHangul, rule6}
 use Rattle.sound_check.specs.Parts.{recordsIn, asHeaded}
 use Rattle.sound_check.specs.Heads.{isStable, headsOf, recordOf, headFits, headsFit}
-
--- a replacement of one item, or of another number of items
-module _ (t : Table) (c n : ℕ) (items : List ℕ) (is : take n items ≡ single t c) (h : n ≤ length items) where
-  pub stable-other : (n ≡ 1 → ⊥) → false ≡ isStable t c
-  unfolding isStable
-  stable-other e =
-      let k : length (single t c) ≡ n = ap length (sym is) ∙ simp length-take (omega arith) in
-      go (single t c) k
-    where
-      go : (s : List ℕ) → length s ≡ n → false ≡ sameList s (c ∷ [])
-      go [] k = refl
-      go (x ∷ []) k = absurd (e (sym k))
-      go (x ∷ y ∷ s) k = ends (eqb x c)
-        where
-          ends : (b : Bool) → false ≡ b && false
-          ends true = refl
-          ends false = refl
-
-  pub stable-one : n ≡ 1 → eqb (getD items 0 0) c ≡ isStable t c
-  unfolding isStable
-  stable-one e = rw (← is, e) (go items (omega arith))
-    where
-      go : (l : List ℕ) → 1 ≤ length l → eqb (getD l 0 0) c ≡ sameList (take 1 l) (c ∷ [])
-      go [] k = absurd (omega arith)
-      go (x ∷ l) k = ends (eqb x c)
-        where
-          ends : (b : Bool) → b ≡ b && true
-          ends true = refl
-          ends false = refl
 
 -- a record has at least one item
 hasItems : Headed → Bool

@@ -7,6 +7,7 @@ use table::Sections;
 use table::Span;
 use table::lookup::counted;
 use table::lookup::head_in;
+use text::decompose::is_alone;
 use text::decompose::replaced;
 use text::hangul::is_jamo;
 use text::hangul::is_syllable;
@@ -30,12 +31,7 @@ fn is_stable(words: &[u32], ix: Sections, c: u32) -> bool
     ensures { λ r. ⌜ r ≡ isStable (theTable (now (words .entry))) c ⌝ }
 {
     let parts = replaced(words, ix, c);
-    let n = parts.count;
-    let items = parts.items;
-    if n != 1 {
-        return false;
-    }
-    items[0] == c
+    is_alone(parts, c)
 }
 
 // Whether c is neither ASCII nor a syllable nor a jamo.

@@ -2,9 +2,9 @@
 -- (classes) and "The rules of one label" ("Full decomposition is four rounds of single replacement, then canonical ordering").
 -- Assumes nothing.
 use Prim.Native.Nat.{ℕ, _-_}
-use mathlib.Core.Bool.{Bool, true, false, _||_, cond}
+use mathlib.Core.Bool.{_||_, cond}
 use mathlib.Core.List.{List, [], _∷_}
-use mathlib.Core.Option.{Option, none, some, Option·getD}
+use mathlib.Core.Option.{Option, Option·getD}
 use Rattle.lists.specs.Lists.{joinedMap}
 use Rattle.table.specs.Table.{Table}
 use Rattle.table.specs.Lookup.{tableClass, itemsOf}
