@@ -1,22 +1,11 @@
 //! Times one call on each of the worst tables: the name call for refusals 13
 //! and 14, then the soundness check. Not a test.
-//! `cargo run --release --offline -p engine --example worst` runs them all;
-//! `.. -- TEXT` only those soundness tables whose name has this text in it.
-//!
-//! Each soundness check runs in a process of its own, which is ended after
-//! LIMIT.
+//! `cargo run --release --offline -p engine --example worst`
 
 use engine::Soundness;
-use gen::worst::{self, Hard, SOUNDNESS};
+use gen::worst::{self, Hard, DEEP, LONG};
 use plain::TableBuilder;
-use std::process::{Command, ExitCode};
-use std::thread::sleep;
-use std::time::{Duration, Instant};
-
-const LIMIT: Duration = Duration::from_secs(120);
-
-/// As the first argument: run one soundness check, in this process.
-const ALONE: &str = "--alone";
+use std::time::Instant;
 
 fn time(what: &str, name: &[u32], table: TableBuilder) {
     let table = table.to_words();
@@ -56,40 +45,8 @@ fn check(hard: &Hard) {
     println!("{}: {} words, {answer:?}, proved {time:.2} s, plain {plain_time:.2} s", hard.name, words.len());
 }
 
-/// The same in a process of its own; false where it fails.
-fn check_apart(place: usize) -> bool {
-    let program = std::env::current_exe().expect("the path of this program");
-    let mut child = Command::new(program).args([ALONE, &place.to_string()]).spawn().expect("a process");
-    let start = Instant::now();
-    loop {
-        if let Some(status) = child.try_wait().expect("its status") {
-            return status.success();
-        }
-        if start.elapsed() > LIMIT {
-            child.kill().expect("to end it");
-            child.wait().expect("its end");
-            println!("{}: not done after {} s", SOUNDNESS[place].name, LIMIT.as_secs());
-            return true;
-        }
-        sleep(Duration::from_millis(20));
-    }
-}
-
-fn main() -> ExitCode {
-    let arguments: Vec<String> = std::env::args().skip(1).collect();
-    let text = match &arguments[..] {
-        [alone, place] if alone == ALONE => {
-            check(&SOUNDNESS[place.parse::<usize>().expect("a place")]);
-            return ExitCode::SUCCESS;
-        }
-        [text] => text,
-        _ => {
-            names();
-            ""
-        }
-    };
+fn main() {
+    names();
     println!("soundness:");
-    let chosen = (0..SOUNDNESS.len()).filter(|&i| SOUNDNESS[i].name.contains(text));
-    let failed = chosen.filter(|&i| !check_apart(i)).count();
-    if failed == 0 { ExitCode::SUCCESS } else { ExitCode::FAILURE }
+    LONG.iter().chain(&DEEP).for_each(check);
 }

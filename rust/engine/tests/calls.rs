@@ -2,7 +2,8 @@
 
 mod proved;
 
-use compare::{check_again, check_joining, compare, Plain, Settings};
+use compare::{check_again, check_joining, compare, Engine, Plain, Settings};
+use gen::worst::DEEP;
 use proved::Proved;
 
 /// 200,000 random names over 2,000 random tables: answers and every word of
@@ -72,4 +73,13 @@ fn errors_met_in_the_field() {
     // Leaving the old tail of a longer answer.
     assert_eq!(call(&[0x61, 0x62, 0x63, 0x64]), (0, 0, form(&[0x61, 0x62, 0x63, 0x64])));
     assert_eq!(call(&[0x62]), (0, 0, form(&[0x62])));
+}
+
+/// Tables whose decompositions grow or share items.
+#[test]
+fn soundness_of_deep_tables() {
+    standin::shards::on_all_processors(DEEP.len(), |i| {
+        let hard = &DEEP[i];
+        assert_eq!(Proved.soundness(&(hard.table)().to_words()).0, hard.answer, "{}", hard.name);
+    });
 }

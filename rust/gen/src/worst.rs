@@ -18,8 +18,8 @@ pub struct Hard {
     pub answer: u32,
 }
 
-/// Every table for the soundness check.
-pub const SOUNDNESS: [Hard; 23] = [
+/// Long sections: what is asked of each entry is asked of every other.
+pub const LONG: [Hard; 17] = [
     Hard { name: "wide ranges", table: wide_ranges, answer: 1 },
     Hard { name: "wide classes", table: wide_classes, answer: 1 },
     Hard { name: "many ignored pairs", table: many_ignored, answer: 8 },
@@ -35,10 +35,15 @@ pub const SOUNDNESS: [Hard; 23] = [
     Hard { name: "composition pairs and exclusions", table: pairs_and_exclusions, answer: 8 },
     Hard { name: "composition pairs and classes", table: pairs_and_classes, answer: 8 },
     Hard { name: "heads that all grow", table: growing_heads, answer: 6 },
-    Hard { name: "heads that become 256", table: deep_heads, answer: 8 },
-    Hard { name: "heads that become 256, and a long valid section", table: deep_heads_long_valid, answer: 8 },
     Hard { name: "items that no group holds", table: many_items, answer: 8 },
     Hard { name: "chains of four rounds", table: long_chains, answer: 8 },
+];
+
+/// Decompositions that grow or share items: a check that decomposes codepoint by
+/// codepoint takes hours on some of these.
+pub const DEEP: [Hard; 6] = [
+    Hard { name: "heads that become 256", table: deep_heads, answer: 8 },
+    Hard { name: "heads that become 256, and a long valid section", table: deep_heads_long_valid, answer: 8 },
     Hard { name: "many ways up", table: many_ways_up, answer: 8 },
     Hard { name: "jamo of syllables beside deep heads", table: jamo_of_syllables, answer: 8 },
     Hard { name: "thousands that come from syllables alone", table: from_syllables, answer: 6 },
@@ -356,7 +361,7 @@ mod tests {
 
     #[test]
     fn each_table_has_its_answer_by_the_plain_version() {
-        for hard in &SOUNDNESS {
+        for hard in LONG.iter().chain(&DEEP) {
             let words = (hard.table)().to_words();
             let answer = match plain::soundness(&words) {
                 plain::Soundness::Sound => 8,

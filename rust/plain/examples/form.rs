@@ -1,12 +1,12 @@
 //! Normalises a name given as hexadecimal codepoints, with data/names.tab, by
-//! the plain version: `cargo run --release --offline -p plain --example normalise -- 5F 24 41`.
+//! the plain version: `cargo run --release --offline -p plain --example form -- 5F 24 41`.
 
 use std::process::ExitCode;
 
 fn main() -> ExitCode {
     let name: Result<Vec<u32>, _> = std::env::args().skip(1).map(|a| u32::from_str_radix(&a, 16)).collect();
     let Some(name) = name.ok().filter(|n| !n.is_empty()) else {
-        eprintln!("usage: normalise HEX HEX ..");
+        eprintln!("usage: form HEX HEX ..");
         return ExitCode::from(2);
     };
     let path = concat!(env!("CARGO_MANIFEST_DIR"), "/../../data/names.tab");
