@@ -28,7 +28,7 @@ fn doing_it_again_changes_nothing() {
 /// Demand 3, second half.
 #[test]
 fn joining_joins() {
-    check_joining(&Plain, 2_000_000, 1_200);
+    check_joining(&Plain, 2_000_000, 300);
 }
 
 /// Every lookup of the index is that of the table.
