@@ -198,7 +198,8 @@ fn classes_spare_of(words: &[u32], s: Span) -> bool
     classes_spare(&words[from..to])
 }
 
-// Rule 6: four rounds decompose fully; heads are distinct, and no ASCII, syllable or jamo; no entry gives a jamo or a syllable a class other than 0. Rule 1 holds.
+// Rule 6: four rounds decompose fully; heads are distinct, and no ASCII, syllable or jamo; no entry gives a jamo or a syllable a class
+// other than 0. Rule 1 holds.
 pub fn keeps_rule6(words: &[u32], ix: Sections) -> bool
     requires { ⌜ Laid (now words) ix ⌝ }
     requires { ⌜ rule1 (theTable (now words)) ≡ true ⌝ }

@@ -1,4 +1,4 @@
--- `soundness::rules` meets its contract: the rules are asked in their order. Assumes nothing.
+-- `sound_check::rules` meets its contract: the rules are asked in their order. Assumes nothing.
 use mathlib.Core.Path.{sym, _∙_}
 use borrow.Author.Tests.{not-true, not-false}
 use Rattle.sound_check.proofs.CheckLaws.{lowest-is}

@@ -1,4 +1,4 @@
--- `soundness::soundness` meets its contract. Assumes nothing.
+-- `sound_check::soundness` meets its contract. Assumes nothing.
 use denote.Ref.{now}
 use mathlib.Core.Path.{sym, _∙_}
 use Rattle.table.proofs.SectionLaws.{found-laid}

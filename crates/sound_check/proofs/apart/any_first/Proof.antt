@@ -1,4 +1,4 @@
--- `soundness::apart::any_first` meets its contract, by the laws of a walk over records. Assumes nothing.
+-- `sound_check::apart::any_first` meets its contract, by the laws of a walk over records. Assumes nothing.
 use Prim.Native.Nat.{_-_}
 use mathlib.Core.Path.{sym, _∙_}
 use lib.ListN.{length}

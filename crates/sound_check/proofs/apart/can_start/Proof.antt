@@ -1,4 +1,4 @@
--- `soundness::apart::can_start` meets its contract. Assumes nothing.
+-- `sound_check::apart::can_start` meets its contract. Assumes nothing.
 use mathlib.Core.Path.{sym, _∙_}
 use Rattle.sound_check.proofs.ApartLaws.{first-is}
 use Rattle.sound_check.proofs.apart.can_start.Statement.{statement}

@@ -1,4 +1,4 @@
--- `soundness::apart::keeps_apart` meets its contract, start by start. Assumes nothing.
+-- `sound_check::apart::keeps_apart` meets its contract, start by start. Assumes nothing.
 use denote.Ref.{now}
 use Prim.Native.Nat.{_-_}
 use mathlib.Core.Path.{sym, _∙_}

@@ -1,4 +1,4 @@
--- `soundness::apart::keeps_rule5` meets its contract: the words of the section spell the sequences. Assumes nothing.
+-- `sound_check::apart::keeps_rule5` meets its contract: the words of the section spell the sequences. Assumes nothing.
 use mathlib.Core.Path.{_∙_}
 use Rattle.table.proofs.SectionLaws.{laid-fits}
 use Rattle.sound_check.proofs.SectionsHold.{emoji-part}

@@ -1,4 +1,4 @@
--- `soundness::apart::one_valid` meets its contract. Assumes nothing.
+-- `sound_check::apart::one_valid` meets its contract. Assumes nothing.
 use denote.Ref.{now}
 use mathlib.Core.Path.{_∙_}
 use Rattle.table.specs.Laid.{theTable}

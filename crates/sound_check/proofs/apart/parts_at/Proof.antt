@@ -1,4 +1,4 @@
--- `soundness::apart::parts_at` meets its contract. Assumes nothing.
+-- `sound_check::apart::parts_at` meets its contract. Assumes nothing.
 use denote.Ref.{now}
 use mathlib.Core.Path.{sym, _∙_}
 use lib.ListN.{take, length-take}

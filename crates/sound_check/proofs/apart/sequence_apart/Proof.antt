@@ -1,4 +1,4 @@
--- `soundness::apart::sequence_apart` meets its contract. Assumes nothing.
+-- `sound_check::apart::sequence_apart` meets its contract. Assumes nothing.
 use mathlib.Core.Path.{sym, _∙_}
 use Rattle.sound_check.specs.Strips.{keepsApart}
 use Rattle.sound_check.proofs.apart.sequence_apart.Statement.{statement}

@@ -1,4 +1,4 @@
--- `soundness::apart::stands_alone` meets its contract. Assumes nothing.
+-- `sound_check::apart::stands_alone` meets its contract. Assumes nothing.
 use mathlib.Core.Path.{sym, _∙_}
 use Rattle.sound_check.specs.Strips.{standsAlone}
 use Rattle.sound_check.proofs.ApartLaws.{stripped-is}

@@ -1,4 +1,4 @@
--- `soundness::cover::all_valid` meets its contract, codepoint by codepoint. Assumes nothing.
+-- `sound_check::cover::all_valid` meets its contract, codepoint by codepoint. Assumes nothing.
 use Prim.Native.Nat.{_-_}
 use native.Mathlib.Omega.{arith}
 use mathlib.Core.Path.{refl, sym, _∙_}

@@ -1,4 +1,4 @@
--- `soundness::cover::groups_end` meets its contract, by the laws of a walk over groups. Assumes nothing.
+-- `sound_check::cover::groups_end` meets its contract, by the laws of a walk over groups. Assumes nothing.
 use Prim.Native.Nat.{_-_}
 use lib.ListN.{length}
 use Rattle.sound_check.proofs.EndLaws.{GroupEnds, group-ends-start, group-ends-room, group-ends-in, group-ends-less, group-ends-on, group-ends-done}

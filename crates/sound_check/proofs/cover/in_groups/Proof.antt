@@ -1,4 +1,4 @@
--- `soundness::cover::in_groups` meets its contract, by the laws of a walk over groups. Assumes nothing.
+-- `sound_check::cover::in_groups` meets its contract, by the laws of a walk over groups. Assumes nothing.
 use Prim.Native.Nat.{_-_}
 use mathlib.Core.Path.{sym, _∙_}
 use lib.ListN.{length}

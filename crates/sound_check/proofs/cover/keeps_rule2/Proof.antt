@@ -1,4 +1,4 @@
--- `soundness::cover::keeps_rule2` meets its contract: the words of the section spell the groups. Assumes nothing.
+-- `sound_check::cover::keeps_rule2` meets its contract: the words of the section spell the groups. Assumes nothing.
 use Rattle.table.proofs.SectionLaws.{laid-fits}
 use Rattle.sound_check.proofs.SectionsHold.{groups-part}
 use Rattle.sound_check.proofs.cover.keeps_rule2.Statement.{statement}

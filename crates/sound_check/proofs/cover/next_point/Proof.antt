@@ -1,4 +1,4 @@
--- `soundness::cover::next_point` meets its contract. Assumes nothing.
+-- `sound_check::cover::next_point` meets its contract. Assumes nothing.
 use denote.Ref.{now}
 use mathlib.Core.Path.{_≡_, sym, _∙_, ap}
 use mathlib.Core.Bool.{true}

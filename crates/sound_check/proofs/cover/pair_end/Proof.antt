@@ -1,4 +1,4 @@
--- `soundness::cover::pair_end` meets its contract, below the pair, in it and above it. Assumes nothing.
+-- `sound_check::cover::pair_end` meets its contract, below the pair, in it and above it. Assumes nothing.
 use Rattle.sound_check.proofs.EndLaws.{end-below, end-inside, end-above}
 use borrow.Author.Needs.{needs}
 use native.Mathlib.Omega.{arith}

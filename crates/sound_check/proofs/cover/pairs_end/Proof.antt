@@ -1,4 +1,4 @@
--- `soundness::cover::pairs_end` meets its contract, by the laws of a walk over pairs. Assumes nothing.
+-- `sound_check::cover::pairs_end` meets its contract, by the laws of a walk over pairs. Assumes nothing.
 use Prim.Native.Nat.{_-_}
 use lib.ListN.{length}
 use Rattle.sound_check.proofs.EndLaws.{EndWalk, ends-start, ends-on, ends-done}

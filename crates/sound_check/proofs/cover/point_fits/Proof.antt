@@ -1,4 +1,4 @@
--- `soundness::cover::point_fits` meets its contract. Assumes nothing.
+-- `sound_check::cover::point_fits` meets its contract. Assumes nothing.
 use denote.Ref.{now}
 use mathlib.Core.Path.{sym, _∙_, ap}
 use borrow.Author.Tests.{not-true, not-false}

@@ -1,4 +1,4 @@
--- `soundness::cover::points_fit` meets its contract, from end to end. Assumes nothing.
+-- `sound_check::cover::points_fit` meets its contract, from end to end. Assumes nothing.
 use Prim.Native.Nat.{_-_}
 use mathlib.Core.Path.{sym, _∙_}
 use borrow.Author.Tests.{not-true, not-false}

@@ -1,4 +1,4 @@
--- `soundness::cover::put_grouped` meets its contract. Assumes nothing.
+-- `sound_check::cover::put_grouped` meets its contract. Assumes nothing.
 use denote.Ref.{now}
 use mathlib.Core.Path.{sym, _∙_}
 use borrow.Author.Needs.{needs}

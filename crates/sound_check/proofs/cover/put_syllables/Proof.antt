@@ -1,4 +1,4 @@
--- `soundness::cover::put_syllables` meets its contract, syllable by syllable. Assumes nothing.
+-- `sound_check::cover::put_syllables` meets its contract, syllable by syllable. Assumes nothing.
 use Prim.Native.Nat.{_-_, _≤_}
 use native.Mathlib.Omega.{arith}
 use mathlib.Core.Path.{sym, _∙_}

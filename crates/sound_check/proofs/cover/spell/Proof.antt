@@ -1,4 +1,4 @@
--- `soundness::cover::spell` meets its contract: the groups' heads and syllables, and four rounds of them. Assumes nothing.
+-- `sound_check::cover::spell` meets its contract: the groups' heads and syllables, and four rounds of them. Assumes nothing.
 use mathlib.Core.List.{List}
 use mathlib.Core.Path.{_∙_, ap}
 use borrow.Author.Needs.{needs}

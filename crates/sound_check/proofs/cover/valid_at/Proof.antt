@@ -1,4 +1,4 @@
--- `soundness::cover::valid_at` meets its contract. Assumes nothing.
+-- `sound_check::cover::valid_at` meets its contract. Assumes nothing.
 use mathlib.Core.Path.{sym, _∙_}
 use borrow.Author.Needs.{needs}
 use Rattle.sound_check.proofs.SetLaws.{held-asked, held-not}

@@ -1,4 +1,4 @@
--- `soundness::cover::valid_fits` meets its contract: rule 2 by its codepoints. Assumes nothing.
+-- `sound_check::cover::valid_fits` meets its contract: rule 2 by its codepoints. Assumes nothing.
 use denote.Ref.{now}
 use mathlib.Core.Path.{refl, sym, _∙_}
 use borrow.Author.Tests.{not-true, not-false}

@@ -1,4 +1,4 @@
--- `soundness::heads::all_stable` meets its contract, codepoint by codepoint. Assumes nothing.
+-- `sound_check::heads::all_stable` meets its contract, codepoint by codepoint. Assumes nothing.
 use Prim.Native.Nat.{_-_}
 use native.Mathlib.Omega.{arith}
 use mathlib.Core.Path.{refl, sym, _∙_}

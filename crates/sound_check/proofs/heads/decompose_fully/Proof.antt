@@ -1,4 +1,4 @@
--- `soundness::heads::decompose_fully` meets its contract: four rounds of all heads, as a set. Assumes nothing.
+-- `sound_check::heads::decompose_fully` meets its contract: four rounds of all heads, as a set. Assumes nothing.
 use Prim.Native.Nat.{ℕ}
 use mathlib.Core.List.{List}
 use mathlib.Core.Path.{refl, _∙_, ap}

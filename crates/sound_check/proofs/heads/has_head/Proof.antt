@@ -1,4 +1,4 @@
--- `soundness::heads::has_head` meets its contract. Assumes nothing.
+-- `sound_check::heads::has_head` meets its contract. Assumes nothing.
 use Rattle.sound_check.proofs.HeadLaws.{head-there, head-missing}
 use borrow.Author.Needs.{needs}
 use Rattle.sound_check.proofs.heads.has_head.Statement.{statement}

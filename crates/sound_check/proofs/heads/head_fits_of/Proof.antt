@@ -1,4 +1,4 @@
--- `soundness::heads::head_fits_of` meets its contract: the part behind s is what is left. Assumes nothing.
+-- `sound_check::heads::head_fits_of` meets its contract: the part behind s is what is left. Assumes nothing.
 use Rattle.sound_check.proofs.Walks.{tail-is}
 use borrow.Author.Needs.{needs}
 use Rattle.sound_check.proofs.heads.head_fits_of.Statement.{statement}

@@ -1,4 +1,4 @@
--- `soundness::heads::heads_fit` meets its contract, by the laws of a walk over records. Assumes nothing.
+-- `sound_check::heads::heads_fit` meets its contract, by the laws of a walk over records. Assumes nothing.
 use Prim.Native.Nat.{_-_}
 use mathlib.Core.Path.{sym, _∙_}
 use borrow.Author.Tests.{not-true, not-false}

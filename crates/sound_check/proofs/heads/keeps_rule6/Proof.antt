@@ -1,4 +1,4 @@
--- `soundness::heads::keeps_rule6` meets its contract: the words of the sections spell the decompositions and the classes. Assumes nothing.
+-- `sound_check::heads::keeps_rule6` meets its contract: the words of the sections spell the decompositions and the classes. Assumes nothing.
 use denote.Ref.{now}
 use Rattle.table.specs.Laid.{theTable}
 use mathlib.Core.Path.{sym, _∙_}

@@ -1,4 +1,4 @@
--- `soundness::heads::meets` meets its contract. Assumes nothing.
+-- `sound_check::heads::meets` meets its contract. Assumes nothing.
 use borrow.Author.Tests.{le-leb, lt-leb}
 use Rattle.sound_check.proofs.heads.meets.Statement.{statement}
 use Rattle.sound_check.proofs.heads.meets.Tie as tie

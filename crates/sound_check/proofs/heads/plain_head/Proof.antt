@@ -1,4 +1,4 @@
--- `soundness::heads::plain_head` meets its contract. Assumes nothing.
+-- `sound_check::heads::plain_head` meets its contract. Assumes nothing.
 use mathlib.Core.Path.{sym, _∙_, ap}
 use mathlib.Core.Bool.{not}
 use borrow.Author.Tests.{lt-ltb, le-ltb}

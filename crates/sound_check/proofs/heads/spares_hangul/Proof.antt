@@ -1,4 +1,4 @@
--- `soundness::heads::spares_hangul` meets its contract. Assumes nothing.
+-- `sound_check::heads::spares_hangul` meets its contract. Assumes nothing.
 use mathlib.Core.Path.{sym, _∙_, ap}
 use mathlib.Core.Bool.{not}
 use borrow.Author.Tests.{eq-eqb, ne-eqb}

@@ -1,4 +1,4 @@
--- `soundness::pairs::any_pair` meets its contract, by the laws of a walk over records. Assumes nothing.
+-- `sound_check::pairs::any_pair` meets its contract, by the laws of a walk over records. Assumes nothing.
 use denote.Ref.{now}
 use Prim.Native.Nat.{_-_}
 use mathlib.Core.Path.{sym, _∙_}

@@ -1,4 +1,4 @@
--- `soundness::pairs::is_hangul_pair` meets its contract. Assumes nothing.
+-- `sound_check::pairs::is_hangul_pair` meets its contract. Assumes nothing.
 use denote.Ref.{now}
 use mathlib.Core.Path.{sym, _∙_}
 use Rattle.sound_check.proofs.PairLaws.{hangul-short, hangul-two}

@@ -1,4 +1,4 @@
--- `soundness::pairs::is_pair` meets its contract. Assumes nothing.
+-- `sound_check::pairs::is_pair` meets its contract. Assumes nothing.
 use denote.Ref.{now}
 use mathlib.Core.Path.{sym, _∙_}
 use Rattle.table.specs.Laid.{theTable}

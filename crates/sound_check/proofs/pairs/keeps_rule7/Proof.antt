@@ -1,4 +1,4 @@
--- `soundness::pairs::keeps_rule7` meets its contract: the words of the section spell the decompositions. Assumes nothing.
+-- `sound_check::pairs::keeps_rule7` meets its contract: the words of the section spell the decompositions. Assumes nothing.
 use mathlib.Core.Path.{_∙_}
 use Rattle.table.proofs.SectionLaws.{laid-fits}
 use Rattle.sound_check.proofs.SectionsHold.{decompositions-hold, decompositions-are}

@@ -1,4 +1,4 @@
--- `soundness::pairs::pair_fits` meets its contract. Assumes nothing.
+-- `sound_check::pairs::pair_fits` meets its contract. Assumes nothing.
 use mathlib.Core.Path.{sym, _∙_, ap}
 use mathlib.Core.Bool.{not}
 use borrow.Author.Tests.{not-true, not-false}

@@ -1,4 +1,4 @@
--- `soundness::pairs::pairs_fit` meets its contract, by the laws of a walk over records. Assumes nothing.
+-- `sound_check::pairs::pairs_fit` meets its contract, by the laws of a walk over records. Assumes nothing.
 use denote.Ref.{now}
 use Prim.Native.Nat.{_-_}
 use mathlib.Core.Path.{sym, _∙_}

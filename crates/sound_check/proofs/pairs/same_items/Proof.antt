@@ -1,4 +1,4 @@
--- `soundness::pairs::same_items` meets its contract, word by word. Assumes nothing.
+-- `sound_check::pairs::same_items` meets its contract, word by word. Assumes nothing.
 use denote.Ref.{now}
 use Prim.Native.Nat.{_-_}
 use lib.ListN.{length}

@@ -1,4 +1,4 @@
--- `soundness::pairs::same_pair` meets its contract. Assumes nothing.
+-- `sound_check::pairs::same_pair` meets its contract. Assumes nothing.
 use mathlib.Core.Path.{sym, _∙_}
 use Rattle.sound_check.specs.Heads.{samePair}
 use borrow.Author.Needs.{needs}

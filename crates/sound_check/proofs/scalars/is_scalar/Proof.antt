@@ -1,4 +1,4 @@
--- `soundness::scalars::is_scalar` meets its contract. Assumes nothing.
+-- `sound_check::scalars::is_scalar` meets its contract. Assumes nothing.
 use borrow.Author.Tests.{le-leb, lt-leb}
 use Rattle.sound_check.proofs.ScalarLaws.{above-surrogates}
 use Rattle.sound_check.proofs.scalars.is_scalar.Statement.{statement}

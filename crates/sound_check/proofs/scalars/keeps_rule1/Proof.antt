@@ -1,4 +1,4 @@
--- `soundness::scalars::keeps_rule1` meets its contract: rule 1 is the three parts. Assumes nothing.
+-- `sound_check::scalars::keeps_rule1` meets its contract: rule 1 is the three parts. Assumes nothing.
 use mathlib.Core.Path.{sym, _∙_}
 use borrow.Author.Tests.{not-true, not-false}
 use Rattle.sound_check.proofs.ScalarLaws.{rule1-parts}

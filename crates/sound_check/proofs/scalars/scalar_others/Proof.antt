@@ -1,4 +1,4 @@
--- `soundness::scalars::scalar_others` meets its contract: the words of each section spell its entries. Assumes nothing.
+-- `sound_check::scalars::scalar_others` meets its contract: the words of each section spell its entries. Assumes nothing.
 use mathlib.Core.Path.{sym, _∙_, ap}
 use mathlib.Core.List.{List}
 use borrow.Author.Tests.{not-true, not-false}

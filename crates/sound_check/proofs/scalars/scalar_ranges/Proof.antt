@@ -1,4 +1,4 @@
--- `soundness::scalars::scalar_ranges` meets its contract: the words of each section spell its ranges. Assumes nothing.
+-- `sound_check::scalars::scalar_ranges` meets its contract: the words of each section spell its ranges. Assumes nothing.
 use mathlib.Core.Path.{sym, _∙_}
 use borrow.Author.Tests.{not-true, not-false}
 use Rattle.soundness.specs.Scalars.{scalarsBetween}

@@ -1,4 +1,4 @@
--- `soundness::scalars::scalar_records` meets its contract: the words of each section spell its records. Assumes nothing.
+-- `sound_check::scalars::scalar_records` meets its contract: the words of each section spell its records. Assumes nothing.
 use Prim.Native.Nat.{ℕ}
 use mathlib.Core.Path.{sym, _∙_, ap}
 use mathlib.Core.List.{List}

@@ -1,4 +1,4 @@
--- `soundness::scalars::scalars_between` meets its contract. Assumes nothing.
+-- `sound_check::scalars::scalars_between` meets its contract. Assumes nothing.
 use borrow.Author.Tests.{le-leb, lt-leb, lt-ltb, le-ltb}
 use Rattle.sound_check.proofs.scalars.scalars_between.Statement.{statement}
 use Rattle.sound_check.proofs.scalars.scalars_between.Tie as tie

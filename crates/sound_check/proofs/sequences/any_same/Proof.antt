@@ -1,4 +1,4 @@
--- `soundness::sequences::any_same` meets its contract, by the laws of a walk over records. Assumes nothing.
+-- `sound_check::sequences::any_same` meets its contract, by the laws of a walk over records. Assumes nothing.
 use denote.Ref.{now}
 use Prim.Native.Nat.{_-_}
 use mathlib.Core.Path.{sym, _∙_}

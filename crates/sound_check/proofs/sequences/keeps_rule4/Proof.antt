@@ -1,4 +1,4 @@
--- `soundness::sequences::keeps_rule4` meets its contract: the words of the section spell the sequences. Assumes nothing.
+-- `sound_check::sequences::keeps_rule4` meets its contract: the words of the section spell the sequences. Assumes nothing.
 use mathlib.Core.Path.{_∙_}
 use Rattle.table.proofs.SectionLaws.{laid-fits}
 use Rattle.sound_check.proofs.SectionsHold.{emoji-hold, emoji-are}

@@ -1,4 +1,4 @@
--- `soundness::sequences::next_item` meets its contract: what is passed is FE0F. Assumes nothing.
+-- `sound_check::sequences::next_item` meets its contract: what is passed is FE0F. Assumes nothing.
 use Prim.Native.Nat.{_-_}
 use lib.ListN.{length}
 use Rattle.sound_check.proofs.StripLaws.{Skipped, skip-start, skip-on, skip-found, skip-end}

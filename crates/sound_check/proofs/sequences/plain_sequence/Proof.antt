@@ -1,4 +1,4 @@
--- `soundness::sequences::plain_sequence` meets its contract. Assumes nothing.
+-- `sound_check::sequences::plain_sequence` meets its contract. Assumes nothing.
 use mathlib.Core.Path.{sym, _∙_, ap}
 use mathlib.Core.Bool.{not}
 use borrow.Author.Needs.{needs}

@@ -1,4 +1,4 @@
--- `soundness::sequences::plain_sequences` meets its contract, by the laws of a walk over records. Assumes nothing.
+-- `sound_check::sequences::plain_sequences` meets its contract, by the laws of a walk over records. Assumes nothing.
 use Prim.Native.Nat.{_-_}
 use mathlib.Core.Path.{sym, _∙_}
 use borrow.Author.Tests.{not-true, not-false}

@@ -1,4 +1,4 @@
--- `soundness::sequences::same_behind` meets its contract: the part behind s is what is left. Assumes nothing.
+-- `sound_check::sequences::same_behind` meets its contract: the part behind s is what is left. Assumes nothing.
 use Rattle.sound_check.proofs.Walks.{tail-is}
 use borrow.Author.Needs.{needs}
 use Rattle.sound_check.proofs.sequences.same_behind.Statement.{statement}

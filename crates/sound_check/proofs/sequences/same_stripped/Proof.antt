@@ -1,4 +1,4 @@
--- `soundness::sequences::same_stripped` meets its contract, item by item. Assumes nothing.
+-- `sound_check::sequences::same_stripped` meets its contract, item by item. Assumes nothing.
 use Prim.Native.Nat.{_-_}
 use lib.ListN.{length}
 use Rattle.sound_check.proofs.StripLaws.{Aligned, align-start, align-short, align-differ, align-on, align-done}

@@ -1,4 +1,4 @@
--- `soundness::sequences::sequences_fit` meets its contract. Assumes nothing.
+-- `sound_check::sequences::sequences_fit` meets its contract. Assumes nothing.
 use mathlib.Core.Path.{sym, _∙_}
 use borrow.Author.Tests.{not-true, not-false}
 use borrow.Author.Needs.{needs}

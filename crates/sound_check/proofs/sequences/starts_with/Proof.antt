@@ -1,4 +1,4 @@
--- `soundness::sequences::starts_with` meets its contract. Assumes nothing.
+-- `sound_check::sequences::starts_with` meets its contract. Assumes nothing.
 use denote.Ref.{now}
 use Rattle.sound_check.proofs.StripLaws.{starts-first, starts-none}
 use borrow.Author.Needs.{needs}

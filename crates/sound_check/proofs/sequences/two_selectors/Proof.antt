@@ -1,4 +1,4 @@
--- `soundness::sequences::two_selectors` meets its contract, by the laws of a walk over items. Assumes nothing.
+-- `sound_check::sequences::two_selectors` meets its contract, by the laws of a walk over items. Assumes nothing.
 use Prim.Native.Nat.{_-_}
 use lib.ListN.{length}
 use mathlib.Core.Logic.{⊎-elim}

@@ -1,4 +1,4 @@
--- `soundness::sets::four_rounds` meets its contract. Assumes nothing.
+-- `sound_check::sets::four_rounds` meets its contract. Assumes nothing.
 use denote.Ref.{now}
 use Prim.Native.Nat.{ℕ}
 use mathlib.Core.List.{List}

@@ -1,4 +1,4 @@
--- `soundness::sets::has` meets its contract: a shift and a remainder read the bit. Assumes nothing.
+-- `sound_check::sets::has` meets its contract: a shift and a remainder read the bit. Assumes nothing.
 use borrow.Author.Needs.{needs}
 use Rattle.sound_check.proofs.SetLaws.{has-shifted}
 use Rattle.sound_check.proofs.sets.has.Statement.{statement}

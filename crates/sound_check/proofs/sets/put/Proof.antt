@@ -1,4 +1,4 @@
--- `soundness::sets::put` meets its contract: the bit of c is set, and no other changes. Assumes nothing.
+-- `sound_check::sets::put` meets its contract: the bit of c is set, and no other changes. Assumes nothing.
 use borrow.Author.Needs.{needs}
 use Rattle.sound_check.proofs.SetLaws.{put-added}
 use Rattle.sound_check.proofs.sets.put.Statement.{statement}

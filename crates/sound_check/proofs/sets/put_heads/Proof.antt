@@ -1,4 +1,4 @@
--- `soundness::sets::put_heads` meets its contract, by the laws of a walk over records. Assumes nothing.
+-- `sound_check::sets::put_heads` meets its contract, by the laws of a walk over records. Assumes nothing.
 use Prim.Native.Nat.{_-_}
 use native.Mathlib.Omega.{arith}
 use mathlib.Core.Path.{sym, _∙_}

@@ -1,4 +1,4 @@
--- `soundness::sets::put_items` meets its contract, item by item. Assumes nothing.
+-- `sound_check::sets::put_items` meets its contract, item by item. Assumes nothing.
 use Prim.Native.Nat.{_-_}
 use mathlib.Core.List.{[], _∷_}
 use mathlib.Core.Path.{sym, _∙_}

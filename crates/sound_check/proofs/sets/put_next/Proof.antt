@@ -1,4 +1,4 @@
--- `soundness::sets::put_next` meets its contract. Assumes nothing.
+-- `sound_check::sets::put_next` meets its contract. Assumes nothing.
 use denote.Ref.{now}
 use mathlib.Core.Path.{sym, _∙_}
 use borrow.Author.Needs.{needs}

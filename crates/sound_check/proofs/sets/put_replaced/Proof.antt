@@ -1,4 +1,4 @@
--- `soundness::sets::put_replaced` meets its contract: under rule 1 a replacement has codepoints up to 10FFFF alone. Assumes nothing.
+-- `sound_check::sets::put_replaced` meets its contract: under rule 1 a replacement has codepoints up to 10FFFF alone. Assumes nothing.
 use native.Mathlib.Omega.{arith}
 use mathlib.Core.Path.{sym, _∙_, ap}
 use lib.ListN.{length-take}

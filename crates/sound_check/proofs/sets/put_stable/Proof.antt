@@ -1,4 +1,4 @@
--- `soundness::sets::put_stable` meets its contract: what is neither a syllable nor a head stays as it is. Assumes nothing.
+-- `sound_check::sets::put_stable` meets its contract: what is neither a syllable nor a head stays as it is. Assumes nothing.
 use denote.Ref.{now}
 use mathlib.Core.Path.{sym, _∙_}
 use borrow.Author.Needs.{needs}

@@ -1,4 +1,4 @@
--- `soundness::sets::round` meets its contract, codepoint by codepoint. Assumes nothing.
+-- `sound_check::sets::round` meets its contract, codepoint by codepoint. Assumes nothing.
 use denote.Ref.{now}
 use Prim.Native.Nat.{ℕ, _-_}
 use mathlib.Core.Path.{sym, _∙_, ap}

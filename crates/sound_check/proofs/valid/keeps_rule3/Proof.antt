@@ -1,4 +1,4 @@
--- `soundness::valid::keeps_rule3` meets its contract: the words of the section spell the mappings. Assumes nothing.
+-- `sound_check::valid::keeps_rule3` meets its contract: the words of the section spell the mappings. Assumes nothing.
 use mathlib.Core.Path.{_∙_, ap}
 use mathlib.Core.List.{List}
 use denote.Ref.{now}
