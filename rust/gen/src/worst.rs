@@ -40,7 +40,7 @@ pub const LONG: [Hard; 17] = [
 ];
 
 /// Decompositions that grow or share items: a check that decomposes codepoint by
-/// codepoint takes hours on some of these.
+/// codepoint takes many minutes on some of these.
 pub const DEEP: [Hard; 6] = [
     Hard { name: "heads that become 256", table: deep_heads, answer: 8 },
     Hard { name: "heads that become 256, and a long valid section", table: deep_heads_long_valid, answer: 8 },
