@@ -1,9 +1,11 @@
-/* The calls of Wanlopheng for C. Link libboundary.a, which `rt staticlib boundary` writes (x86-64), and for NFD and NFC
- * libnormal_forms.a, which `rt staticlib normal_forms` writes.
+/* The calls of Wanlopheng for C. Link libwanlopheng.a, which `./install` of the repository writes (x86-64).
  *
  * A slice crosses as a pointer and a number of elements. The pointer is not null and is aligned, also where there are no
- * elements; the elements can be read, those of the answer and of the work area also written, and these two overlap nothing
- * else that is handed over. That is all that a caller owes. No call keeps a pointer.
+ * elements: hand over the address of any word then. The elements can be read, those of the answer and of the work area also
+ * written, and these two overlap nothing else that is handed over. That is all that a caller owes.
+ *
+ * No call keeps a pointer, allocates, or has anything that outlives it: calls on several threads do not disturb each other.
+ * The library needs memcpy, memmove and memset, and nothing else.
  */
 #ifndef WANLOPHENG_H
 #define WANLOPHENG_H
@@ -14,6 +16,49 @@
 #ifdef __cplusplus
 extern "C" {
 #endif
+
+#define WANLOPHENG_VERSION "0.1.0"
+
+/* Sizes of buffers, in elements. */
+#define WANLOPHENG_INPUT_MOST 4096     /* codepoints of an input */
+#define WANLOPHENG_ANSWER_WORDS 1024   /* an answer of this size holds every normal form */
+#define WANLOPHENG_WORK_WORDS 2048     /* the least work area */
+#define WANLOPHENG_TABLE_WORDS 131072  /* the largest table */
+#define WANLOPHENG_FILE_BYTES 524293   /* its file */
+
+/* The numbers of the refusals; wanlopheng_text.h has these texts for a screen. */
+enum wanlopheng_refusal {
+    WANLOPHENG_ACCEPTED = 0,
+    WANLOPHENG_TABLE_LAYOUT = 1,    /* the table has a layout fault */
+    WANLOPHENG_WORK_TOO_SMALL = 2,  /* the work area is too small */
+    WANLOPHENG_INPUT_TOO_LONG = 3,  /* the input has too many codepoints */
+    WANLOPHENG_NO_SCALAR = 4,       /* a number that is no Unicode scalar value */
+    WANLOPHENG_DISALLOWED = 5,      /* a codepoint that names may not have */
+    WANLOPHENG_EMPTY_LABEL = 6,     /* an empty label */
+    WANLOPHENG_NAME_TOO_LONG = 7,   /* the name is too long in its worked form */
+    WANLOPHENG_LOW_LINE = 8,        /* a low line after another character */
+    WANLOPHENG_HYPHENS = 9,         /* hyphens in the third and fourth place */
+    WANLOPHENG_FENCED = 10,         /* a fenced character first, last or beside another */
+    WANLOPHENG_LEADING_MARK = 11,   /* a text that starts with a mark */
+    WANLOPHENG_NO_GROUP = 12,       /* characters that no one script group has together */
+    WANLOPHENG_NSM_RUN = 13,        /* too many or equal nonspacing marks together */
+    WANLOPHENG_CONFUSABLE = 14,     /* the label looks like another one */
+    WANLOPHENG_ANSWER_TOO_SMALL = 15, /* the answer buffer is too small */
+    WANLOPHENG_RESTRICTED = 17,     /* the label is of a restricted script group */
+    WANLOPHENG_FILE_VERSION = 20,   /* the table file has another version */
+    WANLOPHENG_FILE_LENGTH = 21,    /* the table file has a wrong length */
+    WANLOPHENG_TABLE_TOO_LARGE = 22, /* the table does not fit the buffer */
+    WANLOPHENG_FORM_TOO_LONG = 50, /* NFD, NFC: the full decomposition has too many codepoints */
+    WANLOPHENG_FORM_WORK = 51, /* NFD, NFC: the work area is too small */
+    WANLOPHENG_FORM_ANSWER = 52 /* NFD, NFC: the answer buffer is too small */
+};
+
+/* What a label consists of. */
+enum wanlopheng_kind {
+    WANLOPHENG_EMOJI = 1, /* emoji alone */
+    WANLOPHENG_ASCII = 2, /* ASCII alone */
+    WANLOPHENG_GROUP = 3  /* characters of a group */
+};
 
 /* What unpacking answers. */
 struct wanlopheng_unpack {
@@ -26,20 +71,21 @@ struct wanlopheng_unpack wanlopheng_unpack(const uint8_t *file, size_t file_leng
 
 /* What the name call answers. */
 struct wanlopheng_name {
-    uint32_t number; /* 0: accepted. 1 to 15: the refusal. */
-    size_t place;    /* the place of the refusal: an index of the name for 4 and 5, a label for 6 to 14, else 0 */
+    uint32_t number; /* 0: accepted. 1 to 15, 17: the refusal. */
+    size_t place;    /* the place of the refusal: an index of the name for 4 and 5, a label for 6 to 14 and 17, else 0 */
     size_t length;   /* the length of the normal form; 0 beside a refusal */
     size_t labels;   /* the number of labels; 0 beside a refusal */
 };
 
 /* Normalises a name. After success the answer holds the normal form and then zeros, after a refusal zeros alone; the work area,
- * of at least 2,048 words, holds zeros either way. An answer of 1,024 words holds every normal form. */
+ * of at least 2,048 words, holds zeros either way. An answer of 1,024 words holds every normal form. With a setting other than 0, labels of
+ * restricted groups are refused as 17, after 14 in each label. */
 struct wanlopheng_name wanlopheng_name(const uint32_t *input, size_t input_length, const uint32_t *words, size_t words_length,
-                                       uint32_t *answer, size_t answer_length, uint32_t *work, size_t work_length);
+                                       uint32_t setting, uint32_t *answer, size_t answer_length, uint32_t *work, size_t work_length);
 
 /* What the label call answers. */
 struct wanlopheng_label {
-    uint32_t number;     /* 0: accepted. 1 to 15: the refusal. */
+    uint32_t number;     /* 0: accepted. 1 to 15, 17: the refusal. */
     size_t place;        /* the place of the refusal: an index of the label for 4 and 5, else 0 */
     size_t length;       /* the length of the normal form; 0 beside a refusal */
     uint32_t kind;       /* 1: emoji. 2: ASCII. 3: a group. 0 beside a refusal. */
@@ -47,12 +93,18 @@ struct wanlopheng_label {
     uint32_t restricted; /* 1: the group is restricted */
 };
 
-/* Normalises one label; the buffers as for a name. */
+/* Normalises one label; the setting and the buffers as for a name. */
 struct wanlopheng_label wanlopheng_label(const uint32_t *input, size_t input_length, const uint32_t *words, size_t words_length,
-                                         uint32_t *answer, size_t answer_length, uint32_t *work, size_t work_length);
+                                         uint32_t setting, uint32_t *answer, size_t answer_length, uint32_t *work, size_t work_length);
 
-/* Checks the words of a table for soundness: 0 is a layout fault, 1 to 7 the lowest broken rule, 8 sound. */
-uint32_t wanlopheng_soundness(const uint32_t *words, size_t words_length);
+/* What the soundness check answers. */
+struct wanlopheng_soundness {
+    uint32_t sound; /* 1: sound. 0: a rule is broken, or the layout is at fault. */
+    uint32_t rule;  /* the lowest broken rule; 0 for a layout fault, and where the table is sound */
+};
+
+/* Checks the words of a table for soundness. */
+struct wanlopheng_soundness wanlopheng_soundness(const uint32_t *words, size_t words_length);
 
 /* 1 where the words of a table have a layout fault, 0 where they hold a table. */
 uint32_t wanlopheng_layout_fault(const uint32_t *words, size_t words_length);
@@ -60,8 +112,8 @@ uint32_t wanlopheng_layout_fault(const uint32_t *words, size_t words_length);
 /* What the calls for NFD and NFC answer. The full decomposition of the text needs room in the answer and in the work area,
  * for NFC too. */
 struct wanlopheng_form {
-    uint32_t number; /* 0: done. 1: the words have a layout fault. 3: over 2^32 codepoints. 2: the work area is too small.
-                        15: the answer is too small. Tried in this order. */
+    uint32_t number; /* 0: done. 1: the words have a layout fault. 50: the full decomposition has over 1,024 codepoints.
+                        51: the work area is too small for it. 52: the answer is too small for it. Tried in this order. */
     size_t length;   /* the number of codepoints; 0 beside a refusal */
 };
 

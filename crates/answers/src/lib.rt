@@ -1,6 +1,7 @@
 // The answers of the public calls. specs/Values.antt states the number and the values of each case.
 ghost use mathlib.Core.Path.{_≡_};
-ghost use Rattle.answers.specs.Values.{numberOf, placeOf};
+ghost use Rattle.answers.specs.Restriction.{barred};
+ghost use Rattle.answers.specs.Values.{numberOf, placeOf, nameValues, labelValues};
 
 // A group's number, counted from 0, and whether it is restricted.
 pub struct GroupKind {
@@ -32,6 +33,7 @@ pub enum Refusal {
     NoGroup(usize),
     NsmRun(usize),
     Confusable(usize),
+    Restricted(usize),
     BufferTooSmall,
 }
 
@@ -80,6 +82,7 @@ pub fn number_of(refusal: Refusal) -> u32
         Refusal::NoGroup(_) => 12,
         Refusal::NsmRun(_) => 13,
         Refusal::Confusable(_) => 14,
+        Refusal::Restricted(_) => 17,
         Refusal::BufferTooSmall => 15,
     }
 }
@@ -103,6 +106,41 @@ pub fn place_of(refusal: Refusal) -> usize
         Refusal::NoGroup(label) => label,
         Refusal::NsmRun(label) => label,
         Refusal::Confusable(label) => label,
+        Refusal::Restricted(label) => label,
         Refusal::BufferTooSmall => 0,
+    }
+}
+
+// The length that the name call answers, 0 beside a refusal.
+pub fn name_length(answer: NameAnswer) -> usize
+    ensures { λ r. ⌜ r ≡ nameValues answer .length ⌝ }
+{
+    match answer {
+        NameAnswer::Accepted { length, labels: _ } => length,
+        NameAnswer::Refused(_) => 0,
+    }
+}
+
+// The length that the label call answers, 0 beside a refusal.
+pub fn label_length(answer: LabelAnswer) -> usize
+    ensures { λ r. ⌜ r ≡ labelValues answer .length ⌝ }
+{
+    match answer {
+        LabelAnswer::Accepted { length, kind: _ } => length,
+        LabelAnswer::Refused(_) => 0,
+    }
+}
+
+// Whether the setting (0 off, else on) bars a label of this kind: one of a group that is restricted.
+pub fn is_barred(setting: u32, kind: Kind) -> bool
+    ensures { λ r. ⌜ r ≡ barred setting kind ⌝ }
+{
+    if setting == 0 {
+        return false;
+    }
+    match kind {
+        Kind::Emoji => false,
+        Kind::Ascii => false,
+        Kind::Group(g) => g.restricted,
     }
 }

@@ -24,17 +24,17 @@ pub record UnpackCrosses (file before after : List ℕ) (r : WanlophengUnpack) :
   pub values : unpackFields r ≡ unpackCall file (length before) .values
   pub answer : after ≡ unpackCall file (length before) .answer
 
--- The name call: every field of its answer r, and every word of both buffers.
-pub record NameCrosses (words input before after work work′ : List ℕ) (r : WanlophengName) : Type 0 where
-  pub values : nameFields r ≡ nameCall words input (length before) (length work) .values
-  pub answer : after ≡ nameCall words input (length before) (length work) .answer
-  pub cleared : work′ ≡ nameCall words input (length before) (length work) .work
+-- The name call with a setting: every field of its answer r, and every word of both buffers.
+pub record NameCrosses (setting : ℕ) (words input before after work work′ : List ℕ) (r : WanlophengName) : Type 0 where
+  pub values : nameFields r ≡ nameCall setting words input (length before) (length work) .values
+  pub answer : after ≡ nameCall setting words input (length before) (length work) .answer
+  pub cleared : work′ ≡ nameCall setting words input (length before) (length work) .work
 
 -- The label call: the same.
-pub record LabelCrosses (words input before after work work′ : List ℕ) (r : WanlophengLabel) : Type 0 where
-  pub values : labelFields r ≡ labelNumbers (labelCall words input (length before) (length work) .values)
-  pub answer : after ≡ labelCall words input (length before) (length work) .answer
-  pub cleared : work′ ≡ labelCall words input (length before) (length work) .work
+pub record LabelCrosses (setting : ℕ) (words input before after work work′ : List ℕ) (r : WanlophengLabel) : Type 0 where
+  pub values : labelFields r ≡ labelNumbers (labelCall setting words input (length before) (length work) .values)
+  pub answer : after ≡ labelCall setting words input (length before) (length work) .answer
+  pub cleared : work′ ≡ labelCall setting words input (length before) (length work) .work
 
 -- 1 where the words have a layout fault, 0 where they hold a table
 unfoldable pub layoutFault : List ℕ → ℕ

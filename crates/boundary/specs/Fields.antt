@@ -1,5 +1,5 @@
--- The numbers that stand for the answers at the boundary, where 01 gives none: kinds are 1 emoji, 2 ASCII, 3 a group; "sound" is 8.
--- Beside a refusal every other field is 0. Assumes nothing.
+-- The numbers that stand for the answers at the boundary, where 01 gives none: kinds are 1 emoji, 2 ASCII, 3 a group, and whether a table is
+-- sound is a field of its own, so that every rule has its number. Beside a refusal every other field is 0. Assumes nothing.
 use Prim.Native.Nat.{ℕ}
 use mathlib.Core.Bool.{cond}
 use mathlib.Core.Option.{Option, none, some}
@@ -9,6 +9,7 @@ use Rattle.answers.specs.Values.{NameValues, LabelValues}
 use Rattle.boundary.specs.declared.fields.KindNumbers.{KindNumbers}
 use Rattle.boundary.specs.declared.fields.WanlophengName.{WanlophengName}
 use Rattle.boundary.specs.declared.fields.WanlophengLabel.{WanlophengLabel}
+use Rattle.boundary.specs.declared.fields.WanlophengSoundness.{WanlophengSoundness}
 
 -- a kind as three numbers
 pub record KindValues : Type 0 where
@@ -51,7 +52,14 @@ labelFields r =
       kind = record { kind = r .kind; group = r .group; restricted = r .restricted };
     }
 
--- the answer of the soundness check
-abbrev pub soundnessNumber : Option ℕ → ℕ
-soundnessNumber none = 8
-soundnessNumber (some n) = n
+-- the answer of the soundness check: "The answer is "sound", or the lowest number of these that is broken (layout fault: 0)."
+pub record SoundnessValues : Type 0 where
+  pub sound : ℕ
+  pub rule : ℕ
+
+abbrev pub soundnessNumbers : Option ℕ → SoundnessValues
+soundnessNumbers none = record { sound = 1; rule = 0 }
+soundnessNumbers (some n) = record { sound = 0; rule = n }
+
+abbrev pub soundnessFields : WanlophengSoundness → SoundnessValues
+soundnessFields r = record { sound = r .sound; rule = r .rule }

@@ -7,7 +7,7 @@ use answers::number_of;
 use answers::place_of;
 ghost use mathlib.Core.Path.{_≡_};
 ghost use Rattle.answers.specs.Values.{nameValues, labelValues, brokenRule};
-ghost use Rattle.boundary.specs.Fields.{nameFields, labelFields, labelNumbers, kindNumbers, kindFields, soundnessNumber};
+ghost use Rattle.boundary.specs.Fields.{nameFields, labelFields, labelNumbers, kindNumbers, kindFields, soundnessNumbers, soundnessFields};
 
 // A kind: 1 emoji, 2 ASCII, 3 a group with its number and 1 where it is restricted; other fields are 0.
 pub struct KindNumbers {
@@ -35,6 +35,13 @@ pub struct WanlophengLabel {
     pub kind: u32,
     pub group: usize,
     pub restricted: u32,
+}
+
+// The soundness check: 1 where the table is sound, else 0 and the lowest broken rule, which is 0 for a layout fault.
+#[repr(C)]
+pub struct WanlophengSoundness {
+    pub sound: u32,
+    pub rule: u32,
 }
 
 pub fn kind_numbers(k: Kind) -> KindNumbers
@@ -118,12 +125,11 @@ pub fn label_fields(a: LabelAnswer) -> WanlophengLabel
     }
 }
 
-// 0 to 7 for the lowest broken rule, 8 where the table is sound.
-pub fn soundness_number(s: Soundness) -> u32
-    ensures { λ r. ⌜ r ≡ soundnessNumber (brokenRule s) ⌝ }
+pub fn soundness_fields(s: Soundness) -> WanlophengSoundness
+    ensures { λ r. ⌜ soundnessFields r ≡ soundnessNumbers (brokenRule s) ⌝ }
 {
     match s {
-        Soundness::Sound => 8,
-        Soundness::Broken(n) => n,
+        Soundness::Sound => WanlophengSoundness { sound: 1, rule: 0 },
+        Soundness::Broken(rule) => WanlophengSoundness { sound: 0, rule },
     }
 }

@@ -4,15 +4,16 @@ pub mod fields;
 
 use crate::fields::WanlophengLabel;
 use crate::fields::WanlophengName;
+use crate::fields::WanlophengSoundness;
 use crate::fields::label_fields;
 use crate::fields::name_fields;
-use crate::fields::soundness_number;
+use crate::fields::soundness_fields;
 use answers::Unpacked;
 use table::Layout;
 ghost use mathlib.Core.Path.{_≡_};
 ghost use Rattle.answers.specs.Values.{unpackValues};
 ghost use Rattle.soundness.specs.Soundness.{soundnessOf};
-ghost use Rattle.boundary.specs.Fields.{soundnessNumber};
+ghost use Rattle.boundary.specs.Fields.{soundnessNumbers, soundnessFields};
 ghost use Rattle.boundary.specs.Crossing.{unpackFields, UnpackCrosses, NameCrosses, LabelCrosses, layoutFault};
 
 // The refusal number, 0 where the file is unpacked, and the number of words.
@@ -51,41 +52,43 @@ pub extern "C" fn wanlopheng_unpack(file: &[u8], answer: &mut [u32]) -> Wanlophe
     unpack_fields(found)
 }
 
-// Normalises a name.
+// Normalises a name. With a setting other than 0, labels of restricted groups are refused as 17.
 #[no_mangle]
 pub extern "C" fn wanlopheng_name(
     input: &[u32],
     words: &[u32],
+    setting: u32,
     answer: &mut [u32],
     work: &mut [u32],
 ) -> WanlophengName
-    ensures { λ r. ⌜ NameCrosses (now (words .entry)) (now (input .entry)) (now (answer .entry)) (now (answer .exit)) (now (work .entry)) (now (work .exit)) r ⌝ }
+    ensures { λ r. ⌜ NameCrosses setting (now (words .entry)) (now (input .entry)) (now (answer .entry)) (now (answer .exit)) (now (work .entry)) (now (work .exit)) r ⌝ }
 {
-    let found = name::name_call::name(input, words, answer, work);
+    let found = name::name_call::name(input, words, setting, answer, work);
     name_fields(found)
 }
 
-// Normalises one label.
+// Normalises one label, with the same setting.
 #[no_mangle]
 pub extern "C" fn wanlopheng_label(
     input: &[u32],
     words: &[u32],
+    setting: u32,
     answer: &mut [u32],
     work: &mut [u32],
 ) -> WanlophengLabel
-    ensures { λ r. ⌜ LabelCrosses (now (words .entry)) (now (input .entry)) (now (answer .entry)) (now (answer .exit)) (now (work .entry)) (now (work .exit)) r ⌝ }
+    ensures { λ r. ⌜ LabelCrosses setting (now (words .entry)) (now (input .entry)) (now (answer .entry)) (now (answer .exit)) (now (work .entry)) (now (work .exit)) r ⌝ }
 {
-    let found = name::label_call::label(input, words, answer, work);
+    let found = name::label_call::label(input, words, setting, answer, work);
     label_fields(found)
 }
 
-// Checks a table for soundness: 0 to 7 is the lowest broken rule, 8 is sound.
+// Checks a table for soundness.
 #[no_mangle]
-pub extern "C" fn wanlopheng_soundness(words: &[u32]) -> u32
-    ensures { λ r. ⌜ r ≡ soundnessNumber (soundnessOf (now (words .entry))) ⌝ }
+pub extern "C" fn wanlopheng_soundness(words: &[u32]) -> WanlophengSoundness
+    ensures { λ r. ⌜ soundnessFields r ≡ soundnessNumbers (soundnessOf (now (words .entry))) ⌝ }
 {
     let found = sound_check::soundness(words);
-    soundness_number(found)
+    soundness_fields(found)
 }
 
 // Whether the words of a table have a layout fault: 1 where they do, 0 where they hold a table.

@@ -1,2 +1,4 @@
 pub mod Front
 pub mod Parts
+pub mod Comparison
+pub mod Written

@@ -1,8 +1,9 @@
-// Clearing a buffer and copying into its front. The callers lend a part of theirs where only that is meant.
+// Clearing a buffer, copying into its front, and whether two hold the same. The callers lend a part of theirs where only that is meant.
 ghost use mathlib.Core.Path.{_≡_};
 ghost use mathlib.Core.List.{_++_};
 ghost use Prim.Native.Nat.{_≤_};
 ghost use lib.ListN.{length, replicate, drop};
+ghost use Rattle.lists.specs.Lists.{sameList};
 
 // Every word becomes 0.
 pub fn clear(s: &mut [u32])
@@ -11,6 +12,17 @@ pub fn clear(s: &mut [u32])
     let mut i = 0;
     while i < s.len() {
         s[i] = 0;
+        i += 1;
+    }
+}
+
+// Every byte becomes 0.
+pub fn clear_bytes(out: &mut [u8])
+    ensures { λ _. ⌜ now (out .exit) ≡ replicate (length (now (out .entry))) 0 ⌝ }
+{
+    let mut i = 0;
+    while i < out.len() {
+        out[i] = 0;
         i += 1;
     }
 }
@@ -25,4 +37,33 @@ pub fn copy_into(dst: &mut [u32], src: &[u32])
         dst[i] = src[i];
         i += 1;
     }
+}
+
+// The bytes of `text` take the place of the first bytes of `out`; the bytes behind them stay.
+pub fn copy_bytes(out: &mut [u8], text: &[u8])
+    requires { ⌜ length (now text) ≤ length (now out) ⌝ }
+    ensures { λ _. ⌜ now (out .exit) ≡ now (text .entry) ++ drop (length (now (text .entry))) (now (out .entry)) ⌝ }
+{
+    let mut i = 0;
+    while i < text.len() {
+        out[i] = text[i];
+        i += 1;
+    }
+}
+
+// Whether two parts hold the same words.
+pub fn same(a: &[u32], b: &[u32]) -> bool
+    ensures { λ r. ⌜ r ≡ sameList (now (a .entry)) (now (b .entry)) ⌝ }
+{
+    if a.len() != b.len() {
+        return false;
+    }
+    let mut i = 0;
+    while i < a.len() {
+        if a[i] != b[i] {
+            return false;
+        }
+        i += 1;
+    }
+    true
 }

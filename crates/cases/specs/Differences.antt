@@ -6,13 +6,14 @@ use native.Mathlib.Omega.{arith}
 use mathlib.Core.Path.{_≡_, refl, sym, ap, _∙_}
 use mathlib.Core.List.{List, [], _∷_}
 use lib.ListN.{getD, replicate}
+use Rattle.limits.specs.Limits.{leastWork}
 use Rattle.name.specs.Label.{labelCall}
 use Rattle.name.specs.Name.{nameCall}
 use Rattle.cases.specs.SmallTable.{smallTable}
 
 -- a work area that is large enough
 abbrev work : List ℕ
-work = replicate 2048 0
+work = replicate leastWork 0
 
 -- an answer buffer of one word, which is not zero
 abbrev buffer : List ℕ
@@ -22,15 +23,15 @@ buffer = 7 ∷ []
 module _ {R : Type 0} (call : List ℕ → List ℕ → ℕ → ℕ → R) (numberOf : R → ℕ) (answerOf : R → List ℕ) where
   -- what the four arguments need to know of a call
   pub record Facts : Type 0 where
-    pub accepts-61 : numberOf (call smallTable (0x61 ∷ []) 1 2048) ≡ 0
-    pub gives-61 : answerOf (call smallTable (0x61 ∷ []) 1 2048) ≡ 0x61 ∷ []
-    pub gives-62 : answerOf (call smallTable (0x62 ∷ []) 1 2048) ≡ 0x62 ∷ []
-    pub maps-41 : answerOf (call smallTable (0x41 ∷ []) 1 2048) ≡ 0x61 ∷ []
+    pub accepts-61 : numberOf (call smallTable (0x61 ∷ []) 1 leastWork) ≡ 0
+    pub gives-61 : answerOf (call smallTable (0x61 ∷ []) 1 leastWork) ≡ 0x61 ∷ []
+    pub gives-62 : answerOf (call smallTable (0x62 ∷ []) 1 leastWork) ≡ 0x62 ∷ []
+    pub maps-41 : answerOf (call smallTable (0x41 ∷ []) 1 leastWork) ≡ 0x61 ∷ []
 
   module _ (p : List ℕ → List ℕ → List ℕ → List ℕ → R) (f : Facts) where
     -- the program does what the definition says, on a name with these buffers
     abbrev pub Right : List ℕ → Type 0
-    Right name = p smallTable name buffer work ≡ call smallTable name 1 2048
+    Right name = p smallTable name buffer work ≡ call smallTable name 1 leastWork
 
     -- "A version that refuses everything": wrong on 61
     pub not-refusing : (numberOf (p smallTable (0x61 ∷ []) buffer work) ≡ 0 → ⊥) → Right (0x61 ∷ []) → ⊥
@@ -55,10 +56,10 @@ module _ {R : Type 0} (call : List ℕ → List ℕ → ℕ → ℕ → R) (numb
         omega arith
 
 -- The facts hold of both calls, so none of these programs is right for either.
-pub name-facts : Facts nameCall (λ r. r .values .number) (λ r. r .answer)
+pub name-facts : Facts (nameCall 0) (λ r. r .values .number) (λ r. r .answer)
 unfolding nameCall smallTable
 name-facts = record { accepts-61 = refl; gives-61 = refl; gives-62 = refl; maps-41 = refl }
 
-pub label-facts : Facts labelCall (λ r. r .values .number) (λ r. r .answer)
+pub label-facts : Facts (labelCall 0) (λ r. r .values .number) (λ r. r .answer)
 unfolding labelCall smallTable
 label-facts = record { accepts-61 = refl; gives-61 = refl; gives-62 = refl; maps-41 = refl }

@@ -6,10 +6,12 @@ use mathlib.Core.Bool.{false}
 use mathlib.Core.List.{List, [], _∷_, map}
 use mathlib.Core.Option.{none}
 use lib.ListN.{length, replicate}
+use Rattle.limits.specs.Limits.{leastWork}
 use Rattle.answers.specs.Verdict.{Verdict, accepted, refused}
 use Rattle.answers.specs.declared.Kind.{Kind}
 use Rattle.answers.specs.declared.Kind.the-variants.{Ascii, Group}
-use Rattle.name.specs.Label.{Label, filled}
+use Rattle.lists.specs.Filled.{filled}
+use Rattle.name.specs.Label.{Label}
 use Rattle.name.specs.Name.{NameResult, nameVerdict, nameCall}
 use Rattle.soundness.specs.Soundness.{soundnessOf}
 use Rattle.cases.specs.SmallTable.{smallTable}
@@ -19,7 +21,7 @@ abbrev room : ℕ
 room = 8
 
 abbrev work : ℕ
-work = 2048
+work = leastWork
 
 -- what a case shows: the call's result and the labels' kinds
 pub record Outcome : Type 0 where
@@ -32,7 +34,7 @@ kindsOf (refused n p) = []
 
 unfoldable pub outcome : List ℕ → Outcome
 unfolding nameCall nameVerdict kindsOf smallTable
-outcome name = record { result = nameCall smallTable name room work; kinds = kindsOf (nameVerdict smallTable name room work) }
+outcome name = record { result = nameCall 0 smallTable name room work; kinds = kindsOf (nameVerdict 0 smallTable name room work) }
 
 pub record Case : Type 0 where
   pub name : List ℕ

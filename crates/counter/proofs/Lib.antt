@@ -1,2 +1,4 @@
-pub mod Serving
+pub mod Loading
 pub mod Replies
+pub mod Endings
+pub mod Serving

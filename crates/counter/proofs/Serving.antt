@@ -1,45 +1,61 @@
 -- Taking a piece of input, line by line. Assumes nothing.
 use Prim.Native.Nat.{ℕ, _+_, _-_, _≤_}
 use native.Mathlib.Omega.{arith}
-use mathlib.Core.Path.{_≡_, refl, sym, ap, subst}
-use mathlib.Core.Bool.{Bool, true, false, cond}
-use mathlib.Core.List.{List}
-use lib.ListN.{length, take}
-use lib.Seq.{length-take-le}
+use mathlib.Core.Path.{_≡_, refl, sym, ap, subst, _∙_}
+use mathlib.Core.Bool.{true}
+use mathlib.Core.List.{List, [], _∷_, _++_, append-assoc}
+use lib.ListN.{length, take, drop, length-append, drop-of-length-le}
+use lib.Seq.{length-take-le, drop-drop}
 use borrow.Rule.Slice.PartMut.{midOf}
-use Rattle.buffers.proofs.Parts.{length-tail}
-use lib.Dec.{leb}
-use borrow.Author.Tests.{leb-true}
-use Rattle.answers.specs.Verdict.{Verdict, accepted, refused}
-use Rattle.answers.specs.Values.{UnpackValues}
-use Rattle.answers.specs.declared.Unpacked.{Unpacked}
-use Rattle.answers.specs.declared.Unpacked.the-variants.{Words, WrongVersion, WrongLength, TooLittleRoom}
-use Rattle.unpack.specs.Unpack.{fileWords, withRoom, unpacking, unpackCall}
-use Rattle.unpack.specs.Promise.{Unpacks}
-use Rattle.counter.specs.Promise.{Replied, Replies, Loaded, Ready, Goes}
-use Rattle.counter.specs.declared.State.{State}
-use Rattle.counter.specs.declared.Step.{Step}
-use Rattle.counter.specs.declared.Step.the-variants.{On, Stopped}
-use Rattle.counter.specs.declared.replying.Reply.{Reply}
-use Rattle.counter.specs.declared.replying.Reply.the-variants.{Text}
-use Rattle.lines.specs.Promise.{Holding, LineEnded, PieceHeld, Takes}
+use Rattle.buffers.proofs.Parts.{mid-tail, length-tail}
+use Rattle.lists.specs.Lists.{isSome}
+use Rattle.lists.specs.Laws.{Every, every-append}
+use Rattle.lines.specs.Reading.{readLine}
+use Rattle.lines.specs.Splitting.{linesOf}
+use Rattle.lines.specs.Promise as lines
+use Rattle.lines.specs.Promise.{Holding, LineEnded, PieceHeld}
 use Rattle.lines.specs.declared.splitting.Taken.{Taken}
 use Rattle.lines.specs.declared.splitting.Taken.the-variants.{Line, Part}
 use Rattle.lines.proofs.Pieces.{holding-none}
+use Rattle.counter.specs.Promise.{mostPiece, Served, Moved, StepIs, Takes, Read, Reads}
+use Rattle.counter.specs.declared.State.{State}
+use Rattle.counter.specs.declared.Step.{Step}
+use Rattle.counter.specs.declared.Step.the-variants.{On, Stopped}
 
--- `at` bytes of the piece are taken; what is held of a line has not ended, and no more names are added than bytes taken
-pub record Serving (piece line : List ℕ) (held first names at : ℕ) : Type 0 where
+-- a line that can be read
+abbrev pub Readable : List ℕ → Type 0
+Readable line = isSome (readLine line) ≡ true
+
+-- `at` bytes of the piece are taken: its lines, with what was held before it and whatever comes after, are those served and then those of
+-- what is held now and the bytes not yet taken
+pub record Serving (piece first : List ℕ) (held₀ names₀ : ℕ) (line : List ℕ) (held names at : ℕ) : Type 0 where
+  pub lines : List (List ℕ)
+  pub cut : (rest : List ℕ) → linesOf (take held₀ first ++ (piece ++ rest)) ≡ lines ++ linesOf (take held line ++ (drop at piece ++ rest))
+  pub readable : Every Readable lines
+  pub few : length lines ≤ at
+  pub counted : names ≡ names₀ + length lines
   pub holding : Holding line held
-  pub count : names ≤ first + at
   pub inside : at ≤ length piece
 
+pub serving-start : (piece line : List ℕ) (held names : ℕ) → Holding line held → Serving piece line held names line held names 0
+serving-start piece line held names h =
+    record {
+      lines = [];
+      cut = λ rest. refl;
+      readable = tt;
+      few = omega arith;
+      counted = omega arith;
+      holding = h;
+      inside = omega arith;
+    }
+
 -- what the answer of `take_line` promises, by its case
-module _ (held piece after : List ℕ) (r : Taken) (t : Takes held piece after r) where
+module _ (held piece after : List ℕ) (r : Taken) (t : lines.Takes held piece after r) where
   pub line-of : (len used : ℕ) → r ≡ Line len used → LineEnded held piece after len used
-  line-of len used e = subst (λ (x : Taken). Takes held piece after x) e t
+  line-of len used e = subst (λ (x : Taken). lines.Takes held piece after x) e t
 
   pub part-of : (len : ℕ) → r ≡ Part len → PieceHeld held piece after len
-  part-of len e = subst (λ (x : Taken). Takes held piece after x) e t
+  part-of len e = subst (λ (x : Taken). lines.Takes held piece after x) e t
 
 module _ {held piece after : List ℕ} {len used : ℕ} (l : LineEnded held piece after len used) where
   pub line-within : len ≤ length after
@@ -48,50 +64,75 @@ module _ {held piece after : List ℕ} {len used : ℕ} (l : LineEnded held piec
   pub line-length : len ≡ length (take len after)
   line-length = sym (length-take-le len after line-within)
 
-module _ {piece line : List ℕ} {held first names at : ℕ} (s : Serving piece line held first names at) {h after : List ℕ} where
-  module _ {len used : ℕ} (l : LineEnded h (midOf at (length piece - at) piece) after len used) where
+module _ {piece first line : List ℕ} {held₀ names₀ held names at : ℕ} (s : Serving piece first held₀ names₀ line held names at) where
+  module _ {after : List ℕ} {len used : ℕ} (l : LineEnded (take held line) (midOf at (length piece - at) piece) after len used) where
     pub used-within : at + used ≤ length piece
     used-within = omega (arith, l .within, length-tail at piece, s .inside)
 
-    pub serving-line : Serving piece after 0 first (names + 1) (at + used)
-    serving-line = record { holding = holding-none after (l .room); count = omega (arith, s .count, l .some); inside = used-within }
+    pub serving-line : Readable (take len after) → Serving piece first held₀ names₀ after 0 (names + 1) (at + used)
+    serving-line good =
+        record {
+          lines = s .lines ++ (take len after ∷ []);
+          cut = λ rest.
+              let next : linesOf (take held line ++ (drop at piece ++ rest))
+              ≡ take len after ∷ linesOf (drop used (drop at piece) ++ rest) =
+              rw (mid-tail at piece) at (l .lines rest) in
+              let behind : linesOf (take held line ++ (drop at piece ++ rest)) ≡ take len after ∷ linesOf (drop (at + used) piece ++ rest) =
+              next ∙ rw (drop-drop used at piece) in
+              s .cut rest ∙ rw behind (sym (append-assoc (s .lines) (take len after ∷ []) (linesOf (drop (at + used) piece ++ rest))));
+          readable = every-append Readable (s .lines) (take len after ∷ []) (s .readable) (good, tt);
+          few = rw length-append (omega (arith, s .few, l .some));
+          counted = rw length-append (omega (arith, s .counted));
+          holding = holding-none after (l .room);
+          inside = used-within;
+        }
 
-  pub serving-part : {len : ℕ} → PieceHeld h (midOf at (length piece - at) piece) after len → Serving piece after len first names (length piece)
-  serving-part p = record { holding = p .holding; count = omega (arith, s .count, s .inside); inside = omega arith }
+  pub serving-part : {after : List ℕ} {len : ℕ} → PieceHeld (take held line) (midOf at (length piece - at) piece) after len
+      → Serving piece first held₀ names₀ after len names (length piece)
+  serving-part {after} {len} p =
+      let text : take len after ≡ take held line ++ drop at piece = rw (mid-tail at piece) at (p .text) in
+      record {
+        lines = s .lines;
+        cut = λ rest. s .cut rest ∙ rw (drop-of-length-le piece {i = length piece} (omega arith), text, append-assoc);
+        readable = s .readable;
+        few = omega (arith, s .few, s .inside);
+        counted = s .counted;
+        holding = p .holding;
+        inside = omega arith;
+      }
 
--- what is promised of the next state, for more names
-pub goes-more : (line : List ℕ) (most more : ℕ) (r : Step) → Goes line most r → most ≤ more → Goes line more r
-goes-more line most more (On state) g h = record { holding = g .holding; count = omega (arith, g .count) }
-goes-more line most more Stopped g h = tt
+  -- the piece is used up
+  pub serving-end : (from : State) → from .held ≡ held₀ → from .names ≡ names₀ → length piece ≤ at
+      → Takes piece first line from (On (record { held = held; names = names }))
+  serving-end from e f h =
+      record {
+        is =
+            record {
+              lines = s .lines;
+              served =
+                  record {
+                    cut = λ rest. rw (drop-of-length-le piece {i = at} h, ← e) at (s .cut rest);
+                    readable = s .readable;
+                    few = omega (arith, s .few, s .inside);
+                  };
+              names = rw f (s .counted);
+              holding = s .holding;
+            };
+      }
 
-pub goes-on : (line : List ℕ) (most : ℕ) (r : Step) (state : State) → r ≡ On state → Goes line most r → Ready line state most
-goes-on line most r state e g = subst (λ (x : Step). Goes line most x) e g
+-- a piece that was read
+reads-is : (piece before after : List ℕ) (from : State) (r : Step) → StepIs piece before after from r → length piece ≤ mostPiece
+    → Reads before after from r
+reads-is piece before after from (On to) t h = record { piece = piece; short = h; moved = t }
+reads-is piece before after from Stopped t h = tt
 
--- the line that was written
-pub replied-of : (words line after : List ℕ) (r : Reply) (n : ℕ) → r ≡ Text n → Replies words line after r → Replied words line after n
-replied-of words line after r n e h = subst (λ (x : Reply). Replies words line after x) e h
+pub takes-read : {piece before after : List ℕ} {from : State} {r : Step} → Takes piece before after from r → length piece ≤ mostPiece
+    → Reads before after from r
+takes-read {piece} {before} {after} {from} {r} t h = reads-is piece before after from r (t .is) h
 
-pub replied-length : (words line after : List ℕ) (n : ℕ) → Replied words line after n → n ≡ length (take n after)
-replied-length words line after n h = sym (length-take-le n after (h .room))
+pub reads-on : (before after : List ℕ) (from to : State) (r : Step) → r ≡ On to → Reads before after from r → Read before after from to
+reads-on before after from to r e h = subst (λ (x : Step). Reads before after from x) e h
 
--- a table that unpacks fits its buffer
-counted : (file : List ℕ) (room : ℕ) → unpackCall file room .values .count ≤ room
-unfolding unpackCall
-counted file room = go (fileWords file)
-  where
-    fits : (ws : List ℕ) (t : Bool) → leb (length ws) room ≡ t → unpacking room (cond t (accepted ws) (refused 22 0)) .values .count ≤ room
-    fits ws true e = leb-true (length ws) room e
-    fits ws false e = omega arith
-
-    go : (v : Verdict (List ℕ)) → unpacking room (withRoom room v) .values .count ≤ room
-    go (accepted ws) = fits ws (leb (length ws) room) refl
-    go (refused n p) = omega arith
-
-pub loaded : {file before after : List ℕ} (r : Unpacked) → Unpacks file before after r → Loaded (length before) r
-loaded {file} {before} {after} (Words n) u = rw (← ap (λ (v : UnpackValues). v .count) (u .values)) at (counted file (length before))
-loaded WrongVersion u = tt
-loaded WrongLength u = tt
-loaded TooLittleRoom u = tt
-
-pub loaded-words : (room : ℕ) (r : Unpacked) (n : ℕ) → r ≡ Words n → Loaded room r → n ≤ room
-loaded-words room r n e h = subst (λ (x : Unpacked). Loaded room x) e h
+-- it adds no more names than it has bytes
+pub read-few : {before after : List ℕ} {from to : State} → Read before after from to → to .names ≤ from .names + mostPiece
+read-few r = omega (arith, r .moved .names, r .moved .served .few, r .short)

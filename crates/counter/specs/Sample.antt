@@ -1,13 +1,13 @@
 -- The sample of 01 on the small table of the worked cases, and the cases in which the whole output is `bad`. Assumes nothing.
-use Prim.Native.Nat.{ℕ, _/_, _%_}
+use Prim.Native.Nat.{ℕ, _+_, _/_, _%_}
 use mathlib.Core.Path.{_≡_, refl}
 use mathlib.Core.List.{List, [], _∷_, _++_, map}
 use mathlib.Core.Option.{none, some}
 use lib.ListN.{length, drop, replicate}
 use Rattle.lists.specs.Lists.{joinedMap}
 use Rattle.cases.specs.SmallTable.{smallTable}
-use Rattle.lines.specs.Text.{bytes}
-use Rattle.counter.specs.Counter.{counterOutput}
+use Rattle.lists.specs.Text.{bytes}
+use Rattle.counter.specs.Counter.{mostFile, counterOutput}
 
 -- a word as four bytes, big-endian, and the file of a table's words
 abbrev fourBytes : ℕ → List ℕ
@@ -21,7 +21,8 @@ unfolding counterOutput smallTable
 the-sample = refl
 
 -- missing, too long, and not unpacking: another version, a byte too few, an empty file
-pub bad-alone : map (λ file. counterOutput file (bytes "61\n")) (none ∷ some (replicate 32769 1) ∷ some (2 ∷ []) ∷ some (drop 1 (packed smallTable)) ∷ some [] ∷ []) ≡
+pub bad-alone : map (λ file. counterOutput file (bytes "61\n"))
+    (none ∷ some (replicate (mostFile + 1) 1) ∷ some (2 ∷ []) ∷ some (drop 1 (packed smallTable)) ∷ some [] ∷ []) ≡
     replicate 5 (bytes "bad\n")
 unfolding counterOutput smallTable
 bad-alone = refl

@@ -21,7 +21,8 @@ use Rattle.tokens.specs.Scan as scan
 use Rattle.tokens.specs.Scan.{Step, codepointStep, stepAt, stepsFrom, steps}
 use Rattle.tokens.specs.Tokens.{Token, emoji, text, before, tokensOf, normalToken, normal, joinedTokens, joinedText}
 use Rattle.text_laws.specs.Composing.{nfc-every}
-use Rattle.text_laws.specs.Laws.{nfc-empty, pair-is-not-ascii}
+use Rattle.text_laws.specs.Laws.{nfc-empty}
+use Rattle.rule6_laws.specs.Laws.{pair-is-not-ascii}
 use Rattle.idempotence.specs.Rules.{Sound, Valid, valid-text-rounds, items-valid}
 use Rattle.idempotence.specs.Rendering as rendering
 use Rattle.idempotence.specs.Rendering.{Piece, writtenAll, tokensIn, Proper, stripped-way}

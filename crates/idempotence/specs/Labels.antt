@@ -18,7 +18,7 @@ use Rattle.tokens.specs.Scan.{steps}
 use Rattle.tokens.specs.Tokens.{Token, emoji, text, tokensOf, workedToken, worked, normalToken, normal, joinedTokens}
 use Rattle.name.specs.Label.{Label, stop, answer, labelVerdict}
 use Rattle.name.specs.Name.{labelsVerdict}
-use Rattle.text_laws.specs.Laws.{nfc-twice, rounds-of-nfc}
+use Rattle.rule6_laws.specs.Laws.{nfc-twice, rounds-of-nfc}
 use Rattle.joining.specs.Places.{Accepts, label-accepts, accepts-label}
 use Rattle.joining.specs.Labels.{cons-accepts, accepts-cons}
 use Rattle.idempotence.specs.Rules.{Sound, Valid, valid-scalar, emoji-scalar, stop-not-valid}
@@ -89,17 +89,17 @@ module _ (t : Table) (sound : Sound t) where
       scanned-again s d p l x e s′ r scanned
 
   -- So is a list of labels.
-  pub labels-rendered-again : (s d p : ℕ) (ls : List (List ℕ)) (xs : List Label) → labelsVerdict t s d p ls ≡ accepted xs → (s′ : ℕ) (rs : List (List ℕ)) → EachRendered t xs rs → labelsVerdict t s′ d p rs ≡ accepted xs
+  pub labels-rendered-again : (on : ℕ) (s d p : ℕ) (ls : List (List ℕ)) (xs : List Label) → labelsVerdict on t s d p ls ≡ accepted xs → (s′ : ℕ) (rs : List (List ℕ)) → EachRendered t xs rs → labelsVerdict on t s′ d p rs ≡ accepted xs
   unfolding labelsVerdict
-  labels-rendered-again s d p [] xs e s′ [] h = e
-  labels-rendered-again s d p [] xs e s′ (r ∷ rs) h = let none : xs ≡ [] = cc in absurd (rw none at h)
-  labels-rendered-again s d p (l ∷ ls) xs e s′ [] h = absurd (rw (cons-accepts t s d p l ls xs e .both) at h)
-  labels-rendered-again s d p (l ∷ ls) xs e s′ (r ∷ rs) h =
-      let c = cons-accepts t s d p l ls xs e in
+  labels-rendered-again on s d p [] xs e s′ [] h = e
+  labels-rendered-again on s d p [] xs e s′ (r ∷ rs) h = let none : xs ≡ [] = cc in absurd (rw none at h)
+  labels-rendered-again on s d p (l ∷ ls) xs e s′ [] h = absurd (rw (cons-accepts on t s d p l ls xs e .both) at h)
+  labels-rendered-again on s d p (l ∷ ls) xs e s′ (r ∷ rs) h =
+      let c = cons-accepts on t s d p l ls xs e in
       let each : RenderedAs t (c .first .tokens) r × EachRendered t (c .rest) rs = rw (c .both) at h in
       rw (c .both)
-      (accepts-cons t s′ d p r rs (c .first) (c .rest) (rendered-again s d p l (c .first) (c .first-accepted) s′ r (each .0))
-      (labels-rendered-again (s + length l + 1) (d + c .first .worked + 1) (suc p) ls (c .rest) (c .rest-accepted) (s′ + length r + 1) rs (each .1)))
+      (accepts-cons on t s′ d p r rs (c .first) (c .rest) (rendered-again s d p l (c .first) (c .first-accepted) s′ r (each .0)) (c .not-barred)
+      (labels-rendered-again on (s + length l + 1) (d + c .first .worked + 1) (suc p) ls (c .rest) (c .rest-accepted) (s′ + length r + 1) rs (each .1)))
 
   -- the answers are renderings
   pub answers-rendered : (xs : List Label) → Every (λ x. Formed t (Valid t) (x .tokens)) xs → EachRendered t xs (map answer xs)

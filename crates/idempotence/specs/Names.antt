@@ -36,13 +36,13 @@ module _ (t : Table) (sound : Sound t) where
   fine : (s d p : ℕ) (l : List ℕ) (x : Label) → labelVerdict t s d p l ≡ accepted x → Fine t x
   fine s d p l x e = (accepted-formed t sound s d p l x e, accepted-some t sound s d p l x e)
 
-  pub labels-fine : (s d p : ℕ) (ls : List (List ℕ)) (xs : List Label) → labelsVerdict t s d p ls ≡ accepted xs → Every (Fine t) xs
-  labels-fine = every-label t (Fine t) fine
+  pub labels-fine : (on : ℕ) (s d p : ℕ) (ls : List (List ℕ)) (xs : List Label) → labelsVerdict on t s d p ls ≡ accepted xs → Every (Fine t) xs
+  labels-fine on = every-label on t (Fine t) fine
 
   -- the labels' answers are accepted as those labels
-  pub answers-again : (s d p : ℕ) (ls : List (List ℕ)) (xs : List Label) → labelsVerdict t s d p ls ≡ accepted xs → labelsVerdict t s d p (map answer xs) ≡ accepted xs
-  answers-again s d p ls xs e =
-      labels-rendered-again t sound s d p ls xs e s (map answer xs) (answers-rendered t sound xs (every-imp xs (λ x f. f .0) (labels-fine s d p ls xs e)))
+  pub answers-again : (on : ℕ) (s d p : ℕ) (ls : List (List ℕ)) (xs : List Label) → labelsVerdict on t s d p ls ≡ accepted xs → labelsVerdict on t s d p (map answer xs) ≡ accepted xs
+  answers-again on s d p ls xs e =
+      labels-rendered-again t sound on s d p ls xs e s (map answer xs) (answers-rendered t sound xs (every-imp xs (λ x f. f .0) (labels-fine on s d p ls xs e)))
 
   -- splitting the answer at 2E finds the labels' answers
   pub answers-split : (xs : List Label) → Every (Fine t) xs → labelsOf (nameAnswer xs) ≡ map answer xs

@@ -26,8 +26,8 @@ use Rattle.soundness.specs.Pairs.{rule6, rule7}
 use Rattle.soundness.specs.Soundness.{lowestBroken, soundnessOf}
 use Rattle.text_laws.specs.Parsed.{Shaped, parsed-shaped}
 use Rattle.text_laws.specs.Rounds.{fully, rounds-cons, rounds-each}
-use Rattle.text_laws.specs.Stable.{Stable, fully-one}
-use Rattle.text_laws.specs.Laws.{rounds-are-stable}
+use Rattle.rule6_laws.specs.Stable.{Stable, fully-one}
+use Rattle.rule6_laws.specs.Laws.{rounds-are-stable}
 
 -- the rules that the table keeps
 pub record Sound (t : Table) : Type 0 where

@@ -14,8 +14,8 @@ use Rattle.answers.specs.declared.Kind.the-variants.{Emoji}
 use Rattle.table.specs.Table.{Table}
 use Rattle.table.specs.Lookup.{holds}
 use Rattle.tokens.specs.Tokens.{Token, emoji, text, joinedTokens, joinedText}
-use Rattle.label.specs.Spelling.{lowLine, fenced, leadingMark}
-use Rattle.label.specs.Groups.{Numbered, groupOf}
+use Rattle.spelling.specs.Spelling.{lowLine, fenced, leadingMark}
+use Rattle.groups.specs.Groups.{Numbered, groupOf}
 use Rattle.label.specs.Judge.{onlyEmoji, onlyAscii, unless, judgeAscii, judgeInGroup, judgeText, judgeMixed, judge}
 use Rattle.label_laws.specs.Unique.{group-holds}
 use Rattle.joining.specs.Places.{clash}

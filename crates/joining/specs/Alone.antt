@@ -14,7 +14,10 @@ use Rattle.answers.specs.Verdict.{accepted}
 use Rattle.table.specs.Table.{Table}
 use Rattle.table.specs.Layout.{parse}
 use Rattle.text.specs.Scalar.{isScalar}
-use Rattle.name.specs.Label.{Label, stop, leastWork, mostInput, answer, admitted, labelVerdict, oneLabel, labelCallVerdict, labelResult, labelCall}
+use Rattle.limits.specs.Limits.{mostInput, leastWork}
+use Rattle.name.specs.Label.{Label, stop, answer, admitted, labelVerdict, oneLabel, labelCallVerdict, labelResult, labelCall}
+use Rattle.answers.specs.Restriction.{barred}
+use Rattle.name.specs.Permitted.{by-accepted}
 use Rattle.name.specs.Name.{EnoughRoom, labelsOf, labelsVerdict, nameVerdict}
 use Rattle.joining.specs.Places.{placeWith-none, label-fits, label-moves}
 use Rattle.joining.specs.Labels.{cons-accepts}
@@ -61,26 +64,26 @@ parts (c ∷ n) e = go (isScalar c) refl (eqb c stop) refl e (λ f. parts n (pla
     go true h false k f r = onto-first c h k (r f)
 
 -- one label alone: 1 to 4, then the label, then 15
-label-alone : (words : List ℕ) (t : Table) (l : List ℕ) (x : Label) (s d p room work : ℕ) → parse words ≡ some t → Admissible mostInput l → labelVerdict t s d p l ≡ accepted x → EnoughRoom (answer x) room work → labelCallVerdict words l room work ≡ accepted x
+label-alone : (on : ℕ) (words : List ℕ) (t : Table) (l : List ℕ) (x : Label) (s d p room work : ℕ) → parse words ≡ some t → Admissible mostInput l → labelVerdict t s d p l ≡ accepted x → barred on (x .kind) ≡ false → EnoughRoom (answer x) room work → labelCallVerdict on words l room work ≡ accepted x
 unfolding labelCallVerdict admitted oneLabel
-label-alone words t l x s d p room work laid a e r =
+label-alone on words t l x s d p room work laid a e b r =
     let alone : labelVerdict t 0 0 0 l ≡ accepted x = label-moves t s d p 0 0 0 l x e (omega (arith, label-fits t s d p l x e)) in
-    rw (laid, le-ltb work leastWork (r .forWork), le-ltb mostInput (length l) (a .short), a .scalars, a .whole, alone, le-ltb room (length (answer x)) (r .forAnswer))
+    rw (laid, le-ltb work leastWork (r .forWork), le-ltb mostInput (length l) (a .short), a .scalars, a .whole, by-accepted on t 0 0 0 l x alone b, le-ltb room (length (answer x)) (r .forAnswer))
 
 -- each label beside what it is accepted as: the label call on it alone
-pub data EachAlone (words : List ℕ) (room work : ℕ) : List (List ℕ) → List Label → Type 0 where
-  nil : EachAlone words room work [] []
-  cons : {l : List ℕ} {ls : List (List ℕ)} {x : Label} {xs : List Label} → (EnoughRoom (answer x) room work → labelCall words l room work ≡ labelResult room work (accepted x)) → EachAlone words room work ls xs → EachAlone words room work (l ∷ ls) (x ∷ xs)
+pub data EachAlone (on : ℕ) (words : List ℕ) (room work : ℕ) : List (List ℕ) → List Label → Type 0 where
+  nil : EachAlone on words room work [] []
+  cons : {l : List ℕ} {ls : List (List ℕ)} {x : Label} {xs : List Label} → (EnoughRoom (answer x) room work → labelCall on words l room work ≡ labelResult room work (accepted x)) → EachAlone on words room work ls xs → EachAlone on words room work (l ∷ ls) (x ∷ xs)
 
-each-alone : (words : List ℕ) (t : Table) (room work : ℕ) (s d p : ℕ) (ls : List (List ℕ)) (xs : List Label) → parse words ≡ some t → All mostInput ls → labelsVerdict t s d p ls ≡ accepted xs → EachAlone words room work ls xs
+each-alone : (on : ℕ) (words : List ℕ) (t : Table) (room work : ℕ) (s d p : ℕ) (ls : List (List ℕ)) (xs : List Label) → parse words ≡ some t → All mostInput ls → labelsVerdict on t s d p ls ≡ accepted xs → EachAlone on words room work ls xs
 unfolding labelsVerdict labelCall
-each-alone words t room work s d p [] xs laid nil e = let z : [] ≡ xs = cc in subst (EachAlone words room work []) z nil
-each-alone words t room work s d p (l ∷ ls) xs laid (cons a r) e =
-    let c = cons-accepts t s d p l ls xs e in
+each-alone on words t room work s d p [] xs laid nil e = let z : [] ≡ xs = cc in subst (EachAlone on words room work []) z nil
+each-alone on words t room work s d p (l ∷ ls) xs laid (cons a r) e =
+    let c = cons-accepts on t s d p l ls xs e in
     rw (c .both)
     (cons {l = l} {ls = ls} {x = c .first} {xs = c .rest}
-    (λ enough. ap (labelResult room work) (label-alone words t l (c .first) s d p room work laid a (c .first-accepted) enough))
-    (each-alone words t room work (s + length l + 1) (d + c .first .worked + 1) (suc p) ls (c .rest) laid r (c .rest-accepted)))
+    (λ enough. ap (labelResult room work) (label-alone on words t l (c .first) s d p room work laid a (c .first-accepted) (c .not-barred) enough))
+    (each-alone on words t room work (s + length l + 1) (d + c .first .worked + 1) (suc p) ls (c .rest) laid r (c .rest-accepted)))
 
 labels-admissible : (n : List ℕ) → length n ≤ mostInput → scalarsOnly n → All mostInput (labelsOf n)
 unfolding labelsOf
@@ -89,7 +92,7 @@ labels-admissible (c ∷ n) h e = wider h (parts (c ∷ n) e)
 
 -- Each label of an accepted name, handed to the label call alone with the same table and enough room, is answered with its part of the
 -- answer and its kind.
-pub labels-alone : (words name : List ℕ) (room₁ work₁ : ℕ) (ls : List Label) → nameVerdict words name room₁ work₁ ≡ accepted ls → (room work : ℕ) → EachAlone words room work (labelsOf name) ls
-labels-alone words name room₁ work₁ ls e room work =
-    let a = name-accepts words name room₁ work₁ ls e in
-    each-alone words (a .table) room work 0 0 0 (labelsOf name) ls (a .laid) (labels-admissible name (a .input-fits) (a .scalars)) (a .labels)
+pub labels-alone : (on : ℕ) (words name : List ℕ) (room₁ work₁ : ℕ) (ls : List Label) → nameVerdict on words name room₁ work₁ ≡ accepted ls → (room work : ℕ) → EachAlone on words room work (labelsOf name) ls
+labels-alone on words name room₁ work₁ ls e room work =
+    let a = name-accepts on words name room₁ work₁ ls e in
+    each-alone on words (a .table) room work 0 0 0 (labelsOf name) ls (a .laid) (labels-admissible name (a .input-fits) (a .scalars)) (a .labels)

@@ -17,7 +17,10 @@ use Rattle.answers.specs.declared.Kind.{Kind}
 use Rattle.table.specs.Table.{Table}
 use Rattle.table.specs.Layout.{parse}
 use Rattle.text.specs.Scalar.{isScalar}
-use Rattle.name.specs.Label.{Label, stop, leastWork, mostInput, mostWorked, answer, admitted, fitting, filled}
+use Rattle.limits.specs.Limits.{mostInput, mostWorked, leastWork}
+use Rattle.lists.specs.Filled.{filled}
+use Rattle.ending.specs.Ending.{fitting}
+use Rattle.name.specs.Label.{Label, stop, answer, admitted}
 use Rattle.name.specs.Name.{labelsOf, labelsVerdict, workedLength, nameAnswer, nameVerdict, nameResult, nameCall}
 use Rattle.joining.specs.Places.{clash, placeWith-none}
 use Rattle.joining.specs.Labels.{spent, labels-fit, labels-count, labels-append, labels-both, joined-only-7}
@@ -37,13 +40,13 @@ abbrev pub kindOf : Label → Kind
 kindOf l = l .kind
 
 -- what an accepted name rests on
-pub record NameAccepts (words name : List ℕ) (room work : ℕ) (ls : List Label) : Type 0 where
+pub record NameAccepts (on : ℕ) (words name : List ℕ) (room work : ℕ) (ls : List Label) : Type 0 where
   pub table : Table
   pub laid : parse words ≡ some table
   pub work-fits : leastWork ≤ work
   pub input-fits : length name ≤ mostInput
   pub scalars : placeWith (λ c. not (isScalar c)) 0 name ≡ none
-  pub labels : labelsVerdict table 0 0 0 (labelsOf name) ≡ accepted ls
+  pub labels : labelsVerdict on table 0 0 0 (labelsOf name) ≡ accepted ls
   pub room-fits : length (nameAnswer ls) ≤ room
 
 -- after 15 the labels are those before it, and they have room
@@ -55,23 +58,23 @@ after-15 room (accepted xs) ls e = go (ltb room (length (nameAnswer xs))) refl e
     go true eb f = clash 15 0 ls f
     go false eb f = let same : xs ≡ ls = cc in (f, rw (← same) (ltb-false room (length (nameAnswer xs)) eb))
 
-pub name-accepts : (words name : List ℕ) (room work : ℕ) (ls : List Label) → nameVerdict words name room work ≡ accepted ls → NameAccepts words name room work ls
+pub name-accepts : (on : ℕ) (words name : List ℕ) (room work : ℕ) (ls : List Label) → nameVerdict on words name room work ≡ accepted ls → NameAccepts on words name room work ls
 unfolding nameVerdict admitted
-name-accepts words name room work ls =
+name-accepts on words name room work ls =
     go (parse words) refl (ltb work leastWork) refl (ltb mostInput (length name)) refl (placeWith (λ c. not (isScalar c)) 0 name) refl
   where
-    go : (o : Option Table) → parse words ≡ o → (b : Bool) → ltb work leastWork ≡ b → (c : Bool) → ltb mostInput (length name) ≡ c → (p : Option ℕ) → placeWith (λ c. not (isScalar c)) 0 name ≡ p → next (onSome o (λ t. cond b (refused 2 0) (cond c (refused 3 0) (onSome p (refused 4) (accepted t)))) (refused 1 0)) (λ t. next (labelsVerdict t 0 0 0 (labelsOf name)) (λ xs. fitting room (length (nameAnswer xs)) xs)) ≡ accepted ls → NameAccepts words name room work ls
+    go : (o : Option Table) → parse words ≡ o → (b : Bool) → ltb work leastWork ≡ b → (c : Bool) → ltb mostInput (length name) ≡ c → (p : Option ℕ) → placeWith (λ c. not (isScalar c)) 0 name ≡ p → next (next (onSome o (λ t. cond b (refused 2 0) (cond c (refused 3 0) (onSome p (refused 4) (accepted t)))) (refused 1 0)) (λ t. labelsVerdict on t 0 0 0 (labelsOf name))) (λ xs. fitting room (length (nameAnswer xs)) xs) ≡ accepted ls → NameAccepts on words name room work ls
     go none eo b eb c ec p ep e = clash 1 0 ls e
     go (some t) eo true eb c ec p ep e = clash 2 0 ls e
     go (some t) eo false eb true ec p ep e = clash 3 0 ls e
     go (some t) eo false eb false ec (some i) ep e = clash 4 i ls e
     go (some t) eo false eb false ec none ep e =
-        let r = after-15 room (labelsVerdict t 0 0 0 (labelsOf name)) ls e in
+        let r = after-15 room (labelsVerdict on t 0 0 0 (labelsOf name)) ls e in
         record { table = t; laid = eo; work-fits = ltb-false work leastWork eb; input-fits = ltb-false mostInput (length name) ec; scalars = ep; labels = r .0; room-fits = r .1 }
 
-pub accepts-name : (words name : List ℕ) (room work : ℕ) (ls : List Label) → NameAccepts words name room work ls → nameVerdict words name room work ≡ accepted ls
+pub accepts-name : (on : ℕ) (words name : List ℕ) (room work : ℕ) (ls : List Label) → NameAccepts on words name room work ls → nameVerdict on words name room work ≡ accepted ls
 unfolding nameVerdict admitted
-accepts-name words name room work ls a =
+accepts-name on words name room work ls a =
     rw (a .laid, le-ltb work leastWork (a .work-fits), le-ltb mostInput (length name) (a .input-fits), a .scalars, a .labels, le-ltb room (length (nameAnswer ls)) (a .room-fits))
 
 -- Laws of the parts
@@ -122,13 +125,13 @@ worked-joined xs ys h k =
 
 -- The theorem
 
-pub record Joining (words a b : List ℕ) (xs ys : List Label) (room work : ℕ) : Type 0 where
+pub record Joining (on : ℕ) (words a b : List ℕ) (xs ys : List Label) (room work : ℕ) : Type 0 where
   -- "Joined by a full stop, they are accepted exactly when the joined name keeps within the length limits and the room", and then with
   -- "the labels .. of the first name and then those of the second"
-  pub accepts : Within (joinedName a b) (xs ++ ys) room work → nameVerdict words (joinedName a b) room work ≡ accepted (xs ++ ys)
-  pub keeps : (zs : List Label) → nameVerdict words (joinedName a b) room work ≡ accepted zs → Within (joinedName a b) (xs ++ ys) room work
+  pub accepts : Within (joinedName a b) (xs ++ ys) room work → nameVerdict on words (joinedName a b) room work ≡ accepted (xs ++ ys)
+  pub keeps : (zs : List Label) → nameVerdict on words (joinedName a b) room work ≡ accepted zs → Within (joinedName a b) (xs ++ ys) room work
   -- no other refusal is given
-  pub refuses : (n p : ℕ) → nameVerdict words (joinedName a b) room work ≡ refused n p → mem n (2 ∷ 3 ∷ 7 ∷ 15 ∷ []) ≡ true
+  pub refuses : (n p : ℕ) → nameVerdict on words (joinedName a b) room work ≡ refused n p → mem n (2 ∷ 3 ∷ 7 ∷ 15 ∷ []) ≡ true
   -- "The answer is then the first answer, a full stop and the second answer."
   pub answers : nameAnswer (xs ++ ys) ≡ nameAnswer xs ++ stop ∷ nameAnswer ys
   -- "each with its kind"
@@ -141,22 +144,22 @@ pub record Joining (words a b : List ℕ) (xs ys : List Label) (room work : ℕ)
   pub worked-length : workedLength (xs ++ ys) ≡ workedLength xs + workedLength ys + 1
   pub answer-length : length (nameAnswer (xs ++ ys)) ≡ length (nameAnswer xs) + length (nameAnswer ys) + 1
 
--- Both names are accepted with one table, with any buffers; the joined name may be given others.
-module _ (words a b : List ℕ) (xs ys : List Label) (room₁ work₁ room₂ work₂ room work : ℕ) (a-some : 1 ≤ length a) (b-some : 1 ≤ length b) (first : nameVerdict words a room₁ work₁ ≡ accepted xs) (second : nameVerdict words b room₂ work₂ ≡ accepted ys) where
-  A : NameAccepts words a room₁ work₁ xs
-  A = name-accepts words a room₁ work₁ xs first
+-- Both names are accepted with one table and one setting, with any buffers; the joined name may be given others.
+module _ (on : ℕ) (words a b : List ℕ) (xs ys : List Label) (room₁ work₁ room₂ work₂ room work : ℕ) (a-some : 1 ≤ length a) (b-some : 1 ≤ length b) (first : nameVerdict on words a room₁ work₁ ≡ accepted xs) (second : nameVerdict on words b room₂ work₂ ≡ accepted ys) where
+  A : NameAccepts on words a room₁ work₁ xs
+  A = name-accepts on words a room₁ work₁ xs first
 
-  B : NameAccepts words b room₂ work₂ ys
-  B = name-accepts words b room₂ work₂ ys second
+  B : NameAccepts on words b room₂ work₂ ys
+  B = name-accepts on words b room₂ work₂ ys second
 
   same-table : B .table ≡ A .table
   same-table = let e : _≡_ {A = Option Table} (some (B .table)) (some (A .table)) = sym (B .laid) ∙ A .laid in cc
 
-  B-labels : labelsVerdict (A .table) 0 0 0 (labelsOf b) ≡ accepted ys
+  B-labels : labelsVerdict on (A .table) 0 0 0 (labelsOf b) ≡ accepted ys
   B-labels = rw (← same-table) (B .labels)
 
-  some-labels : (n : List ℕ) → 1 ≤ length n → (t : Table) (zs : List Label) → labelsVerdict t 0 0 0 (labelsOf n) ≡ accepted zs → 1 ≤ length zs
-  some-labels n h t zs e = rw (labels-count t 0 0 0 (labelsOf n) zs e, labelsOf-split n h) (split-some stop n)
+  some-labels : (n : List ℕ) → 1 ≤ length n → (t : Table) (zs : List Label) → labelsVerdict on t 0 0 0 (labelsOf n) ≡ accepted zs → 1 ≤ length zs
+  some-labels n h t zs e = rw (labels-count on t 0 0 0 (labelsOf n) zs e, labelsOf-split n h) (split-some stop n)
 
   xs-some : 1 ≤ length xs
   xs-some = some-labels a a-some (A .table) xs (A .labels)
@@ -168,42 +171,42 @@ module _ (words a b : List ℕ) (xs ys : List Label) (room₁ work₁ room₂ wo
   all-scalars : placeWith (λ c. not (isScalar c)) 0 (joinedName a b) ≡ none
   all-scalars = placeWith-append (λ c. not (isScalar c)) 0 a (stop ∷ b) (A .scalars) (placeWith-none (λ c. not (isScalar c)) 0 1 b (B .scalars))
 
-  both-accepted : Within (joinedName a b) (xs ++ ys) room work → nameVerdict words (joinedName a b) room work ≡ accepted (xs ++ ys)
-  both-accepted w = accepts-name words (joinedName a b) room work (xs ++ ys) (record { table = A .table; laid = A .laid; work-fits = w .not-2; input-fits = w .not-3; scalars = all-scalars; labels = rw (labelsOf-joined a b a-some b-some) (labels-append (A .table) 0 0 0 (labelsOf a) xs 0 0 0 (labelsOf b) ys (A .labels) B-labels fits); room-fits = w .not-15 })
+  both-accepted : Within (joinedName a b) (xs ++ ys) room work → nameVerdict on words (joinedName a b) room work ≡ accepted (xs ++ ys)
+  both-accepted w = accepts-name on words (joinedName a b) room work (xs ++ ys) (record { table = A .table; laid = A .laid; work-fits = w .not-2; input-fits = w .not-3; scalars = all-scalars; labels = rw (labelsOf-joined a b a-some b-some) (labels-append on (A .table) 0 0 0 (labelsOf a) xs 0 0 0 (labelsOf b) ys (A .labels) B-labels fits); room-fits = w .not-15 })
     where
       fits : 0 + spent (xs ++ ys) ≤ suc mostWorked
       fits = let e = spent-worked (xs ++ ys) (simp length-append (omega (arith, xs-some))) in omega (arith, w .not-7)
 
-  both-keep : (zs : List Label) → nameVerdict words (joinedName a b) room work ≡ accepted zs → Within (joinedName a b) (xs ++ ys) room work
+  both-keep : (zs : List Label) → nameVerdict on words (joinedName a b) room work ≡ accepted zs → Within (joinedName a b) (xs ++ ys) room work
   both-keep zs e =
-      let C = name-accepts words (joinedName a b) room work zs e in
+      let C = name-accepts on words (joinedName a b) room work zs e in
       let table : C .table ≡ A .table = let e : _≡_ {A = Option Table} (some (C .table)) (some (A .table)) = sym (C .laid) ∙ A .laid in cc in
-      let labels : labelsVerdict (A .table) 0 0 0 (labelsOf a ++ labelsOf b) ≡ accepted zs = rw (← table, ← labelsOf-joined a b a-some b-some) (C .labels) in
-      let all : zs ≡ xs ++ ys = labels-both (A .table) 0 0 0 (labelsOf a) (labelsOf b) zs 0 0 0 xs 0 0 0 ys labels (A .labels) B-labels in
-      let fit : 0 + spent zs ≤ suc mostWorked = labels-fit (A .table) 0 0 0 (labelsOf a ++ labelsOf b) zs (omega arith) labels in
+      let labels : labelsVerdict on (A .table) 0 0 0 (labelsOf a ++ labelsOf b) ≡ accepted zs = rw (← table, ← labelsOf-joined a b a-some b-some) (C .labels) in
+      let all : zs ≡ xs ++ ys = labels-both on (A .table) 0 0 0 (labelsOf a) (labelsOf b) zs 0 0 0 xs 0 0 0 ys labels (A .labels) B-labels in
+      let fit : 0 + spent zs ≤ suc mostWorked = labels-fit on (A .table) 0 0 0 (labelsOf a ++ labelsOf b) zs (omega arith) labels in
       let counted : spent (xs ++ ys) ≡ workedLength (xs ++ ys) + 1 = spent-worked (xs ++ ys) (simp length-append (omega (arith, xs-some))) in
       let fit′ : 0 + spent (xs ++ ys) ≤ suc mostWorked = rw (← all) fit in
       record { not-2 = C .work-fits; not-3 = C .input-fits; not-7 = omega arith; not-15 = rw (← all) (C .room-fits) }
 
-  only-limits : (n p : ℕ) → nameVerdict words (joinedName a b) room work ≡ refused n p → mem n (2 ∷ 3 ∷ 7 ∷ 15 ∷ []) ≡ true
+  only-limits : (n p : ℕ) → nameVerdict on words (joinedName a b) room work ≡ refused n p → mem n (2 ∷ 3 ∷ 7 ∷ 15 ∷ []) ≡ true
   unfolding nameVerdict admitted
-  only-limits n p e = go (ltb work leastWork) (ltb mostInput (length (joinedName a b))) (labelsVerdict (A .table) 0 0 0 (labelsOf (joinedName a b))) refl (rw (A .laid, all-scalars) at e)
+  only-limits n p e = go (ltb work leastWork) (ltb mostInput (length (joinedName a b))) (labelsVerdict on (A .table) 0 0 0 (labelsOf (joinedName a b))) refl (rw (A .laid, all-scalars) at e)
     where
       last : (zs : List Label) (b : Bool) → _≡_ {A = Verdict (List Label)} (cond b (refused 15 0) (accepted zs)) (refused n p) → mem n (2 ∷ 3 ∷ 7 ∷ 15 ∷ []) ≡ true
       last zs true f = let z : n ≡ 15 = cc in rw z
       last zs false f = clash n p zs (sym f)
 
-      go : (f₂ f₃ : Bool) (v : Verdict (List Label)) → labelsVerdict (A .table) 0 0 0 (labelsOf (joinedName a b)) ≡ v → next (cond f₂ (refused 2 0) (cond f₃ (refused 3 0) (accepted (A .table)))) (λ t. next (labelsVerdict t 0 0 0 (labelsOf (joinedName a b))) (λ zs. fitting room (length (nameAnswer zs)) zs)) ≡ refused n p → mem n (2 ∷ 3 ∷ 7 ∷ 15 ∷ []) ≡ true
+      go : (f₂ f₃ : Bool) (v : Verdict (List Label)) → labelsVerdict on (A .table) 0 0 0 (labelsOf (joinedName a b)) ≡ v → next (next (cond f₂ (refused 2 0) (cond f₃ (refused 3 0) (accepted (A .table)))) (λ t. labelsVerdict on t 0 0 0 (labelsOf (joinedName a b)))) (λ zs. fitting room (length (nameAnswer zs)) zs) ≡ refused n p → mem n (2 ∷ 3 ∷ 7 ∷ 15 ∷ []) ≡ true
       go true c v ev f = let z : n ≡ 2 = cc in rw z
       go false true v ev f = let z : n ≡ 3 = cc in rw z
       go false false (accepted zs) ev f = last zs (ltb room (length (nameAnswer zs))) (rw ev at f)
       go false false (refused n′ p′) ev f =
           let g : _≡_ {A = Verdict (List Label)} (refused n′ p′) (refused n p) = rw ev at f in
-          let w : labelsVerdict (A .table) 0 0 0 (labelsOf a ++ labelsOf b) ≡ refused n p = rw (← labelsOf-joined a b a-some b-some) (ev ∙ g) in
-          let z : n ≡ 7 = joined-only-7 (A .table) 0 0 0 (labelsOf a) (labelsOf b) 0 0 0 xs 0 0 0 ys n p (A .labels) B-labels w in
+          let w : labelsVerdict on (A .table) 0 0 0 (labelsOf a ++ labelsOf b) ≡ refused n p = rw (← labelsOf-joined a b a-some b-some) (ev ∙ g) in
+          let z : n ≡ 7 = joined-only-7 on (A .table) 0 0 0 (labelsOf a) (labelsOf b) 0 0 0 xs 0 0 0 ys n p (A .labels) B-labels w in
           rw z
 
-  pub joining : Joining words a b xs ys room work
+  pub joining : Joining on words a b xs ys room work
   joining =
       record {
         accepts = both-accepted;
@@ -218,8 +221,8 @@ module _ (words a b : List ℕ) (xs ys : List Label) (room₁ work₁ room₂ wo
       }
 
 -- The same of the call itself: its values and every word of both buffers.
-pub joined-call : (words a b : List ℕ) (xs ys : List Label) (room work : ℕ) → Joining words a b xs ys room work → Within (joinedName a b) (xs ++ ys) room work → nameCall words (joinedName a b) room work ≡ record { values = record { number = 0; place = 0; length = length (nameAnswer xs) + length (nameAnswer ys) + 1; labels = length (labelsOf a) + length (labelsOf b) }; answer = filled room (nameAnswer xs ++ stop ∷ nameAnswer ys); work = replicate work 0 }
+pub joined-call : (on : ℕ) (words a b : List ℕ) (xs ys : List Label) (room work : ℕ) → Joining on words a b xs ys room work → Within (joinedName a b) (xs ++ ys) room work → nameCall on words (joinedName a b) room work ≡ record { values = record { number = 0; place = 0; length = length (nameAnswer xs) + length (nameAnswer ys) + 1; labels = length (labelsOf a) + length (labelsOf b) }; answer = filled room (nameAnswer xs ++ stop ∷ nameAnswer ys); work = replicate work 0 }
 unfolding nameCall nameResult
-joined-call words a b xs ys room work j w =
+joined-call on words a b xs ys room work j w =
     let total : length (nameAnswer xs ++ stop ∷ nameAnswer ys) ≡ length (nameAnswer xs) + length (nameAnswer ys) + 1 = sym (ap length (j .answers)) ∙ j .answer-length in
     rw (j .accepts w, j .answers, j .labels, length-append (labelsOf a) (labelsOf b), total)

@@ -15,12 +15,13 @@ use Rattle.table.specs.Table.{Table}
 use Rattle.tokens.specs.Scan.{Step, emoji, text, ignored, disallowed, steps, firstDisallowed}
 use Rattle.tokens.specs.Tokens.{Token, tokensOf, worked, normal, joinedTokens, joinedText}
 use Rattle.answers.specs.declared.Kind.the-variants.{Emoji, Ascii, Group}
-use Rattle.label.specs.Spelling.{lowLine, hyphens, fenced, leadingMark}
-use Rattle.label.specs.Marks.{nsmFits}
-use Rattle.label.specs.Confusable.{confusable}
-use Rattle.label.specs.Groups.{Numbered, groupOf}
+use Rattle.spelling.specs.Spelling.{lowLine, hyphens, fenced, leadingMark}
+use Rattle.nsm.specs.Marks.{nsmFits}
+use Rattle.lookalike.specs.Confusable.{confusable}
+use Rattle.groups.specs.Groups.{Numbered, groupOf}
 use Rattle.label.specs.Judge.{judge, judgeAscii, judgeMixed, judgeText, judgeInGroup, unless, onlyEmoji, onlyAscii}
-use Rattle.name.specs.Label.{Label, mostWorked, judged, labelVerdict}
+use Rattle.limits.specs.Limits.{mostWorked}
+use Rattle.name.specs.Label.{Label, judged, labelVerdict}
 
 -- a place is found from one start exactly when it is found from another
 pub placeWith-none : {A : Type 0} (p : A → Bool) (a b : ℕ) (s : List A) → placeWith p a s ≡ none → placeWith p b s ≡ none

@@ -1,12 +1,4 @@
-pub mod Walks
-pub mod SpellingLaws
-pub mod GroupLaws
-pub mod OutsideLaws
-pub mod FlagLaws
-pub mod LookalikeLaws
 pub mod CellLaws
 pub mod VerdictLaws
-pub mod OpeningLaws
+pub mod JudgingLaws
 pub mod PartedLaws
-pub mod LookOrderLaws
-pub mod LookCoverLaws

@@ -1,4 +1,4 @@
--- Laws of the verdict: which refusal comes first, and what the verdict on codepoints with marks says of the tokens. Assumes nothing.
+-- Laws of the verdict: which refusal comes first, and what the verdict on codepoints with tags says of the tokens. Assumes nothing.
 use Prim.Native.Nat.{ℕ, suc, _≤_}
 use native.Mathlib.Omega.{arith}
 use mathlib.Core.Path.{_≡_, refl, sym}
@@ -13,16 +13,17 @@ use Rattle.answers.specs.declared.Kind.the-variants.{Emoji, Ascii, Group}
 use Rattle.table.specs.Table.{Table}
 use Rattle.tokens.specs.Tokens.{Token, emoji, text, isEmoji, joinedTokens}
 use Rattle.tokens.specs.Cells.{marksOf, Cells}
-use Rattle.label.specs.declared.GroupFound.the-variants.{At, Nothing}
-use Rattle.label.specs.Spelling.{lowLine, hyphens, fenced}
-use Rattle.label.specs.Groups.{Numbered, groupOf}
-use Rattle.label.specs.GroupPart.{groupFound}
-use Rattle.label.specs.Marks.{nsmFits}
-use Rattle.label.specs.Confusable.{confusable}
-use Rattle.label.specs.Judge.{onlyEmoji, allAscii, onlyAscii, unless, judgeAscii, judgeInGroup, judgeText, judgeMixed, judge}
-use Rattle.label.specs.CellText.{leadingAt, textAt, codesIn, marksIn}
-use Rattle.label.specs.Opening.{groupVerdict, inGroup, mixedAt, judgeAt}
-use Rattle.label.proofs.CellLaws.{leading-tokens, text-tokens}
+use Rattle.groups.specs.declared.GroupFound.the-variants.{At, Nothing}
+use Rattle.nsm.specs.Marks.{nsmFits}
+use Rattle.spelling.specs.Spelling.{lowLine, hyphens, fenced, allAscii}
+use Rattle.spelling.specs.CellMarks.{leadingAt, codesIn, tagsIn}
+use Rattle.spelling.proofs.LeadingLaws.{leading-tokens}
+use Rattle.lookalike.specs.Confusable.{confusable}
+use Rattle.groups.specs.Groups.{Numbered, groupOf, groupFound}
+use Rattle.label.specs.Judge.{onlyEmoji, onlyAscii, unless, judgeAscii, judgeInGroup, judgeText, judgeMixed, judge}
+use Rattle.label.specs.CellText.{textAt}
+use Rattle.label.specs.Judging.{groupVerdict, inGroup, mixedAt, judgeAt}
+use Rattle.label.proofs.CellLaws.{text-tokens}
 
 -- the first refusal that applies, or what follows
 pub first-refused : (a : Bool) (n place : ℕ) (v : Verdict Kind) → a ≡ true → refused n place ≡ unless a n place v
@@ -150,7 +151,7 @@ only-ascii (text s ∷ u ∷ us) p e = go (any isEmoji (u ∷ us)) refl
     go true f = refl
     go false f = absurd (let k : suc (suc (length us)) ≤ 1 = p f in omega arith)
 
--- the verdict on the codepoints and marks of tokens is the verdict on the tokens
+-- the verdict on the codepoints and tags of tokens is the verdict on the tokens
 pub judge-tokens : (t : Table) (place : ℕ) (ts : List Token) → Parted ts
     → judgeAt t place (joinedTokens ts) (marksOf ts) (any isEmoji ts) (anyText ts) ≡ judge t place ts
 unfolding judgeAt judge judgeMixed mixedAt
@@ -167,5 +168,5 @@ judge-tokens t place ts p = go (anyText ts) refl
 
 -- the same over a work area
 pub judge-cells : (t : Table) (place : ℕ) (ts : List Token) (w : List ℕ) (n : ℕ) → Cells ts w n → Parted ts
-    → judgeAt t place (codesIn w n) (marksIn w n) (any isEmoji ts) (anyText ts) ≡ judge t place ts
+    → judgeAt t place (codesIn w n) (tagsIn w n) (any isEmoji ts) (anyText ts) ≡ judge t place ts
 judge-cells t place ts w n c p = rw (c .words, c .marks) (judge-tokens t place ts p)

@@ -3,25 +3,20 @@
 use Prim.Native.Nat.{ℕ}
 use mathlib.Core.Bool.{Bool, true, false, not, _&&_, cond}
 use mathlib.Core.List.{List, [], _∷_}
-use lib.Dec.{ltb}
 use Rattle.lists.specs.Lists.{all, onSome}
 use Rattle.answers.specs.Verdict.{Verdict, accepted, refused}
 use Rattle.answers.specs.declared.Kind.{Kind}
 use Rattle.answers.specs.declared.Kind.the-variants.{Emoji, Ascii, Group}
 use Rattle.table.specs.Table.{Table}
 use Rattle.tokens.specs.Tokens.{Token, emoji, text, isEmoji, joinedTokens, joinedText}
-use Rattle.label.specs.Spelling.{lowLine, hyphens, fenced, leadingMark}
-use Rattle.label.specs.Groups.{Numbered, groupOf}
-use Rattle.label.specs.Marks.{nsmFits}
-use Rattle.label.specs.Confusable.{confusable}
+use Rattle.nsm.specs.Marks.{nsmFits}
+use Rattle.spelling.specs.Spelling.{lowLine, hyphens, fenced, leadingMark, allAscii}
+use Rattle.lookalike.specs.Confusable.{confusable}
+use Rattle.groups.specs.Groups.{Numbered, groupOf}
 
 -- "Only emoji tokens"
 abbrev pub onlyEmoji : List Token → Bool
 onlyEmoji ts = all isEmoji ts
-
--- "all below 80 hex"
-abbrev pub allAscii : List ℕ → Bool
-allAscii s = all (λ c. ltb c 0x80) s
 
 -- "A single token, which is text, all below 80 hex"
 abbrev pub onlyAscii : List Token → Bool

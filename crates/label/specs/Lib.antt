@@ -1,10 +1,3 @@
-pub mod Spelling
-pub mod Groups
-pub mod Marks
-pub mod Confusable
 pub mod Judge
-pub mod GroupPart
-pub mod Flags
 pub mod CellText
-pub mod Opening
-pub mod LookOrder
+pub mod Judging

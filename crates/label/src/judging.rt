@@ -1,26 +1,29 @@
-// The verdict on the tokens of a label, as they stand in the work area.
-use crate::GroupFound;
+// The verdict on the tokens of a label, as they stand in the work area: refusals 8 to 14 and the kind.
 use crate::Judged;
-use crate::Opening;
-use crate::cells::leading_mark;
 use crate::cells::text_alone;
-use crate::groups::group_of;
-use crate::lookalike::confusable;
-use crate::spelling::all_ascii;
-use crate::spelling::fenced;
-use crate::spelling::hyphens;
-use crate::spelling::low_line;
 use answers::GroupKind;
 use answers::Kind;
 use answers::Refusal;
+use groups::GroupFound;
+use groups::group_of;
+use limits::MOST_WORKED;
+use lookalike::confusable;
+use nsm::runs::nsm_fits;
+use spelling::all_ascii;
+use spelling::fenced;
+use spelling::hyphens;
+use spelling::leading_mark;
+use spelling::low_line;
 use table::Sections;
 ghost use mathlib.Core.Path.{_≡_};
 ghost use Prim.Native.Nat.{_≤_};
 ghost use lib.ListN.{length};
+ghost use Rattle.limits.specs.Limits.{leastWork, mostWorked};
 ghost use Rattle.table.specs.Laid.{Laid, theTable};
+ghost use Rattle.spelling.specs.CellMarks.{codesIn, tagsIn};
 ghost use Rattle.label.specs.Judge.{judgeAscii, judgeText};
-ghost use Rattle.label.specs.CellText.{textAt, codesIn, marksIn};
-ghost use Rattle.label.specs.Opening.{verdictOf, groupVerdict, mixedAt, judgeAt, Opened};
+ghost use Rattle.label.specs.CellText.{textAt};
+ghost use Rattle.label.specs.Judging.{verdictOf, groupVerdict, inGroup, mixedAt, judgeAt, CellsJudged};
 
 // A single text token below 80 hex: rules 8 and 9, kind ASCII.
 fn judge_ascii(s: &[u32], place: usize) -> Judged
@@ -35,78 +38,8 @@ fn judge_ascii(s: &[u32], place: usize) -> Judged
     Judged::Accepted(Kind::Ascii)
 }
 
-// The group of the text alone, else 12.
-fn opening_text(words: &[u32], ix: Sections, w: &mut [u32], n: usize, place: usize) -> Opening
-    requires { ⌜ Laid (now words) ix ⌝ }
-    requires { ⌜ 2048 ≤ length (now w) ⌝ }
-    requires { ⌜ n ≤ 1024 ⌝ }
-    ensures { λ r. ⌜ Opened (theTable (now (words .entry))) place (now (w .entry)) (now (w .exit)) n (judgeText (theTable (now (words .entry))) place (textAt (codesIn (now (w .entry)) n) (marksIn (now (w .entry)) n))) r ⌝ }
-{
-    let m = text_alone(w, n);
-    let end = 1024 + m;
-    let found = group_of(words, ix, &w[1024..end]);
-    match found {
-        GroupFound::At {
-            number,
-            restricted,
-            whitelisted,
-        } => Opening::InGroup {
-            length: m,
-            number: number,
-            restricted: restricted,
-            whitelisted: whitelisted,
-        },
-        GroupFound::Nothing => Opening::Ended(Judged::Refused(Refusal::NoGroup(place))),
-    }
-}
-
-// Other tokens: 8 and 10 over all codepoints, 11 for each text token, then the group of the text alone.
-fn opening_mixed(words: &[u32], ix: Sections, w: &mut [u32], n: usize, place: usize) -> Opening
-    requires { ⌜ Laid (now words) ix ⌝ }
-    requires { ⌜ 2048 ≤ length (now w) ⌝ }
-    requires { ⌜ n ≤ 1024 ⌝ }
-    ensures { λ r. ⌜ Opened (theTable (now (words .entry))) place (now (w .entry)) (now (w .exit)) n (mixedAt (theTable (now (words .entry))) place (codesIn (now (w .entry)) n) (marksIn (now (w .entry)) n)) r ⌝ }
-{
-    if low_line(&w[..n]) {
-        return Opening::Ended(Judged::Refused(Refusal::LowLine(place)));
-    }
-    if fenced(words, ix, &w[..n]) {
-        return Opening::Ended(Judged::Refused(Refusal::Fenced(place)));
-    }
-    if leading_mark(words, ix, w, n) {
-        return Opening::Ended(Judged::Refused(Refusal::LeadingMark(place)));
-    }
-    opening_text(words, ix, w, n, place)
-}
-
-// The verdict as far as 12; `emoji` and `text` say whether there are tokens of that kind.
-pub fn judge_opening(
-    words: &[u32],
-    ix: Sections,
-    w: &mut [u32],
-    n: usize,
-    emoji: bool,
-    text: bool,
-    place: usize,
-) -> Opening
-    requires { ⌜ Laid (now words) ix ⌝ }
-    requires { ⌜ 2048 ≤ length (now w) ⌝ }
-    requires { ⌜ n ≤ 1024 ⌝ }
-    ensures { λ r. ⌜ Opened (theTable (now (words .entry))) place (now (w .entry)) (now (w .exit)) n (judgeAt (theTable (now (words .entry))) place (codesIn (now (w .entry)) n) (marksIn (now (w .entry)) n) emoji text) r ⌝ }
-{
-    if !text {
-        return Opening::Ended(Judged::Accepted(Kind::Emoji));
-    }
-    if !emoji {
-        if all_ascii(&w[..n]) {
-            return Opening::Ended(judge_ascii(&w[..n], place));
-        }
-    }
-    opening_mixed(words, ix, w, n, place)
-}
-
-// The rest, in the group that holds the text: 13 unless its NSM fit or the group is whitelisted, which `fits` says, then 14.
-pub fn judge_group(
+// 13 unless the NSM of the text fit, which `fits` says, then 14; the kind is the group.
+fn judge_group(
     words: &[u32],
     ix: Sections,
     text: &[u32],
@@ -128,4 +61,101 @@ pub fn judge_group(
         number: number,
         restricted: restricted,
     }))
+}
+
+// 13 and 14, in the group that holds the text.
+fn judge_in_group(
+    words: &[u32],
+    ix: Sections,
+    text: &[u32],
+    number: usize,
+    restricted: bool,
+    whitelisted: bool,
+    place: usize,
+) -> Judged
+    requires { ⌜ Laid (now words) ix ⌝ }
+    ensures { λ r. ⌜ verdictOf r ≡ inGroup (theTable (now (words .entry))) place (now (text .entry)) number restricted whitelisted ⌝ }
+{
+    let mut fits = whitelisted;
+    if !whitelisted {
+        fits = nsm_fits(words, ix, text);
+    }
+    judge_group(words, ix, text, fits, number, restricted, place)
+}
+
+// The text alone: 12 where no group holds it, else 13 and 14 in the first that does.
+fn judge_text(words: &[u32], ix: Sections, w: &mut [u32], n: usize, place: usize) -> Judged
+    requires { ⌜ Laid (now words) ix ⌝ }
+    requires { ⌜ leastWork ≤ length (now w) ⌝ }
+    requires { ⌜ n ≤ mostWorked ⌝ }
+    ensures { λ r. ⌜ CellsJudged (judgeText (theTable (now (words .entry))) place (textAt (codesIn (now (w .entry)) n) (tagsIn (now (w .entry)) n)))
+        (now (w .entry)) (now (w .exit)) r ⌝ }
+{
+    let m = text_alone(w, n);
+    let end = MOST_WORKED + m;
+    let search = group_of(words, ix, &w[MOST_WORKED..end]);
+    let found = search.found;
+    match found {
+        GroupFound::At {
+            number,
+            restricted,
+            whitelisted,
+        } => judge_in_group(
+            words,
+            ix,
+            &w[MOST_WORKED..end],
+            number,
+            restricted,
+            whitelisted,
+            place,
+        ),
+        GroupFound::Nothing => Judged::Refused(Refusal::NoGroup(place)),
+    }
+}
+
+// Other tokens: 8 and 10 over all codepoints, 11 for each text token, then the text alone.
+fn judge_mixed(words: &[u32], ix: Sections, w: &mut [u32], n: usize, place: usize) -> Judged
+    requires { ⌜ Laid (now words) ix ⌝ }
+    requires { ⌜ leastWork ≤ length (now w) ⌝ }
+    requires { ⌜ n ≤ mostWorked ⌝ }
+    ensures { λ r. ⌜ CellsJudged (mixedAt (theTable (now (words .entry))) place (codesIn (now (w .entry)) n) (tagsIn (now (w .entry)) n))
+        (now (w .entry)) (now (w .exit)) r ⌝ }
+{
+    if low_line(&w[..n]) {
+        return Judged::Refused(Refusal::LowLine(place));
+    }
+    if fenced(words, ix, &w[..n]) {
+        return Judged::Refused(Refusal::Fenced(place));
+    }
+    if leading_mark(words, ix, w, n) {
+        return Judged::Refused(Refusal::LeadingMark(place));
+    }
+    judge_text(words, ix, w, n, place)
+}
+
+// 8 to 14 and the kind, on tokens in normal form, n codepoints; `emoji` and `text` say whether there are tokens of that kind.
+pub fn judge(
+    words: &[u32],
+    ix: Sections,
+    w: &mut [u32],
+    n: usize,
+    emoji: bool,
+    text: bool,
+    place: usize,
+) -> Judged
+    requires { ⌜ Laid (now words) ix ⌝ }
+    requires { ⌜ leastWork ≤ length (now w) ⌝ }
+    requires { ⌜ n ≤ mostWorked ⌝ }
+    ensures { λ r. ⌜ CellsJudged (judgeAt (theTable (now (words .entry))) place (codesIn (now (w .entry)) n) (tagsIn (now (w .entry)) n) emoji text)
+        (now (w .entry)) (now (w .exit)) r ⌝ }
+{
+    if !text {
+        return Judged::Accepted(Kind::Emoji);
+    }
+    if !emoji {
+        if all_ascii(&w[..n]) {
+            return judge_ascii(&w[..n], place);
+        }
+    }
+    judge_mixed(words, ix, w, n, place)
 }

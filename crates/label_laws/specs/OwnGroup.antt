@@ -10,8 +10,8 @@ use Rattle.lists.specs.Laws.{both, mem-of, keep-member}
 use Rattle.lists.specs.Members.{any-passing, passing-any, all-at, keep-keeps}
 use Rattle.table.specs.Table.{Table, Group, Whole}
 use Rattle.table.specs.Lookup.{holds, wholeOf}
-use Rattle.label.specs.Groups.{holdsAll}
-use Rattle.label.specs.Confusable.{isConfused, members, shareGroup, extent, outside, respells}
+use Rattle.groups.specs.Groups.{holdsAll}
+use Rattle.lookalike.specs.Confusable.{isConfused, members, shareGroup, extent, outside, respells}
 
 -- E1: a character is in its extent
 pub extent-self : (t : Table) (w : Whole) (c : ℕ) → List·Memᴰ c (extent t w c)

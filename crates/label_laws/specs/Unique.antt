@@ -14,8 +14,8 @@ use Rattle.lists.specs.Laws.{both-left, both-right, either, keep-member}
 use Rattle.lists.specs.Members.{any-passing, any-same, any-keep, passing-any, all-at, all-of, keep-keeps, only-one}
 use Rattle.table.specs.Table.{Table, Group, Whole}
 use Rattle.table.specs.Lookup.{holds, wholeOf}
-use Rattle.label.specs.Groups.{Numbered, holdsAll, groupOf, groupFrom}
-use Rattle.label.specs.Confusable.{isConfused, outside, respells, confusable}
+use Rattle.groups.specs.Groups.{Numbered, holdsAll, groupOf, groupFrom}
+use Rattle.lookalike.specs.Confusable.{isConfused, outside, respells, confusable}
 use Rattle.label_laws.specs.OwnGroup.{not-respelled, own-group}
 
 -- the different characters of a text: "each unique character in the label"

@@ -1,5 +1,4 @@
 pub mod Digits
-pub mod Fronts
 pub mod Numerals
 pub mod Splits
 pub mod Lines

@@ -11,14 +11,15 @@ use borrow.Rule.Slice.PartMut.{midOf, putMid}
 use Rattle.lists.specs.Lists.{joinedMap}
 use Rattle.lists.specs.Laws.{joined-append}
 use Rattle.lines.specs.Writing.{spaced, newline}
-use Rattle.lines.specs.Promise.{Writes, SpacedRoom}
-use Rattle.lines.proofs.Fronts.{writes-none, writes-byte, writes-part, written-same, left-behind}
-use Rattle.lines.proofs.Numerals.{digits-fit}
+use Rattle.buffers.specs.Writes.{Writes}
+use Rattle.lines.specs.Promise.{SpacedRoom}
+use Rattle.buffers.proofs.Written.{writes-none, writes-byte, writes-part, written-same, left-behind}
+use Rattle.numerals.proofs.Laws.{numeral-fit}
 
 -- a blank and the digits of a number below base ^ (m + 1)
 spaced-most : (base m n : ℕ) → 2 ≤ base → n < base ^ suc m → length (spaced base n) ≤ suc (suc m)
 unfolding spaced
-spaced-most base m n b h = omega (arith, digits-fit base b m n h)
+spaced-most base m n b h = omega (arith, numeral-fit base b m n h)
 
 -- 64 bits take at most 20 digits, 32 bits at most 8 in hex
 pub decimal-most : (n : ℕ) → n < 2 ^ 64 → length (spaced 10 n) ≤ 21

@@ -1,95 +1,24 @@
--- The digits of a number that is written. Assumes nothing.
-use Prim.Native.Nat.{ℕ, zero, suc, _+_, _-_, _/_, _%_, _^_, _≤_, _<_}
+-- A blank and the digits of a number. Assumes nothing.
+use Prim.Native.Nat.{ℕ, _+_, _-_}
 use native.Mathlib.Omega.{arith}
-use native.Mathlib.Nat.{div-lt-self, div-lt-iff-lt-mul, pow-suc, pow-zero, one-mul, mod-lt}
-use mathlib.Core.Path.{_≡_, refl}
-use mathlib.Core.Bool.{Bool, true, false}
-use mathlib.Core.List.{List, [], _∷_, _++_}
-use lib.ListN.{length, set, length-append}
-use lib.Dec.{ltb}
-use borrow.Author.Tests.{lt-ltb, le-ltb, ltb-true, ltb-false}
-use Rattle.lines.specs.Writing.{glyph, digitsIn, digits, spaced}
+use mathlib.Core.List.{List, [], _∷_}
+use lib.ListN.{length, set}
 use borrow.Rule.Slice.PartMut.{midOf, putMid}
-use Rattle.lines.specs.Promise.{Writes, NumberRoom, SpacedRoom}
-use Rattle.lines.proofs.Fronts.{writes-byte, writes-none, written-same, writes-part, left-behind}
-
--- any number of steps that is enough gives the same digits
-steps-agree : (base : ℕ) → 2 ≤ base → (k m n : ℕ) → n ≤ k → n ≤ m → digitsIn k base n ≡ digitsIn m base n
-steps-agree base b zero zero n h l = refl
-steps-agree base b zero (suc m) n h l = rw (lt-ltb n base (omega arith))
-steps-agree base b (suc k) zero n h l = rw (lt-ltb n base (omega arith))
-steps-agree base b (suc k) (suc m) n h l = go (ltb n base) refl (steps-agree base b k m (n / base))
-  where
-    go : (t : Bool) → ltb n base ≡ t → (n / base ≤ k → n / base ≤ m → digitsIn k base (n / base) ≡ digitsIn m base (n / base)) → digitsIn (suc k) base n ≡ digitsIn (suc m) base n
-    go true e f = rw e
-    go false e f =
-        let less : n / base < n = div-lt-self (omega (arith, ltb-false n base e)) (omega arith) in
-        rw (e, f (omega arith) (omega arith))
-
-module _ (base : ℕ) where
-  pub digits-one : (n : ℕ) → n < base → digits base n ≡ glyph n ∷ []
-  unfolding digits
-  digits-one zero h = refl
-  digits-one (suc n) h = rw (lt-ltb (suc n) base h)
-
-  pub digits-more : (n : ℕ) → 2 ≤ base → base ≤ n → digits base n ≡ digits base (n / base) ++ (glyph (n % base) ∷ [])
-  unfolding digits
-  digits-more zero b h = absurd (omega arith)
-  digits-more (suc n) b h =
-      let less : suc n / base < suc n = div-lt-self (omega arith) (omega arith) in
-      rw (le-ltb (suc n) base h, steps-agree base b n (suc n / base) (suc n / base) (omega arith) (omega arith))
-
-  -- a number below base ^ m has at most m digits
-  pub digits-fit : 2 ≤ base → (m n : ℕ) → n < base ^ suc m → length (digits base n) ≤ suc m
-  digits-fit b zero n h =
-      let one : n < base = rw (pow-suc base 0, pow-zero base, one-mul base) at h in
-      rw (digits-one n (omega arith)) (omega arith)
-  digits-fit b (suc m) n h = go (ltb n base) refl (digits-fit b m (n / base))
-    where
-      go : (t : Bool) → ltb n base ≡ t → (n / base < base ^ suc m → length (digits base (n / base)) ≤ suc m) → length (digits base n) ≤ suc (suc m)
-      go true e f = rw (digits-one n (ltb-true n base e)) (omega arith)
-      go false e f =
-          let less : n / base < base ^ suc m = div-lt-iff-lt-mul {k = base} {x = n} {y = base ^ suc m} (omega arith) .1 (rw (pow-suc base (suc m)) at h) in
-          rw (digits-more n b (ltb-false n base e), length-append) (omega (arith, f less))
-
-module _ {base n : ℕ} {before : List ℕ} (h : NumberRoom base n before) where
-  pub room-one : n < base → 0 < length before
-  room-one l = omega (arith, rw (digits-one base n l) at (h .room))
-
-  -- a number of one digit
-  pub wrote-one : n < base → (v : ℕ) → v ≡ glyph n → Writes (digits base n) before (set before 0 v) 1
-  wrote-one l v e = rw (digits-one base n l, ← e) (writes-byte v (writes-none before) (room-one l))
-
-  -- the digits before the last
-  pub less-number : base ≤ n → n / base < n
-  less-number l = div-lt-self (omega (arith, h .least)) (omega (arith, h .least))
-
-  pub room-less : base ≤ n → NumberRoom base (n / base) before
-  room-less l = record { least = h .least; most = h .most; room = omega (arith, rw (digits-more base n (h .least) l, length-append) at (h .room)) }
-
-  pub small-digit : n % base < 16
-  small-digit = omega (arith, h .most, mod-lt n {m = base} (omega (arith, h .least)))
-
-  module _ {after : List ℕ} {r : ℕ} (l : base ≤ n) (w : Writes (digits base (n / base)) before after r) where
-    pub room-last : r < length before
-    room-last = omega (arith, w .long, rw (digits-more base n (h .least) l, length-append) at (h .room))
-
-    pub room-after : r < length after
-    room-after = omega (arith, room-last, written-same w)
-
-    -- the last digit
-    pub wrote-more : (v : ℕ) → v ≡ glyph (n % base) → Writes (digits base n) before (set after r v) (r + 1)
-    wrote-more v e = let more : digits base n ≡ digits base (n / base) ++ (v ∷ []) = rw e (digits-more base n (h .least) l) in rw more (writes-byte v w room-last)
+use Rattle.buffers.specs.Writes.{Writes}
+use Rattle.buffers.proofs.Written.{writes-byte, writes-none, writes-part, left-behind}
+use Rattle.numerals.specs.Numeral.{numeral, NumeralRoom}
+use Rattle.lines.specs.Writing.{spaced}
+use Rattle.lines.specs.Promise.{SpacedRoom}
 
 module _ {base n : ℕ} {before : List ℕ} (h : SpacedRoom base n before) where
   blank : Writes (32 ∷ []) before (set before 0 32) 1
   blank = writes-byte 32 (writes-none before) (omega (arith, h .room))
 
-  pub room-spaced : NumberRoom base n (midOf 1 (length (set before 0 32) - 1) (set before 0 32))
+  pub room-spaced : NumeralRoom base n (midOf 1 (length (set before 0 32) - 1) (set before 0 32))
   room-spaced = record { least = h .least; most = h .most; room = rw (left-behind blank) (omega (arith, h .room)) }
 
   -- a blank, and the digits behind it
-  pub wrote-spaced : {part : List ℕ} {k : ℕ} → Writes (digits base n) (midOf 1 (length (set before 0 32) - 1) (set before 0 32)) part k
+  pub wrote-spaced : {part : List ℕ} {k : ℕ} → Writes (numeral base n) (midOf 1 (length (set before 0 32) - 1) (set before 0 32)) part k
       → Writes (spaced base n) before (putMid 1 (length (set before 0 32) - 1) (set before 0 32) part) (1 + k)
   unfolding spaced
-  wrote-spaced {part} {k} w = writes-part (digits base n) part k blank w
+  wrote-spaced {part} {k} w = writes-part (numeral base n) part k blank w

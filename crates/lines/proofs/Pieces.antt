@@ -13,10 +13,12 @@ use borrow.Rule.Slice.PartMut.{midOf, putMid}
 use Rattle.buffers.proofs.Parts.{length-tail, put-tail}
 use Rattle.lists.specs.Lists.{split, isEmpty}
 use Rattle.lists.specs.Splits.{split-some}
+use Rattle.lines.specs.Reading.{mostLine}
 use Rattle.lines.specs.Splitting.{firstAt, withoutEnd, linesOf}
-use Rattle.lines.specs.Promise.{Writes, Holding, LineEnded, PieceHeld, firstLine}
+use Rattle.buffers.specs.Writes.{Writes}
+use Rattle.lines.specs.Promise.{Holding, LineEnded, PieceHeld, firstLine}
 use Rattle.lines.proofs.Splits.{first-inside, split-whole, split-first}
-use Rattle.lines.proofs.Fronts.{written-same}
+use Rattle.buffers.proofs.Written.{written-same}
 
 -- where b stands in a text that goes on
 pub first-behind : (b : ℕ) (h s : List ℕ) → firstAt b h ≡ length h → firstAt b (h ++ s) ≡ length h + firstAt b s
@@ -92,15 +94,15 @@ module _ {line : List ℕ} (piece : List ℕ) {n k : ℕ} (h : Holding line n) (
   piece-inside = omega (arith, f, first-inside 10 piece)
 
   -- the line does not fit
-  pub line-too-long : 8192 - n < k → (rest : List ℕ) → 8192 < length (firstLine (linesOf (take n line ++ (piece ++ rest))))
+  pub line-too-long : mostLine - n < k → (rest : List ℕ) → mostLine < length (firstLine (linesOf (take n line ++ (piece ++ rest))))
   line-too-long l rest =
-      let long : 8192 < firstAt 10 (take n line ++ (piece ++ rest)) = omega (arith, place (piece ++ rest), first-later 10 piece rest, f, h .count) in
+      let long : mostLine < firstAt 10 (take n line ++ (piece ++ rest)) = omega (arith, place (piece ++ rest), first-later 10 piece rest, f, h .count) in
       rw (first-line-long (take n line ++ (piece ++ rest)) (omega arith)) long
 
-  pub piece-room : k ≤ 8192 - n → length (take k piece) ≤ length (midOf n (length line - n) line)
+  pub piece-room : k ≤ mostLine - n → length (take k piece) ≤ length (midOf n (length line - n) line)
   piece-room l = rw (length-tail n line, length-take) (omega (arith, h .room))
 
-  module _ (l : k ≤ 8192 - n) {part : List ℕ} {r : ℕ} (w : Writes (take k piece) (midOf n (length line - n) line) part r) where
+  module _ (l : k ≤ mostLine - n) {part : List ℕ} {r : ℕ} (w : Writes (take k piece) (midOf n (length line - n) line) part r) where
     -- what is held afterwards
     text : take (n + k) (putMid n (length line - n) line part) ≡ take n line ++ take k piece
     text =
@@ -109,7 +111,7 @@ module _ {line : List ℕ} (piece : List ℕ) {n k : ℕ} (h : Holding line n) (
         let front : take k (take k piece ++ behind) ≡ take k piece = take-at (take k piece) behind k (length-take-le k piece piece-inside) in
         rw (put-tail n line part, w .holds, e, take-append-add (take n line) (take k piece ++ behind) k, front)
 
-    kept : length (putMid n (length line - n) line part) ≡ 8192
+    kept : length (putMid n (length line - n) line part) ≡ mostLine
     kept = rw (put-tail n line part, length-append, held-length, written-same w, length-tail n line) (omega (arith, h .room, h .count))
 
     -- a line ends in the piece
@@ -150,7 +152,7 @@ module _ {line : List ℕ} (piece : List ℕ) {n k : ℕ} (h : Holding line n) (
         }
 
 -- nothing is held
-pub holding-none : (line : List ℕ) → length line ≡ 8192 → Holding line 0
+pub holding-none : (line : List ℕ) → length line ≡ mostLine → Holding line 0
 unfolding firstAt
 holding-none line h = record { room = h; count = omega arith; unended = refl }
 

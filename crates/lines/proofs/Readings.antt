@@ -14,7 +14,7 @@ use borrow.Rule.Slice.PartMut.{midOf}
 use Rattle.lists.specs.Lists.{all, split}
 use Rattle.lists.specs.Laws.{both-left}
 use Rattle.buffers.proofs.Parts.{mid-tail}
-use Rattle.lines.specs.Reading.{isDigit, isNumber, valueOf, numbersOf, readLine}
+use Rattle.lines.specs.Reading.{mostNumbers, mostLine, isDigit, isNumber, valueOf, numbersOf, readLine}
 use Rattle.lines.specs.Splitting.{firstAt}
 use Rattle.lines.specs.Promise.{numberAnswer, Read}
 use Rattle.lines.specs.declared.reading.Number.the-variants.{Value, Unreadable}
@@ -70,7 +70,7 @@ numbers-bad word words h = rw h
 -- n words are read, in the first `at` bytes, the blank behind the last of them included
 pub record Words (line before after : List ℕ) (at n : ℕ) : Type 0 where
   pub inside : at ≤ length line
-  pub short : length line ≤ 8192
+  pub short : length line ≤ mostLine
   pub enough : 2 * n ≤ at
   pub same : length after ≡ length before
   pub kept : drop n after ≡ drop n before
@@ -81,12 +81,12 @@ unfolding readLine
 empty-line [] before h = record { numbers = refl; room = omega arith; kept = refl }
 empty-line (b ∷ line) before h = absurd (omega arith)
 
-pub long-line : (line : List ℕ) → 8192 < length line → readLine line ≡ none
+pub long-line : (line : List ℕ) → mostLine < length line → readLine line ≡ none
 unfolding readLine
 long-line [] h = absurd (omega arith)
-long-line (b ∷ line) h = rw (lt-leb (length (b ∷ line)) 8192 h)
+long-line (b ∷ line) h = rw (lt-leb (length (b ∷ line)) mostLine h)
 
-pub words-start : (line before : List ℕ) → 1 ≤ length line → length line ≤ 8192 → Words line before before 0 0
+pub words-start : (line before : List ℕ) → 1 ≤ length line → length line ≤ mostLine → Words line before before 0 0
 unfolding readLine
 words-start [] before h l = absurd (omega arith)
 words-start (b ∷ line) before h l =
@@ -96,7 +96,7 @@ words-start (b ∷ line) before h l =
       enough = omega arith;
       same = refl;
       kept = refl;
-      rest = rw (le-leb (length (b ∷ line)) 8192 l) (onto-none (numbersOf (split 32 (b ∷ line))));
+      rest = rw (le-leb (length (b ∷ line)) mostLine l) (onto-none (numbersOf (split 32 (b ∷ line))));
     }
 
 -- the word that starts at `at` and has k bytes, as it is lent
@@ -143,10 +143,10 @@ module _ {line before after : List ℕ} {at n k : ℕ} (w : Words line before af
           w .rest ∙ rw (e, numbers-bad (wordAt line at k) [] h)
 
   module _ (good : isNumber (wordAt line at k) ≡ true) where
-    pub room-word : n < 4096
+    pub room-word : n < mostNumbers
     room-word = omega (arith, w .short, w .enough, word-inside, word-length, number-some (wordAt line at k) good)
 
-    module _ (long : 4096 ≤ length before) (v : ℕ) (e : valueOf (wordAt line at k) ≡ v) where
+    module _ (long : mostNumbers ≤ length before) (v : ℕ) (e : valueOf (wordAt line at k) ≡ v) where
       stored : take (n + 1) (set after n v) ≡ take n after ++ (v ∷ [])
       stored = rw (add-one n) (take-suc-set after n v (omega (arith, w .same, room-word)))
 

@@ -8,7 +8,7 @@ use mathlib.Core.Option.{none, some}
 use lib.ListN.{length, take, drop}
 use lib.Seq.{length-take-le}
 use Rattle.lists.specs.Lists.{joined, onSome}
-use Rattle.lines.specs.Reading.{readLine}
+use Rattle.lines.specs.Reading.{mostLine, readLine}
 use Rattle.lines.specs.Writing.{endLine, badLine}
 use Rattle.lines.specs.Splitting.{linesOf, output}
 use Rattle.lines.specs.Promise.{Holding, LineEnded, PieceHeld, LineTooLong, firstLine}
@@ -47,7 +47,7 @@ module _ (reply : List ℕ → List ℕ) (n : ℕ) where
       let ls = linesOf (held ++ (piece ++ rest)) in
       bad-first ls (some-first ls (t rest)) (long-line (firstLine ls) (t rest))
     where
-      some-first : (ls : List (List ℕ)) → 8192 < length (firstLine ls) → 1 ≤ length ls
+      some-first : (ls : List (List ℕ)) → mostLine < length (firstLine ls) → 1 ≤ length ls
       some-first [] h = absurd (omega arith)
       some-first (l ∷ ls) h = omega arith
 

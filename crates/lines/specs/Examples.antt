@@ -6,9 +6,9 @@ use mathlib.Core.List.{List, [], _∷_, _++_, map}
 use mathlib.Core.Option.{none, some}
 use lib.ListN.{replicate}
 use Rattle.lists.specs.Lists.{joined}
-use Rattle.lines.specs.Text.{bytes}
+use Rattle.lists.specs.Text.{bytes}
 use Rattle.lines.specs.Reading.{readLine}
-use Rattle.lines.specs.Writing.{digits, okLine, noLine, endLine, badLine}
+use Rattle.lines.specs.Writing.{okLine, noLine, endLine, badLine}
 use Rattle.lines.specs.Splitting.{linesOf, output}
 
 -- lines that can be read: the empty one, leading zeros up to 8 digits, the largest number
@@ -27,15 +27,6 @@ unreadable = "000000061" ∷ "5f" ∷ " 61" ∷ "61 " ∷ "61  62" ∷ " " ∷ "
 pub these-are-not : map (λ s. readLine (bytes s)) unreadable ≡ map (λ s. none) unreadable
 unfolding readLine
 these-are-not = refl
-
--- numbers that are written
-pub in-hex : map (digits 16) (0 ∷ 0xA ∷ 0x10 ∷ 0x1F4A9 ∷ 0xFFFFFFFF ∷ []) ≡ map bytes ("0" ∷ "A" ∷ "10" ∷ "1F4A9" ∷ "FFFFFFFF" ∷ [])
-unfolding digits
-in-hex = refl
-
-pub in-decimal : map (digits 10) (0 ∷ 9 ∷ 10 ∷ 4095 ∷ 18446744073709551615 ∷ []) ≡ map bytes ("0" ∷ "9" ∷ "10" ∷ "4095" ∷ "18446744073709551615" ∷ [])
-unfolding digits
-in-decimal = refl
 
 -- lines that are written
 pub lines-written : okLine [] ∷ okLine (0x5F ∷ 0x24 ∷ 0x61 ∷ []) ∷ noLine 6 1 ∷ endLine 2 ∷ badLine ∷ [] ≡

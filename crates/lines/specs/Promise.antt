@@ -5,9 +5,10 @@ use mathlib.Core.Bool.{cond}
 use mathlib.Core.List.{List, [], _∷_, _++_}
 use mathlib.Core.Option.{none, some}
 use lib.ListN.{length, take, drop}
-use Rattle.lines.specs.Reading.{isNumber, valueOf, readLine}
-use Rattle.lines.specs.Writing.{digits}
+use Rattle.numerals.specs.Numeral.{numeral}
+use Rattle.lines.specs.Reading.{mostLine, isNumber, valueOf, readLine}
 use Rattle.answers.specs.Values.{NameValues}
+use Rattle.lines.specs.Writing.{mostNoLine}
 use Rattle.lines.specs.Splitting.{firstAt, linesOf}
 use Rattle.lines.specs.declared.splitting.Taken.{Taken}
 use Rattle.lines.specs.declared.splitting.Taken.the-variants.{Line as Ended, Part, TooLong}
@@ -30,35 +31,23 @@ abbrev pub Reads : List ℕ → List ℕ → List ℕ → Line → Type 0
 Reads bytes before after (line.Numbers n) = Read bytes before after n
 Reads bytes before after line.Unreadable = readLine bytes ≡ none
 
--- r bytes of text stand in front, and what stood behind them stays
-pub record Writes (text before after : List ℕ) (r : ℕ) : Type 0 where
-  pub holds : after ≡ text ++ drop r before
-  pub long : length text ≡ r
-  pub room : r ≤ length before
-
--- a base of 2 to 16, and room for the digits
-pub record NumberRoom (base n : ℕ) (out : List ℕ) : Type 0 where
-  pub least : 2 ≤ base
-  pub most : base ≤ 16
-  pub room : length (digits base n) ≤ length out
-
--- the same with a blank before them
+-- a base of 2 to 16, and room for a blank and the digits
 pub record SpacedRoom (base n : ℕ) (out : List ℕ) : Type 0 where
   pub least : 2 ≤ base
   pub most : base ≤ 16
-  pub room : 1 + length (digits base n) ≤ length out
+  pub room : 1 + length (numeral base n) ≤ length out
 
 -- `held` bytes of a line stand in the line buffer, and no line ends in them
 pub record Holding (line : List ℕ) (held : ℕ) : Type 0 where
-  pub room : length line ≡ 8192
-  pub count : held ≤ 8192
+  pub room : length line ≡ mostLine
+  pub count : held ≤ mostLine
   pub unended : firstAt 10 (take held line) ≡ held
 
 -- A line has ended in the piece: it is the first of the input's lines, and the others are those behind the bytes used, whatever comes
 -- after the piece.
 pub record LineEnded (held piece after : List ℕ) (len used : ℕ) : Type 0 where
-  pub room : length after ≡ 8192
-  pub short : len ≤ 8192
+  pub room : length after ≡ mostLine
+  pub short : len ≤ mostLine
   pub some : 1 ≤ used
   pub within : used ≤ length piece
   pub lines : (rest : List ℕ) → linesOf (held ++ (piece ++ rest)) ≡ take len after ∷ linesOf (drop used piece ++ rest)
@@ -68,13 +57,13 @@ pub record PieceHeld (held piece after : List ℕ) (len : ℕ) : Type 0 where
   pub holding : Holding after len
   pub text : take len after ≡ held ++ piece
 
--- The first line is over 8,192 bytes, whatever comes after the piece.
+-- The first line is too long, whatever comes after the piece.
 abbrev pub firstLine : List (List ℕ) → List ℕ
 firstLine [] = []
 firstLine (l ∷ ls) = l
 
 abbrev pub LineTooLong : List ℕ → List ℕ → Type 0
-LineTooLong held piece = (rest : List ℕ) → 8192 < length (firstLine (linesOf (held ++ (piece ++ rest))))
+LineTooLong held piece = (rest : List ℕ) → mostLine < length (firstLine (linesOf (held ++ (piece ++ rest))))
 
 abbrev pub Takes : List ℕ → List ℕ → List ℕ → Taken → Type 0
 Takes held piece after (Ended len used) = LineEnded held piece after len used
@@ -84,4 +73,4 @@ Takes held piece after TooLong = LineTooLong held piece
 -- the answer is in its buffer, and there is room for the longest line
 pub record AnswerRoom (values : NameValues) (buffer out : List ℕ) : Type 0 where
   pub within : values .length ≤ length buffer
-  pub room : 9 * length buffer + 45 ≤ length out
+  pub room : 9 * length buffer + mostNoLine ≤ length out

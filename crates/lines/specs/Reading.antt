@@ -1,12 +1,20 @@
 -- What a line of the counter program is read as. 01, "Names at the counter": "one name a line as upper-case hex parted by single
 -- spaces", "a line over 8,192 bytes or otherwise unreadable", "a number has 1 to 8 digits on input". Assumes nothing.
-use Prim.Native.Nat.{ℕ, _+_, _-_, _*_}
+use Prim.Native.Nat.{ℕ, _+_, _-_, _*_, _/_}
 use mathlib.Core.Bool.{Bool, _&&_, _||_, cond}
 use mathlib.Core.List.{List, [], _∷_, map}
 use mathlib.Core.Option.{Option, none, some}
 use lib.ListN.{length}
 use lib.Dec.{leb}
 use Rattle.lists.specs.Lists.{all, split}
+
+-- "a line over 8,192 bytes or otherwise unreadable gives `bad`"
+abbrev pub mostLine : ℕ
+mostLine = 8192
+
+-- The most numbers that a line of `mostLine` bytes holds: n numbers "parted by single spaces" have at least 2 * n - 1 bytes.
+abbrev pub mostNumbers : ℕ
+mostNumbers = (mostLine + 1) / 2
 
 -- `0` to `9` and `A` to `F`
 abbrev pub isDigit : ℕ → Bool
@@ -37,4 +45,4 @@ numbersOf words = cond (all isNumber words) (some (map valueOf words)) none
 unfoldable pub readLine : List ℕ → Option (List ℕ)
 unfolding split
 readLine [] = some []
-readLine (b ∷ r) = let words = split 32 (b ∷ r) in cond (leb (length (b ∷ r)) 8192) (numbersOf words) none
+readLine (b ∷ r) = let words = split 32 (b ∷ r) in cond (leb (length (b ∷ r)) mostLine) (numbersOf words) none

@@ -1,31 +1,19 @@
 -- The lines that the counter program writes. 01, "Names at the counter": the sample; "no leading zero on output"; "refusal, place and
 -- the count of names after `end` are decimal". Assumes nothing.
-use Prim.Native.Nat.{ℕ, zero, suc, _+_, _/_, _%_}
+use Prim.Native.Nat.{ℕ, _+_}
 use mathlib.Core.Bool.{cond}
 use mathlib.Core.List.{List, [], _∷_, _++_}
 use lib.ListN.{take}
-use lib.Dec.{eqb, ltb}
+use lib.Dec.{eqb}
 use Rattle.lists.specs.Lists.{joinedMap}
 use Rattle.answers.specs.Values.{NameValues}
-use Rattle.lines.specs.Text.{bytes}
-
--- the byte of a digit: `0` to `9`, then `A` to `F`
-abbrev pub glyph : ℕ → ℕ
-glyph d = cond (ltb d 10) (48 + d) (55 + d)
-
--- The digits of n, the most significant first: those of n / base and then that of n % base, or one digit where n is below the base.
--- The first argument only bounds the steps; n steps are enough for n, since n / base is below n.
-abbrev pub digitsIn : ℕ → ℕ → ℕ → List ℕ
-digitsIn zero base n = glyph n ∷ []
-digitsIn (suc steps) base n = let front = digitsIn steps base (n / base) in cond (ltb n base) (glyph n ∷ []) (front ++ (glyph (n % base) ∷ []))
-
-unfoldable pub digits : ℕ → ℕ → List ℕ
-digits base n = digitsIn n base n
+use Rattle.lists.specs.Text.{bytes}
+use Rattle.numerals.specs.Numeral.{numeral}
 
 -- a blank, then the number
 unfoldable pub spaced : ℕ → ℕ → List ℕ
-unfolding digits
-spaced base n = 32 ∷ digits base n
+unfolding numeral
+spaced base n = 32 ∷ numeral base n
 
 -- the end of a line
 abbrev pub newline : List ℕ
@@ -54,3 +42,10 @@ badLine = bytes "bad" ++ newline
 unfoldable pub answerLine : NameValues → List ℕ → List ℕ
 unfolding okLine noLine
 answerLine v buffer = cond (eqb (v .number) 0) (okLine (take (v .length) buffer)) (noLine (v .number) (v .place))
+
+-- The longest lines of fixed words: a blank and a number of 64 bits have at most 21 bytes. proofs/Lines.antt shows it.
+abbrev pub mostNoLine : ℕ
+mostNoLine = 2 + 21 + 21 + 1
+
+abbrev pub mostEndLine : ℕ
+mostEndLine = 3 + 21 + 1

@@ -6,7 +6,8 @@ use answers::number_of;
 use answers::place_of;
 ghost use Rattle.answers.specs.Values.{nameValues};
 ghost use Rattle.lines.specs.Writing.{answerLine};
-ghost use Rattle.lines.specs.Promise.{Writes, AnswerRoom};
+ghost use Rattle.buffers.specs.Writes.{Writes};
+ghost use Rattle.lines.specs.Promise.{AnswerRoom};
 
 // The line for an answer of the name call, whose answer buffer is `buffer`.
 pub fn write_answer(answer: NameAnswer, buffer: &[u32], out: &mut [u8]) -> usize

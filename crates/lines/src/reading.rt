@@ -1,9 +1,10 @@
 // Reading a line. specs/Reading.antt states what it is read as.
+use crate::MOST_LINE;
 ghost use mathlib.Core.Path.{_≡_};
 ghost use mathlib.Core.Bool.{true};
 ghost use Prim.Native.Nat.{_+_, _≤_, _<_};
 ghost use lib.ListN.{length};
-ghost use Rattle.lines.specs.Reading.{isDigit, digitValue};
+ghost use Rattle.lines.specs.Reading.{mostNumbers, isDigit, digitValue};
 ghost use Rattle.lines.specs.Promise.{numberAnswer, Reads};
 ghost use Rattle.lines.specs.Splitting.{firstAt};
 
@@ -82,15 +83,15 @@ pub fn find(s: &[u8], b: u8) -> usize
     i
 }
 
-// The numbers of a line, at the front of `out`. A line of 8,192 bytes holds at most 4,096.
+// The numbers of a line, at the front of `out`.
 pub fn read_line(line: &[u8], out: &mut [u32]) -> Line
-    requires { ⌜ 4096 ≤ length (now out) ⌝ }
+    requires { ⌜ mostNumbers ≤ length (now out) ⌝ }
     ensures { λ r. ⌜ Reads (now (line .entry)) (now (out .entry)) (now (out .exit)) r ⌝ }
 {
     if line.len() == 0 {
         return Line::Numbers(0);
     }
-    if line.len() > 8192 {
+    if line.len() > MOST_LINE {
         return Line::Unreadable;
     }
     let mut at = 0;

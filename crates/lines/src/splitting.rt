@@ -1,4 +1,5 @@
 // Splitting input into lines, piece by piece. specs/Splitting.antt states what the lines are.
+use crate::MOST_LINE;
 use crate::reading::find;
 use crate::writing::write_word;
 ghost use lib.ListN.{take};
@@ -18,7 +19,7 @@ pub fn take_line(piece: &[u8], line: &mut [u8], held: usize) -> Taken
     ensures { λ r. ⌜ Takes (take held (now (line .entry))) (now (piece .entry)) (now (line .exit)) r ⌝ }
 {
     let k = find(piece, b'\n');
-    if k > 8192 - held {
+    if k > MOST_LINE - held {
         return Taken::TooLong;
     }
     write_word(&piece[..k], &mut line[held..]);

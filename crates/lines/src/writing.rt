@@ -1,33 +1,13 @@
 // Writing a line. specs/Writing.antt states what is written. Each function writes at the front of what it is lent, and answers
 // how many bytes it wrote.
+use numerals::write_numeral;
 ghost use mathlib.Core.Path.{_≡_};
 ghost use Prim.Native.Nat.{_+_, _*_, _≤_, _<_};
 ghost use lib.ListN.{length};
-ghost use Rattle.lines.specs.Writing.{glyph as Writing·glyph, digits, spaced, okLine, noLine, endLine};
-ghost use Rattle.lines.specs.Promise.{Writes, NumberRoom, SpacedRoom};
+ghost use Rattle.lines.specs.Writing.{spaced, okLine, noLine, endLine, badLine, mostNoLine, mostEndLine};
+ghost use Rattle.buffers.specs.Writes.{Writes};
+ghost use Rattle.lines.specs.Promise.{SpacedRoom};
 ghost use Rattle.lists.specs.Lists.{joinedMap};
-
-// The byte of a digit.
-fn glyph(d: u64) -> u8
-    requires { ⌜ d < 16 ⌝ }
-    ensures { λ r. ⌜ r ≡ Writing·glyph d ⌝ }
-{
-    if d < 10 { 48 + d as u8 } else { 55 + d as u8 }
-}
-
-// The digits of n in the base.
-fn write_number(n: u64, base: u64, out: &mut [u8]) -> usize
-    requires { ⌜ NumberRoom base n (now out) ⌝ }
-    ensures { λ r. ⌜ Writes (digits base n) (now (out .entry)) (now (out .exit)) r ⌝ }
-{
-    if n < base {
-        out[0] = glyph(n);
-        return 1;
-    }
-    let at = write_number(n / base, base, out);
-    out[at] = glyph(n % base);
-    at + 1
-}
 
 // A blank, and the digits of n.
 fn write_spaced(n: u64, base: u64, out: &mut [u8]) -> usize
@@ -35,7 +15,7 @@ fn write_spaced(n: u64, base: u64, out: &mut [u8]) -> usize
     ensures { λ r. ⌜ Writes (spaced base n) (now (out .entry)) (now (out .exit)) r ⌝ }
 {
     out[0] = b' ';
-    let k = write_number(n, base, &mut out[1..]);
+    let k = write_numeral(n, base, &mut out[1..]);
     1 + k
 }
 
@@ -44,12 +24,8 @@ pub fn write_word(word: &[u8], out: &mut [u8]) -> usize
     requires { ⌜ length (now word) ≤ length (now out) ⌝ }
     ensures { λ r. ⌜ Writes (now (word .entry)) (now (out .entry)) (now (out .exit)) r ⌝ }
 {
-    let mut i = 0;
-    while i < word.len() {
-        out[i] = word[i];
-        i += 1;
-    }
-    i
+    buffers::copy_bytes(out, word);
+    word.len()
 }
 
 // Each number in hex, a blank before it.
@@ -82,7 +58,7 @@ pub fn write_ok(answer: &[u32], out: &mut [u8]) -> usize
 
 // The line for a refused name.
 pub fn write_no(number: u64, place: u64, out: &mut [u8]) -> usize
-    requires { ⌜ 45 ≤ length (now out) ⌝ }
+    requires { ⌜ mostNoLine ≤ length (now out) ⌝ }
     ensures { λ r. ⌜ Writes (noLine number place) (now (out .entry)) (now (out .exit)) r ⌝ }
 {
     let word = write_word(b"no", out);
@@ -96,7 +72,7 @@ pub fn write_no(number: u64, place: u64, out: &mut [u8]) -> usize
 
 // The last line.
 pub fn write_end(names: u64, out: &mut [u8]) -> usize
-    requires { ⌜ 25 ≤ length (now out) ⌝ }
+    requires { ⌜ mostEndLine ≤ length (now out) ⌝ }
     ensures { λ r. ⌜ Writes (endLine names) (now (out .entry)) (now (out .exit)) r ⌝ }
 {
     let word = write_word(b"end", out);
@@ -104,6 +80,14 @@ pub fn write_end(names: u64, out: &mut [u8]) -> usize
     let at = word + k;
     out[at] = b'\n';
     at + 1
+}
+
+// The line for a line of input that is unreadable, or for no table.
+pub fn write_bad(out: &mut [u8]) -> usize
+    requires { ⌜ 4 ≤ length (now out) ⌝ }
+    ensures { λ r. ⌜ Writes badLine (now (out .entry)) (now (out .exit)) r ⌝ }
+{
+    write_word(b"bad\n", out)
 }
 
 fn wide(n: u32) -> u64

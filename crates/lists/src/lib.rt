@@ -1,1 +1,1 @@
-// Lists: definitions and laws only, in specs/ and proofs/. There is no code here.
+// Lists: definitions and laws only, in specs/. There is no code here.

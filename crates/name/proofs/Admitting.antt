@@ -7,9 +7,9 @@ use mathlib.Core.Bool.{Bool, true, false, not, cond}
 use mathlib.Core.List.{List}
 use mathlib.Core.Option.{Option, none, some}
 use lib.ListN.{length, getD, drop, drop-of-length-le}
-use lib.Dec.{leb, ltb}
-use borrow.Author.Tests.{lt-leb, le-leb, lt-ltb, le-ltb, leb-true, leb-false}
+use borrow.Author.Tests.{lt-ltb, le-ltb}
 use Rattle.lists.specs.Lists.{placeWith, isSome}
+use Rattle.limits.specs.Limits.{mostInput, leastWork}
 use Rattle.answers.specs.Verdict.{refused}
 use Rattle.table.specs.Table.{Table}
 use Rattle.table.specs.Layout.{parse}
@@ -19,22 +19,8 @@ use Rattle.table.specs.declared.Layout.the-variants.{Fault, Found}
 use Rattle.table.proofs.Lookups.{drop-next}
 use Rattle.table.proofs.SectionLaws.{laid-parse}
 use Rattle.text.specs.Scalar.{isScalar}
-use Rattle.name.specs.Label.{admitted, leastWork, mostInput}
+use Rattle.name.specs.Label.{admitted}
 use Rattle.name.specs.Admission.{Admits}
-
--- the three ways in which the test of a scalar value ends
-pub scalar-over : (c : ℕ) → 0x10FFFF < c → false ≡ isScalar c
-scalar-over c h = rw (lt-leb c 0x10FFFF h)
-
-pub scalar-low : (c : ℕ) → c ≤ 0x10FFFF → c < 0xD800 → true ≡ isScalar c
-scalar-low c h k = rw (le-leb c 0x10FFFF h, lt-leb 0xD800 c k)
-
-pub scalar-rest : (c : ℕ) → c ≤ 0x10FFFF → 0xD800 ≤ c → ltb 0xDFFF c ≡ isScalar c
-scalar-rest c h k = rw (le-leb c 0x10FFFF h, le-leb 0xD800 c k) (go (leb c 0xDFFF) refl)
-  where
-    go : (b : Bool) → leb c 0xDFFF ≡ b → ltb 0xDFFF c ≡ not b
-    go true e = le-ltb 0xDFFF c (leb-true c 0xDFFF e)
-    go false e = lt-ltb 0xDFFF c (leb-false c 0xDFFF e)
 
 -- none of the first i elements passes the test
 pub record Search (p : ℕ → Bool) (s : List ℕ) (i : ℕ) : Type 0 where

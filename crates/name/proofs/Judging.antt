@@ -2,14 +2,16 @@
 use Prim.Native.Nat.{ℕ, zero, suc, pred, _+_, _-_, _<_, _≤_}
 use native.Mathlib.Omega.{arith}
 use mathlib.Core.Path.{_≡_, refl, sym, ap, _∙_}
-use mathlib.Core.Bool.{Bool, true, false, not, _||_, false≢true}
+use mathlib.Core.Bool.{true, false, false≢true}
 use mathlib.Core.List.{List, [], _∷_}
 use mathlib.Core.Logic.{_⊎_, inl, inr, ⊎-elim}
 use mathlib.Core.Option.{none, some, Option·map, Option·some-injective}
 use lib.ListN.{length, take, drop}
 use lib.Seq.{take-take}
 use borrow.Author.Tests.{lt-ltb, le-ltb}
+use Rattle.limits.specs.Limits.{mostWorked}
 use Rattle.lists.specs.Lists.{any, isEmpty}
+use Rattle.limits.specs.Limits.{mostWorked}
 use Rattle.answers.specs.Verdict.{accepted, refused, next}
 use Rattle.answers.specs.declared.Kind.{Kind}
 use Rattle.answers.specs.declared.Refusal.{Refusal}
@@ -26,17 +28,15 @@ use Rattle.tokens.specs.declared.scan.Scanned.{Scanned}
 use Rattle.tokens.specs.declared.scan.Scanned.the-variants as scanned
 use Rattle.label.specs.declared.Judged.{Judged}
 use Rattle.label.specs.declared.Judged.the-variants as verdict
-use Rattle.label.specs.declared.Opening.{Opening}
-use Rattle.label.specs.declared.Opening.the-variants.{Ended, InGroup}
-use Rattle.label.specs.CellText.{codesIn, marksIn}
-use Rattle.label.specs.Opening.{verdictOf, inGroup, judgeAt, openingVerdict, OpeningFits, Opened}
+use Rattle.spelling.specs.CellMarks.{codesIn, tagsIn}
+use Rattle.label.specs.Judging.{verdictOf, judgeAt, CellsJudged}
 use Rattle.label.specs.Judge.{judge}
 use Rattle.label.proofs.VerdictLaws.{Parted, anyText, judge-cells}
 use Rattle.label.proofs.PartedLaws.{tokens-parted, emoji-kept, text-kept, normal-parted}
 use Rattle.name.specs.declared.one.Judgement.{Judgement}
 use Rattle.name.specs.declared.one.Judgement.the-variants.{Accepted, Refused}
-use Rattle.name.specs.Label.{judged, labelVerdict, mostWorked}
-use Rattle.name.specs.Judged.{Judges, TokensJudged, CellsJudged}
+use Rattle.name.specs.Label.{judged, labelVerdict}
+use Rattle.name.specs.Judged.{Judges, TokensJudged}
 
 -- a disallowed codepoint is found from every start, so much further on
 disallowed-moves : (s at : ℕ) (ss : List Step) → firstDisallowed (s + at) ss ≡ Option·map (λ i. s + i) (firstDisallowed at ss)
@@ -135,15 +135,15 @@ module _ (t : Table) (done place : ℕ) (k : Tally) (w : List ℕ) where
 
     -- 8 to 14, on the tokens in normal form
     module _ (h : done + k .worked ≤ mostWorked) (v x : List ℕ) (n : ℕ) (m : NormalCells t w v (k .worked) n) (r : Judged)
-        (j : CellsJudged t place n (k .emoji) (k .text) v x r) where
+        (j : CellsJudged (judgeAt t place (codesIn v n) (tagsIn v n) (k .emoji) (k .text)) v x r) where
       cells : (ts : List Token) → Tallied t ts w k → Cells (normal t ts) v n
       cells ts a = m .cells ts (a .cells (omega arith))
 
       verdict-is : (ts : List Token) → Parted ts → Tallied t ts w k → judge t place (normal t ts) ≡ verdictOf r
       verdict-is ts p a =
-          let at : judgeAt t place (codesIn v n) (marksIn v n) (any isEmoji (normal t ts)) (anyText (normal t ts)) ≡ judge t place (normal t ts) =
+          let at : judgeAt t place (codesIn v n) (tagsIn v n) (any isEmoji (normal t ts)) (anyText (normal t ts)) ≡ judge t place (normal t ts) =
           judge-cells t place (normal t ts) v n (cells ts a) (normal-parted t ts p) in
-          let there : judgeAt t place (codesIn v n) (marksIn v n) (k .emoji) (k .text) ≡ judge t place (normal t ts) =
+          let there : judgeAt t place (codesIn v n) (tagsIn v n) (k .emoji) (k .text) ≡ judge t place (normal t ts) =
           rw (emoji-kept t ts, text-kept t ts, ← a .emoji, ← a .text) at at in
           sym there ∙ sym (j .verdict)
 
@@ -177,32 +177,3 @@ module _ (t : Table) (done place : ℕ) (k : Tally) (w : List ℕ) where
                   room = h;
                 };
           }
-
--- whether 13 does not apply, asked only where the group is not whitelisted
-pub fits-asked : (whitelisted fit fits : Bool) → not whitelisted ≡ true → fits ≡ fit → fits ≡ (whitelisted || fit)
-fits-asked true fit fits e h = absurd (false≢true e)
-fits-asked false fit fits e h = h
-
-pub fits-known : (whitelisted fit fits : Bool) → not whitelisted ≡ false → fits ≡ whitelisted → fits ≡ (whitelisted || fit)
-fits-known true fit fits e h = h
-fits-known false fit fits e h = absurd (false≢true (sym e))
-
--- 8 to 14 in two steps
-module _ (t : Table) (place n : ℕ) (hasEmoji hasText : Bool) (w w′ : List ℕ) (r : Opening)
-    (o : Opened t place w w′ n (judgeAt t place (codesIn w n) (marksIn w n) hasEmoji hasText) r) where
-  pub cells-ended : (j : Judged) → r ≡ Ended j → CellsJudged t place n hasEmoji hasText w w′ j
-  cells-ended j e =
-      let so : openingVerdict t place w′ (Ended j) ≡ judgeAt t place (codesIn w n) (marksIn w n) hasEmoji hasText = rw e at (o .so) in
-      record { same = o .same; kept = o .kept; verdict = so }
-
-  module _ (m number : ℕ) (restricted whitelisted : Bool) (e : r ≡ InGroup m number restricted whitelisted) where
-    pub text-fits : m ≤ n
-    text-fits = let f : OpeningFits n (InGroup m number restricted whitelisted) = rw e at (o .fits) in f
-
-    pub cells-in-group : (j : Judged) → verdictOf j ≡ inGroup t place (take (1024 + m - 1024) (drop 1024 w′)) number restricted whitelisted
-        → CellsJudged t place n hasEmoji hasText w w′ j
-    cells-in-group j v =
-        let so : openingVerdict t place w′ (InGroup m number restricted whitelisted) ≡ judgeAt t place (codesIn w n) (marksIn w n) hasEmoji hasText = rw e at (o .so) in
-        let size : 1024 + m - 1024 ≡ m = omega arith in
-        let there : verdictOf j ≡ inGroup t place (take m (drop 1024 w′)) number restricted whitelisted = rw size at v in
-        record { same = o .same; kept = o .kept; verdict = there ∙ so }

@@ -3,7 +3,7 @@
 use Prim.Native.Nat.{ℕ, suc, _+_, _-_, _*_, _<_, _≤_}
 use native.Mathlib.Omega.{arith}
 use mathlib.Core.Path.{_≡_, refl, sym, ap, _∙_}
-use mathlib.Core.Bool.{Bool, true}
+use mathlib.Core.Bool.{Bool, true, false}
 use mathlib.Core.List.{List, [], _∷_, _++_, map, map-append, append-nil}
 use mathlib.Core.Option.{none, Option·getD}
 use lib.ListN.{length, take, drop, length-append}
@@ -12,11 +12,13 @@ use lib.Dec.{eqb}
 use borrow.Author.Tests.{ne-eqb}
 use Rattle.lists.specs.Lists.{joinWith}
 use Rattle.lists.specs.Splits.{joinWith-append}
+use Rattle.limits.specs.Limits.{mostWorked, leastWork}
 use Rattle.answers.specs.Verdict.{Verdict, accepted, refused, next}
 use Rattle.answers.specs.Values.{numberOf, placeOf}
+use Rattle.answers.specs.Restriction.{barred}
 use Rattle.answers.specs.declared.Kind.{Kind}
 use Rattle.answers.specs.declared.Refusal.{Refusal}
-use Rattle.answers.specs.declared.Refusal.the-variants.{Disallowed}
+use Rattle.answers.specs.declared.Refusal.the-variants.{Disallowed, Restricted}
 use Rattle.answers.specs.declared.NameAnswer.the-variants as name
 use Rattle.answers.specs.declared.LabelAnswer.the-variants as label
 use Rattle.table.specs.Table.{Table}
@@ -27,11 +29,13 @@ use Rattle.tokens.specs.declared.scan.Scanned.the-variants as scanned
 use Rattle.tokens.specs.Scanning.{ScanIs, Scans}
 use Rattle.name.specs.declared.one.Judgement.{Judgement}
 use Rattle.name.specs.declared.one.Judgement.the-variants.{Accepted, Refused}
-use Rattle.name.specs.Label.{Label, stop, answer, labelVerdict, oneLabel, mostWorked}
+use Rattle.name.specs.Label.{Label, stop, answer, labelVerdict, labelBy, oneLabel}
+use Rattle.name.specs.Permitted.{by-accepted, by-barred, by-refused}
 use Rattle.name.specs.Name.{labelsOf, labelsVerdict, nameAnswer}
-use Rattle.name.specs.Parts.{labelAt, noStop, LabelEnds, partsFrom, between, Put}
+use Rattle.name.specs.Parts.{mostLabel, labelAt, noStop, LabelEnds, partsFrom, between, Put}
 use Rattle.name.specs.Judged.{Accepts, Judges}
 use Rattle.name.specs.Calls.{NameJudged, LabelJudged, BeforeStop}
+use Rattle.name.proofs.Answering.{name-told, name-told-refused, label-told, label-told-refused}
 use Rattle.name.proofs.Parting.{label-length, label-stop, label-last, parts-next, parts-all, parts-empty, parts-none, place-stop, place-none, take-stop, between-few}
 
 -- what a judgement says, once it is known which it is
@@ -48,30 +52,30 @@ module _ (t : Table) (s d p : ℕ) (l w w′ : List ℕ) (r : Judgement) (j : Ju
   accepts : Accepts (labelVerdict t s d p l) d w′ n k worked
   accepts = judged-accepted t s d p l w w′ r n k worked e j
 
-  pub judged-room : 2048 ≤ length w → n ≤ length w′
+  pub judged-room : leastWork ≤ length w → n ≤ length w′
   judged-room h = omega (arith, accepts .few, j .same)
 
   pub judged-count : n ≡ length (take n w′)
   judged-count = accepts .count ∙ sym (ap length (accepts .words))
 
-  pub judged-short : length (take n w′) ≤ 1024
+  pub judged-short : length (take n w′) ≤ mostWorked
   judged-short = omega (arith, accepts .few, judged-count)
 
-  pub judged-worked : d + worked ≤ 1024
+  pub judged-worked : d + worked ≤ mostWorked
   judged-worked = accepts .room
 
 -- one accepted label in front of others
-module _ (t : Table) (s d p : ℕ) (l : List ℕ) (ls : List (List ℕ)) (xs : List Label) where
-  labels-more : (x : Label) (s′ d′ p′ : ℕ) → labelVerdict t s d p l ≡ accepted x → s + length l + 1 ≡ s′ → d + x .worked + 1 ≡ d′ → suc p ≡ p′
-      → next (labelsVerdict t s d p (l ∷ ls)) (λ r. accepted (xs ++ r)) ≡ next (labelsVerdict t s′ d′ p′ ls) (λ r. accepted ((xs ++ x ∷ []) ++ r))
+module _ (g : ℕ) (t : Table) (s d p : ℕ) (l : List ℕ) (ls : List (List ℕ)) (xs : List Label) where
+  labels-more : (x : Label) (s′ d′ p′ : ℕ) → labelBy g t s d p l ≡ accepted x → s + length l + 1 ≡ s′ → d + x .worked + 1 ≡ d′ → suc p ≡ p′
+      → next (labelsVerdict g t s d p (l ∷ ls)) (λ r. accepted (xs ++ r)) ≡ next (labelsVerdict g t s′ d′ p′ ls) (λ r. accepted ((xs ++ x ∷ []) ++ r))
   unfolding labelsVerdict
-  labels-more x s′ d′ p′ e es ed ep = rw (e, es, ed, ep) (go (labelsVerdict t s′ d′ p′ ls))
+  labels-more x s′ d′ p′ e es ed ep = rw (e, es, ed, ep) (go (labelsVerdict g t s′ d′ p′ ls))
     where
       go : (v : Verdict (List Label)) → next (next v (λ rest. accepted (x ∷ rest))) (λ r. accepted (xs ++ r)) ≡ next v (λ r. accepted ((xs ++ x ∷ []) ++ r))
       go (accepted ys) = ap accepted (sym (append-snoc xs x ys))
       go (refused n q) = refl
 
-  labels-refused : (n q : ℕ) → labelVerdict t s d p l ≡ refused n q → next (labelsVerdict t s d p (l ∷ ls)) (λ r. accepted (xs ++ r)) ≡ refused n q
+  labels-refused : (n q : ℕ) → labelBy g t s d p l ≡ refused n q → next (labelsVerdict g t s d p (l ∷ ls)) (λ r. accepted (xs ++ r)) ≡ refused n q
   unfolding labelsVerdict
   labels-refused n q e = rw e
 
@@ -85,9 +89,9 @@ answer-more (y ∷ ys) x =
     ∙ joinWith-append stop (map answer (y ∷ ys)) (answer x ∷ []) (omega arith) (omega arith))
 
 -- The labels `so-far` have passed; the next one starts at `at`.
-pub record Passed (t : Table) (input before after w₀ w : List ℕ) (at done place len : ℕ) : Type 0 where
+pub record Passed (g : ℕ) (t : Table) (input before after w₀ w : List ℕ) (at done place len : ℕ) : Type 0 where
   pub so-far : List Label
-  pub verdict : labelsVerdict t 0 0 0 (labelsOf input) ≡ next (labelsVerdict t at done place (partsFrom input at)) (λ r. accepted (so-far ++ r))
+  pub verdict : labelsVerdict g t 0 0 0 (labelsOf input) ≡ next (labelsVerdict g t at done place (partsFrom input at)) (λ r. accepted (so-far ++ r))
   pub counted : place ≡ length so-far
   pub parts : length (labelsOf input) ≡ place + length (partsFrom input at)
   pub long : len ≡ length (nameAnswer so-far)
@@ -97,16 +101,16 @@ pub record Passed (t : Table) (input before after w₀ w : List ℕ) (at done pl
   pub inside : at ≤ length input + 1
   pub few : place ≤ at
   pub spent : done ≤ suc mostWorked
-  pub small : len ≤ 1025 * place
+  pub small : len ≤ mostLabel * place
 
-module _ (t : Table) (input before w₀ : List ℕ) where
-  start : (at : ℕ) → labelsOf input ≡ partsFrom input at → labelsVerdict t 0 0 0 (partsFrom input at) ≡ labelsVerdict t at 0 0 (partsFrom input at)
-      → at ≤ length input + 1 → Passed t input before before w₀ w₀ at 0 0 0
+module _ (g : ℕ) (t : Table) (input before w₀ : List ℕ) where
+  start : (at : ℕ) → labelsOf input ≡ partsFrom input at → labelsVerdict g t 0 0 0 (partsFrom input at) ≡ labelsVerdict g t at 0 0 (partsFrom input at)
+      → at ≤ length input + 1 → Passed g t input before before w₀ w₀ at 0 0 0
   unfolding nameAnswer joinWith
   start at e v h =
       record {
         so-far = [];
-        verdict = rw e (v ∙ go (labelsVerdict t at 0 0 (partsFrom input at)));
+        verdict = rw e (v ∙ go (labelsVerdict g t at 0 0 (partsFrom input at)));
         counted = refl;
         parts = rw e (omega arith);
         long = refl;
@@ -123,46 +127,58 @@ module _ (t : Table) (input before w₀ : List ℕ) where
       go (accepted ys) = refl
       go (refused n q) = refl
 
-  pub pass-start : 1 ≤ length input → Passed t input before before w₀ w₀ 0 0 0 0
+  pub pass-start : 1 ≤ length input → Passed g t input before before w₀ w₀ 0 0 0 0
   pass-start h = start 0 (parts-all input h) refl (omega arith)
 
-  pub pass-empty : length input ≡ 0 → Passed t input before before w₀ w₀ 1 0 0 0
+  pub pass-empty : length input ≡ 0 → Passed g t input before before w₀ w₀ 1 0 0 0
   unfolding labelsVerdict
   pass-empty h = start 1 (parts-empty input h) (rw (parts-none input 1 (omega arith))) (omega arith)
 
-  module _ (after w : List ℕ) (at done place len : ℕ) (l : Passed t input before after w₀ w at done place len) where
-    pub pass-done : length input < at → NameJudged input (labelsVerdict t 0 0 0 (labelsOf input)) before after w₀ w (name.Accepted len place)
+  module _ (after w : List ℕ) (at done place len : ℕ) (l : Passed g t input before after w₀ w at done place len) where
+    pub pass-done : length input < at → NameJudged input (labelsVerdict g t 0 0 0 (labelsOf input)) before after w₀ w (name.Accepted len place)
     unfolding labelsVerdict
     pass-done h =
         let rest : partsFrom input at ≡ [] = parts-none input at h in
         record {
           same = l .same;
           same-work = l .same-work;
-          is =
-              record {
-                labels = l .so-far;
-                verdict = l .verdict ∙ rw (rest, append-nil);
-                long = l .long;
-                written = λ k. l .written (omega (arith, l .same));
-                counted = sym (l .parts ∙ rw rest (omega arith));
-              };
+          told =
+              name-told input _ after (l .so-far) len place (l .verdict ∙ rw (rest, append-nil)) (l .long) (λ k. l .written (omega (arith, l .same)))
+              (sym (l .parts ∙ rw rest (omega arith)));
         }
 
     module _ (end : ℕ) (e : LabelEnds input at end) (w′ : List ℕ) (r : Judgement) (j : Judges t at done place (labelAt input at end) w w′ r) where
-      pub pass-refused : (f : Refusal) → r ≡ Refused f → NameJudged input (labelsVerdict t 0 0 0 (labelsOf input)) before after w₀ w′ (name.Refused f)
+      pub pass-refused : (f : Refusal) → r ≡ Refused f → NameJudged input (labelsVerdict g t 0 0 0 (labelsOf input)) before after w₀ w′ (name.Refused f)
       pass-refused f er =
           record {
             same = l .same;
             same-work = j .same ∙ l .same-work;
-            is =
-                l .verdict ∙ rw (parts-next input at end e)
-                (labels-refused t at done place (labelAt input at end) (partsFrom input (end + 1)) (l .so-far) (numberOf f) (placeOf f)
-                (judged-refused t at done place (labelAt input at end) w w′ r f er j));
+            told =
+                name-told-refused input _ after f
+                (l .verdict ∙ rw (parts-next input at end e)
+                (labels-refused g t at done place (labelAt input at end) (partsFrom input (end + 1)) (l .so-far) (numberOf f) (placeOf f)
+                (by-refused g t at done place (labelAt input at end) (numberOf f) (placeOf f)
+                (judged-refused t at done place (labelAt input at end) w w′ r f er j))));
           }
 
-      pub pass-more : (n : ℕ) (k : Kind) (worked : ℕ) → r ≡ Accepted n k worked → (after′ : List ℕ) (len′ : ℕ)
-          → Put after after′ len (eqb place 0) (take n w′) len′ → Passed t input before after′ w₀ w′ (end + 1) (done + (worked + 1)) (place + 1) len′
-      pass-more n k worked er after′ len′ p =
+      pub pass-barred : (n : ℕ) (k : Kind) (worked : ℕ) → r ≡ Accepted n k worked → barred g k ≡ true
+          → NameJudged input (labelsVerdict g t 0 0 0 (labelsOf input)) before after w₀ w′ (name.Refused (Restricted place))
+      pass-barred n k worked er b =
+          let a : Accepts (labelVerdict t at done place (labelAt input at end)) done w′ n k worked =
+          judged-accepted t at done place (labelAt input at end) w w′ r n k worked er j in
+          record {
+            same = l .same;
+            same-work = j .same ∙ l .same-work;
+            told =
+                name-told-refused input _ after (Restricted place)
+                (l .verdict ∙ rw (parts-next input at end e)
+                (labels-refused g t at done place (labelAt input at end) (partsFrom input (end + 1)) (l .so-far) 17 place
+                (by-barred g t at done place (labelAt input at end) (a .label) (a .verdict) (rw (a .kind) at b))));
+          }
+
+      pub pass-more : (n : ℕ) (k : Kind) (worked : ℕ) → r ≡ Accepted n k worked → barred g k ≡ false → (after′ : List ℕ) (len′ : ℕ)
+          → Put after after′ len (eqb place 0) (take n w′) len′ → Passed g t input before after′ w₀ w′ (end + 1) (done + (worked + 1)) (place + 1) len′
+      pass-more n k worked er b after′ len′ p =
           let a : Accepts (labelVerdict t at done place (labelAt input at end)) done w′ n k worked = judged-accepted t at done place (labelAt input at end) w w′ r n k worked er j in
           let x : Label = a .label in
           let xs : List Label = l .so-far in
@@ -178,8 +194,8 @@ module _ (t : Table) (input before w₀ : List ℕ) where
             so-far = xs ++ x ∷ [];
             verdict =
                 l .verdict ∙ rw (parts-next input at end e)
-                (labels-more t at done place (labelAt input at end) (partsFrom input (end + 1)) xs x (end + 1) (done + (worked + 1)) (place + 1)
-                (a .verdict) (omega (arith, size, e .from)) (omega (arith, a .long)) (omega arith));
+                (labels-more g t at done place (labelAt input at end) (partsFrom input (end + 1)) xs x (end + 1) (done + (worked + 1)) (place + 1)
+                (by-accepted g t at done place (labelAt input at end) x (a .verdict) (rw (a .kind) at b)) (omega (arith, size, e .from)) (omega (arith, a .long)) (omega arith));
             counted = rw length-append (omega (arith, l .counted));
             parts = l .parts ∙ rw (parts-next input at end e) (omega arith);
             long = long;
@@ -206,12 +222,12 @@ module _ (t : Table) (part w w′ : List ℕ) (r : Scanned) (s : Scans t part w 
       record { same = s .same; place = rw (is .0) }
 
 -- the one label of the label call
-module _ (t : Table) (input before w₀ : List ℕ) where
-  one-stopped : (s r : List ℕ) → input ≡ s ++ stop ∷ r → noStop s ≡ true → oneLabel t input ≡ refused 5 (Option·getD (firstDisallowed 0 (steps t s)) (length s))
+module _ (g : ℕ) (t : Table) (input before w₀ : List ℕ) where
+  one-stopped : (s r : List ℕ) → input ≡ s ++ stop ∷ r → noStop s ≡ true → oneLabel g t input ≡ refused 5 (Option·getD (firstDisallowed 0 (steps t s)) (length s))
   unfolding oneLabel
   one-stopped s r e h = let zero : 0 + length s ≡ length s = omega arith in rw (e, place-stop s r 0 h, zero, take-stop s r h)
 
-  one-whole : noStop input ≡ true → oneLabel t input ≡ labelVerdict t 0 0 0 input
+  one-whole : noStop input ≡ true → oneLabel g t input ≡ labelBy g t 0 0 0 input
   unfolding oneLabel
   one-whole h = rw (place-none input 0 h)
 
@@ -221,38 +237,53 @@ module _ (t : Table) (input before w₀ : List ℕ) where
 
     -- a stop stands in it
     pub one-disallowed : end < length input → (w : List ℕ) (i : ℕ) → BeforeStop t (take end input) w₀ w i
-        → LabelJudged (oneLabel t input) before before w₀ w (label.Refused (Disallowed i))
+        → LabelJudged (oneLabel g t input) before before w₀ w (label.Refused (Disallowed i))
     one-disallowed h w i b =
         let parted : input ≡ take end input ++ stop ∷ drop (end + 1) input = rw front at (label-stop input 0 end e h) in
         record {
           same = refl;
           same-work = b .same;
-          is = one-stopped (take end input) (drop (end + 1) input) parted (rw front at (e .none)) ∙ ap (refused 5) (sym (b .place));
+          told =
+              label-told-refused _ before (Disallowed i)
+              (one-stopped (take end input) (drop (end + 1) input) parted (rw front at (e .none)) ∙ ap (refused 5) (sym (b .place)));
         }
 
     -- no stop stands in it
     module _ (h : length input ≤ end) (w : List ℕ) (r : Judgement) (j : Judges t 0 0 0 input w₀ w r) where
-      whole : oneLabel t input ≡ labelVerdict t 0 0 0 input
+      whole : oneLabel g t input ≡ labelBy g t 0 0 0 input
       whole = one-whole (rw (label-last input 0 end e h) at (e .none))
 
-      pub one-refused : (f : Refusal) → r ≡ Refused f → LabelJudged (oneLabel t input) before before w₀ w (label.Refused f)
+      pub one-refused : (f : Refusal) → r ≡ Refused f → LabelJudged (oneLabel g t input) before before w₀ w (label.Refused f)
       one-refused f er =
-          record { same = refl; same-work = j .same; is = whole ∙ judged-refused t 0 0 0 input w₀ w r f er j }
+          record {
+            same = refl;
+            same-work = j .same;
+            told =
+                label-told-refused _ before f
+                (whole ∙ by-refused g t 0 0 0 input (numberOf f) (placeOf f) (judged-refused t 0 0 0 input w₀ w r f er j));
+          }
 
-      pub one-accepted : (n : ℕ) (k : Kind) (worked : ℕ) → r ≡ Accepted n k worked → (after : List ℕ) (len : ℕ)
-          → Put before after 0 true (take n w) len → LabelJudged (oneLabel t input) before after w₀ w (label.Accepted len k)
-      one-accepted n k worked er after len p =
+      pub one-barred : (n : ℕ) (k : Kind) (worked : ℕ) → r ≡ Accepted n k worked → barred g k ≡ true
+          → LabelJudged (oneLabel g t input) before before w₀ w (label.Refused (Restricted 0))
+      one-barred n k worked er b =
+          let a : Accepts (labelVerdict t 0 0 0 input) 0 w n k worked = judged-accepted t 0 0 0 input w₀ w r n k worked er j in
+          record {
+            same = refl;
+            same-work = j .same;
+            told =
+                label-told-refused _ before (Restricted 0)
+                (whole ∙ by-barred g t 0 0 0 input (a .label) (a .verdict) (rw (a .kind) at b));
+          }
+
+      pub one-accepted : (n : ℕ) (k : Kind) (worked : ℕ) → r ≡ Accepted n k worked → barred g k ≡ false → (after : List ℕ) (len : ℕ)
+          → Put before after 0 true (take n w) len → LabelJudged (oneLabel g t input) before after w₀ w (label.Accepted len k)
+      one-accepted n k worked er b after len p =
           let a : Accepts (labelVerdict t 0 0 0 input) 0 w n k worked = judged-accepted t 0 0 0 input w₀ w r n k worked er j in
           let sum : len ≡ length (take n w) = omega (arith, p .ends) in
           record {
             same = p .same;
             same-work = j .same;
-            is =
-                record {
-                  label = a .label;
-                  verdict = whole ∙ a .verdict;
-                  long = sum ∙ ap length (a .words);
-                  written = λ q. p .written (omega (arith, p .same)) ∙ a .words;
-                  kind = a .kind;
-                };
+            told =
+                label-told _ after (a .label) len k (whole ∙ by-accepted g t 0 0 0 input (a .label) (a .verdict) (rw (a .kind) at b)) (sum ∙ ap length (a .words))
+                (λ q. p .written (omega (arith, p .same)) ∙ a .words) (a .kind);
           }

@@ -4,6 +4,7 @@ use mathlib.Core.Path.{_≡_}
 use mathlib.Core.List.{List}
 use mathlib.Core.Option.{Option, none, some}
 use lib.ListN.{length}
+use Rattle.limits.specs.Limits.{mostInput, leastWork}
 use Rattle.answers.specs.Verdict.{accepted, refused}
 use Rattle.answers.specs.Values.{numberOf, placeOf}
 use Rattle.table.specs.Laid.{Laid, theTable}
@@ -12,7 +13,7 @@ use Rattle.name.specs.declared.admit.Place.{Place}
 use Rattle.name.specs.declared.admit.Place.the-variants.{At, Nothing}
 use Rattle.name.specs.declared.admit.Admission.{Admission}
 use Rattle.name.specs.declared.admit.Admission.the-variants.{Refused, Found}
-use Rattle.name.specs.Label.{admitted, leastWork, mostInput}
+use Rattle.name.specs.Label.{admitted}
 
 -- the place that is answered
 abbrev pub placeIs : Place → Option ℕ

@@ -1,78 +1,38 @@
--- What the calls answer, and each word of both buffers; and what is known before the buffers are cleared. Assumes nothing.
-use Prim.Native.Nat.{ℕ, _≤_}
+-- What the calls answer, and each word of both buffers; and what is known before the end of a call. Assumes nothing.
+use Prim.Native.Nat.{ℕ}
 use mathlib.Core.Path.{_≡_}
 use mathlib.Core.List.{List}
 use mathlib.Core.Option.{Option·getD}
-use lib.ListN.{length, take}
-use Rattle.answers.specs.Verdict.{Verdict, accepted, refused, next}
-use Rattle.answers.specs.Values.{numberOf, placeOf, nameValues, labelValues}
-use Rattle.answers.specs.declared.Kind.{Kind}
+use lib.ListN.{length}
+use Rattle.answers.specs.Verdict.{Verdict}
+use Rattle.answers.specs.Values.{nameValues, labelValues}
 use Rattle.answers.specs.declared.NameAnswer.{NameAnswer}
-use Rattle.answers.specs.declared.NameAnswer.the-variants as name
 use Rattle.answers.specs.declared.LabelAnswer.{LabelAnswer}
-use Rattle.answers.specs.declared.LabelAnswer.the-variants as label
+use Rattle.ending.specs.Ends.{Ends, Judged}
 use Rattle.table.specs.Table.{Table}
 use Rattle.tokens.specs.Scan.{steps, firstDisallowed}
-use Rattle.name.specs.Label.{Label, answer, admitted, oneLabel, labelCall}
-use Rattle.name.specs.Name.{labelsOf, labelsVerdict, nameAnswer, nameCall}
+use Rattle.name.specs.Label.{Label, labelAnswering, labelCall}
+use Rattle.name.specs.Name.{nameAnswering, nameCall}
 
--- The name call: its answer r, and every word of the answer buffer and of the work area, before and after it.
-pub record NameCalls (words input before after work work′ : List ℕ) (r : NameAnswer) : Type 0 where
-  pub values : nameValues r ≡ nameCall words input (length before) (length work) .values
-  pub answer : after ≡ nameCall words input (length before) (length work) .answer
-  pub cleared : work′ ≡ nameCall words input (length before) (length work) .work
+-- The name call with a setting: its answer r, and every word of the answer buffer and of the work area, before and after it.
+abbrev pub NameCalls : ℕ → List ℕ → List ℕ → List ℕ → List ℕ → List ℕ → List ℕ → NameAnswer → Type 0
+NameCalls setting words input before after work work′ r =
+    Ends (nameCall setting words input (length before) (length work)) (nameValues r) after work′
 
 -- the label call, in the same way
-pub record LabelCalls (words input before after work work′ : List ℕ) (r : LabelAnswer) : Type 0 where
-  pub values : labelValues r ≡ labelCall words input (length before) (length work) .values
-  pub answer : after ≡ labelCall words input (length before) (length work) .answer
-  pub cleared : work′ ≡ labelCall words input (length before) (length work) .work
+abbrev pub LabelCalls : ℕ → List ℕ → List ℕ → List ℕ → List ℕ → List ℕ → List ℕ → LabelAnswer → Type 0
+LabelCalls setting words input before after work work′ r =
+    Ends (labelCall setting words input (length before) (length work)) (labelValues r) after work′
 
--- the verdicts before 15 is judged
-unfoldable pub nameBefore15 : List ℕ → List ℕ → ℕ → Verdict (List Label)
-unfolding admitted labelsOf labelsVerdict
-nameBefore15 words name work = next (admitted words work name) (λ t. labelsVerdict t 0 0 0 (labelsOf name))
+-- what is answered for a name whose verdict before 15 is v; the words behind the answer, and those of the work area, are open until the end
+abbrev pub NameJudged : List ℕ → Verdict (List Label) → List ℕ → List ℕ → List ℕ → List ℕ → NameAnswer → Type 0
+NameJudged input v before after work work′ r = Judged (nameAnswering input) v before after work work′ (nameValues r)
 
-unfoldable pub labelBefore15 : List ℕ → List ℕ → ℕ → Verdict Label
-unfolding admitted oneLabel
-labelBefore15 words input work = next (admitted words work input) (λ t. oneLabel t input)
+-- what is answered for a label whose verdict before 15 is v
+abbrev pub LabelJudged : Verdict Label → List ℕ → List ℕ → List ℕ → List ℕ → LabelAnswer → Type 0
+LabelJudged v before after work work′ r = Judged labelAnswering v before after work work′ (labelValues r)
 
--- The name is accepted with the verdict v: n codepoints, which stand in front in the answer buffer if they fit.
-pub record NamePasses (input : List ℕ) (v : Verdict (List Label)) (after : List ℕ) (n count : ℕ) : Type 0 where
-  pub labels : List Label
-  pub verdict : v ≡ accepted labels
-  pub long : n ≡ length (nameAnswer labels)
-  pub written : n ≤ length after → take n after ≡ nameAnswer labels
-  pub counted : count ≡ length (labelsOf input)
-
-abbrev pub NameIs : List ℕ → Verdict (List Label) → List ℕ → NameAnswer → Type 0
-NameIs input v after (name.Accepted n count) = NamePasses input v after n count
-NameIs input v after (name.Refused f) = v ≡ refused (numberOf f) (placeOf f)
-
--- what is answered for a name whose verdict is v; the lengths of the buffers are kept
-pub record NameJudged (input : List ℕ) (v : Verdict (List Label)) (before after work work′ : List ℕ) (r : NameAnswer) : Type 0 where
-  pub same : length after ≡ length before
-  pub same-work : length work′ ≡ length work
-  pub is : NameIs input v after r
-
--- The label is accepted with the verdict v, in the same way.
-pub record LabelPasses (v : Verdict Label) (after : List ℕ) (n : ℕ) (k : Kind) : Type 0 where
-  pub label : Label
-  pub verdict : v ≡ accepted label
-  pub long : n ≡ length (answer label)
-  pub written : n ≤ length after → take n after ≡ answer label
-  pub kind : k ≡ label .kind
-
-abbrev pub LabelIs : Verdict Label → List ℕ → LabelAnswer → Type 0
-LabelIs v after (label.Accepted n k) = LabelPasses v after n k
-LabelIs v after (label.Refused f) = v ≡ refused (numberOf f) (placeOf f)
-
-pub record LabelJudged (v : Verdict Label) (before after work work′ : List ℕ) (r : LabelAnswer) : Type 0 where
-  pub same : length after ≡ length before
-  pub same-work : length work′ ≡ length work
-  pub is : LabelIs v after r
-
--- the place of refusal 5 where a stop stands behind the words
+-- the place of refusal 5 where a stop stands behind the words; the words of the work area are open
 pub record BeforeStop (t : Table) (part work work′ : List ℕ) (r : ℕ) : Type 0 where
   pub same : length work′ ≡ length work
   pub place : r ≡ Option·getD (firstDisallowed 0 (steps t part)) (length part)

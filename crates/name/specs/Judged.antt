@@ -1,10 +1,11 @@
 -- What the code answers for one label, refusals 5 to 14. Assumes nothing.
 use Prim.Native.Nat.{ℕ, _+_, _≤_}
 use mathlib.Core.Path.{_≡_}
-use mathlib.Core.Bool.{Bool, false}
+use mathlib.Core.Bool.{false}
 use mathlib.Core.List.{List}
 use lib.ListN.{length, take}
 use Rattle.lists.specs.Lists.{any}
+use Rattle.limits.specs.Limits.{mostWorked}
 use Rattle.answers.specs.Verdict.{Verdict, accepted, refused}
 use Rattle.answers.specs.Values.{numberOf, placeOf}
 use Rattle.answers.specs.declared.Kind.{Kind}
@@ -12,12 +13,9 @@ use Rattle.table.specs.Table.{Table}
 use Rattle.tokens.specs.declared.scan.Tally.{Tally}
 use Rattle.tokens.specs.Tokens.{Token, isEmoji}
 use Rattle.tokens.specs.Scanning.{Tallied}
-use Rattle.label.specs.declared.Judged.{Judged}
-use Rattle.label.specs.CellText.{codesIn, marksIn}
-use Rattle.label.specs.Opening.{verdictOf, judgeAt}
 use Rattle.name.specs.declared.one.Judgement.{Judgement}
 use Rattle.name.specs.declared.one.Judgement.the-variants.{Accepted, Refused}
-use Rattle.name.specs.Label.{Label, answer, judged, labelVerdict, mostWorked}
+use Rattle.name.specs.Label.{Label, answer, judged, labelVerdict}
 
 -- A label whose verdict is v is accepted: its answer, n codepoints, stands in front in the work area; `done` is the worked length before it.
 pub record Accepts (v : Verdict Label) (done : ℕ) (w : List ℕ) (n : ℕ) (k : Kind) (worked : ℕ) : Type 0 where
@@ -43,9 +41,3 @@ pub record Judges (t : Table) (start done place : ℕ) (l w w′ : List ℕ) (r 
 pub record TokensJudged (t : Table) (done place : ℕ) (k : Tally) (w w′ : List ℕ) (r : Judgement) : Type 0 where
   pub same : length w′ ≡ length w
   pub is : (ts : List Token) → (any isEmoji ts ≡ false → length ts ≤ 1) → Tallied t ts w k → JudgementIs (judged t done place ts) done w′ r
-
--- 8 to 14 on n codepoints with their marks, which are kept
-pub record CellsJudged (t : Table) (place n : ℕ) (emoji text : Bool) (w w′ : List ℕ) (r : Judged) : Type 0 where
-  pub same : length w′ ≡ length w
-  pub kept : take mostWorked w′ ≡ take mostWorked w
-  pub verdict : verdictOf r ≡ judgeAt t place (codesIn w n) (marksIn w n) emoji text

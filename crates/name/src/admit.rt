@@ -1,7 +1,10 @@
 // Refusals 1 to 4, "tried in order over the whole name".
 use answers::Refusal;
+use limits::LEAST_WORK;
+use limits::MOST_INPUT;
 use table::Layout;
 use table::Sections;
+use text::scalar::is_scalar;
 ghost use mathlib.Core.Path.{_≡_};
 ghost use mathlib.Core.Bool.{not};
 ghost use Rattle.lists.specs.Lists.{placeWith};
@@ -18,18 +21,6 @@ pub enum Place {
 pub enum Admission {
     Refused(Refusal),
     Found(Sections),
-}
-
-fn is_scalar(c: u32) -> bool
-    ensures { λ r. ⌜ r ≡ isScalar c ⌝ }
-{
-    if 0x10FFFF < c {
-        return false;
-    }
-    if c < 0xD800 {
-        return true;
-    }
-    0xDFFF < c
 }
 
 // The first codepoint that is no scalar value.
@@ -53,10 +44,10 @@ pub fn admit(words: &[u32], input: &[u32], work: usize) -> Admission
     match table::laid::layout(words) {
         Layout::Fault => Admission::Refused(Refusal::LayoutFault),
         Layout::Found(ix) => {
-            if work < 2048 {
+            if work < LEAST_WORK {
                 return Admission::Refused(Refusal::WorkAreaTooSmall);
             }
-            if 4096 < input.len() {
+            if MOST_INPUT < input.len() {
                 return Admission::Refused(Refusal::InputTooLong);
             }
             match first_not_scalar(input) {

@@ -7,19 +7,23 @@ use crate::part::label_end;
 use crate::part::put_label;
 use answers::LabelAnswer;
 use answers::Refusal;
+use answers::is_barred;
+use answers::label_length;
+use ending::finish;
 use table::Sections;
 use tokens::scan::Scanned;
 use tokens::scan::scan;
 ghost use Prim.Native.Nat.{_≤_};
 ghost use lib.ListN.{length};
+ghost use Rattle.limits.specs.Limits.{mostInput, leastWork};
 ghost use Rattle.table.specs.Laid.{Laid, theTable};
-ghost use Rattle.name.specs.Label.{oneLabel};
-ghost use Rattle.name.specs.Calls.{LabelCalls, LabelJudged, BeforeStop, labelBefore15};
+ghost use Rattle.name.specs.Label.{oneLabel, labelBefore15};
+ghost use Rattle.name.specs.Calls.{LabelCalls, LabelJudged, BeforeStop};
 
 // The place of refusal 5 in a part that a stop stands behind: in the part, or at the stop.
 fn before_stop(words: &[u32], ix: Sections, part: &[u32], w: &mut [u32]) -> usize
     requires { ⌜ Laid (now words) ix ⌝ }
-    requires { ⌜ (2048 ≤ length (now w)) × (length (now part) ≤ 4096) ⌝ }
+    requires { ⌜ (leastWork ≤ length (now w)) × (length (now part) ≤ mostInput) ⌝ }
     ensures { λ r. ⌜ BeforeStop (theTable (now (words .entry))) (now (part .entry)) (now (w .entry)) (now (w .exit)) r ⌝ }
 {
     let scanned = scan(words, ix, part, w);
@@ -33,13 +37,14 @@ fn before_stop(words: &[u32], ix: Sections, part: &[u32], w: &mut [u32]) -> usiz
 fn judge_one(
     words: &[u32],
     ix: Sections,
+    setting: u32,
     input: &[u32],
     answer: &mut [u32],
     w: &mut [u32],
 ) -> LabelAnswer
     requires { ⌜ Laid (now words) ix ⌝ }
-    requires { ⌜ (2048 ≤ length (now w)) × (length (now input) ≤ 4096) ⌝ }
-    ensures { λ r. ⌜ LabelJudged (oneLabel (theTable (now (words .entry))) (now (input .entry))) (now (answer .entry)) (now (answer .exit)) (now (w .entry)) (now (w .exit)) r ⌝ }
+    requires { ⌜ (leastWork ≤ length (now w)) × (length (now input) ≤ mostInput) ⌝ }
+    ensures { λ r. ⌜ LabelJudged (oneLabel setting (theTable (now (words .entry))) (now (input .entry))) (now (answer .entry)) (now (answer .exit)) (now (w .entry)) (now (w .exit)) r ⌝ }
 {
     let end = label_end(input, 0);
     if end < input.len() {
@@ -49,6 +54,9 @@ fn judge_one(
     let judged = judge_label(words, ix, input, 0, 0, 0, w);
     match judged {
         Judgement::Accepted { length, kind, .. } => {
+            if is_barred(setting, kind) {
+                return LabelAnswer::Refused(Refusal::Restricted(0));
+            }
             let end = put_label(answer, 0, true, &w[..length]);
             LabelAnswer::Accepted { length: end, kind }
         }
@@ -56,31 +64,37 @@ fn judge_one(
     }
 }
 
-// Judges a label as far as 14.
-fn judge_input(words: &[u32], input: &[u32], answer: &mut [u32], work: &mut [u32]) -> LabelAnswer
-    ensures { λ r. ⌜ LabelJudged (labelBefore15 (now (words .entry)) (now (input .entry)) (length (now (work .entry)))) (now (answer .entry)) (now (answer .exit)) (now (work .entry)) (now (work .exit)) r ⌝ }
+// Judges a label as far as 14 and 17.
+fn judge_input(
+    setting: u32,
+    words: &[u32],
+    input: &[u32],
+    answer: &mut [u32],
+    work: &mut [u32],
+) -> LabelAnswer
+    ensures { λ r. ⌜ LabelJudged (labelBefore15 setting (now (words .entry)) (now (input .entry)) (length (now (work .entry)))) (now (answer .entry)) (now (answer .exit)) (now (work .entry)) (now (work .exit)) r ⌝ }
 {
     let admitted = admit(words, input, work.len());
     match admitted {
-        Admission::Found(ix) => judge_one(words, ix, input, answer, work),
+        Admission::Found(ix) => judge_one(words, ix, setting, input, answer, work),
         Admission::Refused(f) => LabelAnswer::Refused(f),
     }
 }
 
 // Normalises one label into `answer`, and answers its length and its kind; both buffers are left as by the name call.
-pub fn label(input: &[u32], words: &[u32], answer: &mut [u32], work: &mut [u32]) -> LabelAnswer
-    ensures { λ r. ⌜ LabelCalls (now (words .entry)) (now (input .entry)) (now (answer .entry)) (now (answer .exit)) (now (work .entry)) (now (work .exit)) r ⌝ }
+pub fn label(
+    input: &[u32],
+    words: &[u32],
+    setting: u32,
+    answer: &mut [u32],
+    work: &mut [u32],
+) -> LabelAnswer
+    ensures { λ r. ⌜ LabelCalls setting (now (words .entry)) (now (input .entry)) (now (answer .entry)) (now (answer .exit)) (now (work .entry)) (now (work .exit)) r ⌝ }
 {
-    let judged = judge_input(words, input, answer, work);
-    buffers::clear(work);
-    let LabelAnswer::Accepted { length, kind: _ } = judged else {
-        buffers::clear(answer);
-        return judged;
-    };
-    if length > answer.len() {
-        buffers::clear(answer);
+    let judged = judge_input(setting, words, input, answer, work);
+    let length = label_length(judged);
+    if !finish(answer, work, length) {
         return LabelAnswer::Refused(Refusal::BufferTooSmall);
     }
-    buffers::clear(&mut answer[length..]);
     judged
 }

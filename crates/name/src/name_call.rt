@@ -7,24 +7,29 @@ use crate::part::label_end;
 use crate::part::put_label;
 use answers::NameAnswer;
 use answers::Refusal;
+use answers::is_barred;
+use answers::name_length;
+use ending::finish;
 use table::Sections;
 ghost use Prim.Native.Nat.{_≤_};
 ghost use lib.ListN.{length};
+ghost use Rattle.limits.specs.Limits.{mostInput, leastWork};
 ghost use Rattle.table.specs.Laid.{Laid, theTable};
-ghost use Rattle.name.specs.Name.{labelsOf, labelsVerdict};
-ghost use Rattle.name.specs.Calls.{NameCalls, NameJudged, nameBefore15};
+ghost use Rattle.name.specs.Name.{labelsOf, labelsVerdict, nameBefore15};
+ghost use Rattle.name.specs.Calls.{NameCalls, NameJudged};
 
 // Judges the labels of a name from the left, and writes the answer of each into the part behind the last stop. The empty name has none.
 fn judge_labels(
     words: &[u32],
     ix: Sections,
+    setting: u32,
     name: &[u32],
     answer: &mut [u32],
     w: &mut [u32],
 ) -> NameAnswer
     requires { ⌜ Laid (now words) ix ⌝ }
-    requires { ⌜ (2048 ≤ length (now w)) × (length (now name) ≤ 4096) ⌝ }
-    ensures { λ r. ⌜ NameJudged (now (name .entry)) (labelsVerdict (theTable (now (words .entry))) 0 0 0 (labelsOf (now (name .entry)))) (now (answer .entry)) (now (answer .exit)) (now (w .entry)) (now (w .exit)) r ⌝ }
+    requires { ⌜ (leastWork ≤ length (now w)) × (length (now name) ≤ mostInput) ⌝ }
+    ensures { λ r. ⌜ NameJudged (now (name .entry)) (labelsVerdict setting (theTable (now (words .entry))) 0 0 0 (labelsOf (now (name .entry)))) (now (answer .entry)) (now (answer .exit)) (now (w .entry)) (now (w .exit)) r ⌝ }
 {
     let mut at = 0;
     let mut done = 0;
@@ -37,7 +42,14 @@ fn judge_labels(
         let end = label_end(name, at);
         let judged = judge_label(words, ix, &name[at..end], at, done, place, w);
         match judged {
-            Judgement::Accepted { length, worked, .. } => {
+            Judgement::Accepted {
+                length,
+                kind,
+                worked,
+            } => {
+                if is_barred(setting, kind) {
+                    return NameAnswer::Refused(Refusal::Restricted(place));
+                }
                 len = put_label(answer, len, place == 0, &w[..length]);
                 done += worked + 1;
                 place += 1;
@@ -52,32 +64,38 @@ fn judge_labels(
     }
 }
 
-// Judges a name as far as 14.
-fn judge_name(words: &[u32], input: &[u32], answer: &mut [u32], work: &mut [u32]) -> NameAnswer
-    ensures { λ r. ⌜ NameJudged (now (input .entry)) (nameBefore15 (now (words .entry)) (now (input .entry)) (length (now (work .entry)))) (now (answer .entry)) (now (answer .exit)) (now (work .entry)) (now (work .exit)) r ⌝ }
+// Judges a name as far as 14 and 17.
+fn judge_name(
+    setting: u32,
+    words: &[u32],
+    input: &[u32],
+    answer: &mut [u32],
+    work: &mut [u32],
+) -> NameAnswer
+    ensures { λ r. ⌜ NameJudged (now (input .entry)) (nameBefore15 setting (now (words .entry)) (now (input .entry)) (length (now (work .entry)))) (now (answer .entry)) (now (answer .exit)) (now (work .entry)) (now (work .exit)) r ⌝ }
 {
     let admitted = admit(words, input, work.len());
     match admitted {
-        Admission::Found(ix) => judge_labels(words, ix, input, answer, work),
+        Admission::Found(ix) => judge_labels(words, ix, setting, input, answer, work),
         Admission::Refused(f) => NameAnswer::Refused(f),
     }
 }
 
 // Normalises a name into `answer`, and answers its length and the number of its labels. The words behind the answer and the work area
-// are cleared; a refusal clears both buffers. 15 is judged last.
-pub fn name(input: &[u32], words: &[u32], answer: &mut [u32], work: &mut [u32]) -> NameAnswer
-    ensures { λ r. ⌜ NameCalls (now (words .entry)) (now (input .entry)) (now (answer .entry)) (now (answer .exit)) (now (work .entry)) (now (work .exit)) r ⌝ }
+// are cleared; a refusal clears both buffers. 15 is judged last. With a setting other than 0, labels of restricted groups are refused.
+pub fn name(
+    input: &[u32],
+    words: &[u32],
+    setting: u32,
+    answer: &mut [u32],
+    work: &mut [u32],
+) -> NameAnswer
+    ensures { λ r. ⌜ NameCalls setting (now (words .entry)) (now (input .entry)) (now (answer .entry)) (now (answer .exit)) (now (work .entry)) (now (work .exit)) r ⌝ }
 {
-    let judged = judge_name(words, input, answer, work);
-    buffers::clear(work);
-    let NameAnswer::Accepted { length, labels: _ } = judged else {
-        buffers::clear(answer);
-        return judged;
-    };
-    if length > answer.len() {
-        buffers::clear(answer);
+    let judged = judge_name(setting, words, input, answer, work);
+    let length = name_length(judged);
+    if !finish(answer, work, length) {
         return NameAnswer::Refused(Refusal::BufferTooSmall);
     }
-    buffers::clear(&mut answer[length..]);
     judged
 }

@@ -1,18 +1,21 @@
 -- The ends of the calls, each from what the steps before it leave. Assumes nothing.
-use Prim.Native.Nat.{ℕ, _+_, _-_, _≤_, _<_}
+use Prim.Native.Nat.{ℕ, _+_, _≤_, _<_}
 use native.Mathlib.Omega.{arith}
 use mathlib.Core.Path.{_≡_, refl, sym, ap, _∙_, subst}
+use mathlib.Core.Bool.{Bool}
 use mathlib.Core.Logic.{⊎-elim}
 use mathlib.Core.Option.{Option, none, some}
 use mathlib.Core.List.{List, [], _∷_, _++_, map}
-use lib.ListN.{length, take, drop, replicate, length-map}
+use lib.ListN.{length, take, drop, length-map}
 use lib.Seq.{sets-eq, take-at, take-append-le, length-front, length-sets, length-take-le}
 use types.Run.{OneOf}
 use denote.Enum.Declared.{tagOf}
 use borrow.Author.Tests.{le-leb, lt-leb}
-use borrow.Rule.Slice.PartMut.{midOf, putMid}
-use Rattle.buffers.proofs.Parts.{put-filled}
-use Rattle.answers.specs.Verdict.{Verdict, accepted, refused}
+use Rattle.limits.specs.Limits.{mostWorked}
+use Rattle.answers.specs.Verdict.{accepted, refused}
+use Rattle.ending.specs.Ending.{resultOf}
+use Rattle.ending.specs.Ends.{Told, ends-fitting}
+use Rattle.ending.specs.Finish.{Finishes}
 use Rattle.table.specs.declared.Sections.{Sections}
 use Rattle.table.specs.declared.Layout.the-variants.{Fault, Found}
 use Rattle.table.specs.Table.{Table}
@@ -27,10 +30,10 @@ use Rattle.text.specs.Work.{Ready, ComposedInto}
 use Rattle.table.proofs.SectionLaws.{found-laid, laid-parse}
 use Rattle.text.proofs.Sorting.{length-sort, map-sort, order-sort, sort-in-order}
 use Rattle.normal_forms.specs.declared.FormAnswer.{FormAnswer}
-use Rattle.normal_forms.specs.declared.FormAnswer.the-variants.{Formed, LayoutFault, WorkAreaTooSmall, TextTooLong, BufferTooSmall}
+use Rattle.normal_forms.specs.declared.FormAnswer.the-variants.{Formed, LayoutFault, WorkedTooLong, WorkAreaTooSmall, BufferTooSmall}
 use Rattle.normal_forms.proofs.FormAnswer.{the-type}
-use Rattle.normal_forms.specs.Forms.{mostText, formValues, lengthOf, formWithin, formBy, forming, nfdCall, nfcCall, Forming, FormValues}
-use Rattle.normal_forms.specs.Promise.{Forms, Told, Stands, Cleared, Arranged, Ordered, RefusedAs, Standing}
+use Rattle.normal_forms.specs.Forms.{formValues, lengthOf, formWithin, formBy, formAnswering, nfdCall, nfcCall, Forming}
+use Rattle.normal_forms.specs.Promise.{Forms, Stands, Arranged, Ordered, RefusedAs, Standing}
 
 -- the text and its classes, sorted by these, are the text in order with its own classes
 pub arranged : (t : Table) (d ks text classes : List ℕ) → ks ≡ map (classOf t) d → text ≡ sortBy ks d → classes ≡ sortBy ks ks → Arranged t d text classes
@@ -47,25 +50,25 @@ arranged t d ks text classes e q k =
 
 -- the tests of a text, in turn
 module _ (t : Table) (text : List ℕ) (room work : ℕ) where
-  pub too-long : mostText < length text → RefusedAs t text room work TextTooLong
+  pub too-long : mostWorked < length (fourRounds t text) → RefusedAs t text room work WorkedTooLong
   unfolding formWithin
-  too-long h form = rw (lt-leb (length text) mostText h)
+  too-long h form = rw (lt-leb (length (fourRounds t text)) mostWorked h)
 
-  module _ (short : length text ≤ mostText) (n : ℕ) (e : n ≡ 0 + length (fourRounds t text)) where
+  module _ (n : ℕ) (short : n ≤ mostWorked) (e : n ≡ 0 + length (fourRounds t text)) where
     long : length (fourRounds t text) ≡ n
     long = omega arith
 
     pub no-work : work < n → RefusedAs t text room work WorkAreaTooSmall
     unfolding formWithin
-    no-work h form = rw (le-leb (length text) mostText short, long, lt-leb n work h)
+    no-work h form = rw (long, le-leb n mostWorked short, lt-leb n work h)
 
     pub no-room : n ≤ work → room < n → RefusedAs t text room work BufferTooSmall
     unfolding formWithin
-    no-room w h form = rw (le-leb (length text) mostText short, long, le-leb n work w, lt-leb n room h)
+    no-room w h form = rw (long, le-leb n mostWorked short, le-leb n work w, lt-leb n room h)
 
     passes : n ≤ work → n ≤ room → (form : Table → List ℕ → List ℕ) → formWithin form t text room work ≡ accepted (form t text)
     unfolding formWithin
-    passes w h form = rw (le-leb (length text) mostText short, long, le-leb n work w, le-leb n room h)
+    passes w h form = rw (long, le-leb n mostWorked short, le-leb n work w, le-leb n room h)
 
 -- by words with a layout fault
 pub fault-form : (form : Table → List ℕ → List ℕ) (text ws : List ℕ) (room work : ℕ) → layoutOf ws ≡ Fault → formBy form text ws room work ≡ refused 1 0
@@ -93,7 +96,7 @@ put-front : (n : ℕ) (ys s : List ℕ) → length ys ≡ n → take n (ys ++ dr
 put-front n ys s e = take-at ys (drop n s) n e
 
 -- the text is decomposed, and put into order in the front of the two buffers
-pub ordered : (t : Table) (text answer out work part classes : List ℕ) (n : ℕ) → length text ≤ mostText → Appended answer out 0 (fourRounds t text) n
+pub ordered : (t : Table) (text answer out work part classes : List ℕ) (n : ℕ) → n ≤ mostWorked → Appended answer out 0 (fourRounds t text) n
     → n ≤ length work → n ≤ length out → Arranged t (take n out) part classes → Ordered t text answer (part ++ drop n out) work (classes ++ drop n work) n
 unfolding nfd
 ordered t text answer out work part classes n short w hw ho a =
@@ -105,7 +108,7 @@ ordered t text answer out work part classes n short w hw ho a =
     let lp : length part ≡ n = a .same ∙ long in
     let lc : length classes ≡ n = a .same-classes ∙ long in
     record {
-      passes = passes t text (length answer) (length work) short n (w .end) hw ha;
+      passes = passes t text (length answer) (length work) n short (w .end) hw ha;
       count = rw (← is) (sym lp);
       front = put-front n part out lp ∙ is;
       ready = rw (put-front n classes work lc, ← is) (a .ready);
@@ -115,32 +118,41 @@ ordered t text answer out work part classes n short w hw ho a =
 
 -- the answer buffer as it was, by words with a layout fault
 pub fault-stands : (form : Table → List ℕ → List ℕ) (text ws answer : List ℕ) (work : ℕ) → layoutOf ws ≡ Fault → Stands form text ws answer answer work LayoutFault
-fault-stands form text ws answer work e = record { told = rw (fault-form form text ws (length answer) work e) refl; same = refl }
+fault-stands form text ws answer work e = record { told = rw (fault-form form text ws (length answer) work e) refl; fits = omega arith; same = refl }
 
 module _ (text ws answer answer′ work work′ : List ℕ) (ix : Sections) (l : layoutOf ws ≡ Found ix) where
   -- an answer of full decomposition is the answer for NFD
-  standing-told : (r : FormAnswer) → Standing (theTable ws) text answer answer′ work work′ r → Told (formWithin nfd (theTable ws) text (length answer) (length work)) answer′ r
-  standing-told (Formed n) o = rw (o .passes nfd) (ap Formed (o .count), rw (← o .count) (o .front), rw (← o .count) (o .room))
+  standing-told : (r : FormAnswer) → Standing (theTable ws) text answer answer′ work work′ r
+      → Told formAnswering (formWithin nfd (theTable ws) text (length answer) (length work)) answer′ (formValues r)
+  standing-told (Formed n) o = rw (o .passes nfd) (rw (o .count) refl, λ h. rw (← o .count) (o .front))
   standing-told LayoutFault o = absurd o
+  standing-told WorkedTooLong o = rw (o nfd) refl
   standing-told WorkAreaTooSmall o = rw (o nfd) refl
-  standing-told TextTooLong o = rw (o nfd) refl
   standing-told BufferTooSmall o = rw (o nfd) refl
 
+  standing-fits : (r : FormAnswer) → Standing (theTable ws) text answer answer′ work work′ r → lengthOf r ≤ length answer′
+  standing-fits (Formed n) o = o .room
+  standing-fits LayoutFault o = absurd o
+  standing-fits WorkedTooLong o = omega arith
+  standing-fits WorkAreaTooSmall o = omega arith
+  standing-fits BufferTooSmall o = omega arith
+
   pub nfd-stands : (r : FormAnswer) → length answer′ ≡ length answer → Standing (theTable ws) text answer answer′ work work′ r → Stands nfd text ws answer answer′ (length work) r
-  nfd-stands r e o = record { told = rw (laid-form nfd text ws ix (length answer) (length work) l) (standing-told r o); same = e }
+  nfd-stands r e o = record { told = rw (laid-form nfd text ws ix (length answer) (length work) l) (standing-told r o); fits = standing-fits r o; same = e }
 
   -- a refusal of full decomposition is one of any form
   standing-refused : (form : Table → List ℕ → List ℕ) (r : FormAnswer) → OneOf (1 ∷ 2 ∷ 3 ∷ 4 ∷ []) (tagOf the-type r)
-      → Standing (theTable ws) text answer answer′ work work′ r → Told (formWithin form (theTable ws) text (length answer) (length work)) answer′ r
+      → Standing (theTable ws) text answer answer′ work work′ r
+      → Told formAnswering (formWithin form (theTable ws) text (length answer) (length work)) answer′ (formValues r)
   standing-refused form (Formed n) k o = absurd (⊎-elim (λ u. omega arith) (⊎-elim (λ u. omega arith) (⊎-elim (λ u. omega arith) (λ u. omega arith))) k)
   standing-refused form LayoutFault k o = absurd o
+  standing-refused form WorkedTooLong k o = rw (o form) refl
   standing-refused form WorkAreaTooSmall k o = rw (o form) refl
-  standing-refused form TextTooLong k o = rw (o form) refl
   standing-refused form BufferTooSmall k o = rw (o form) refl
 
   pub refused-stands : (form : Table → List ℕ → List ℕ) (r : FormAnswer) → OneOf (1 ∷ 2 ∷ 3 ∷ 4 ∷ []) (tagOf the-type r) → length answer′ ≡ length answer
       → Standing (theTable ws) text answer answer′ work work′ r → Stands form text ws answer answer′ (length work) r
-  refused-stands form r k e o = record { told = rw (laid-form form text ws ix (length answer) (length work) l) (standing-refused form r k o); same = e }
+  refused-stands form r k e o = record { told = rw (laid-form form text ws ix (length answer) (length work) l) (standing-refused form r k o); fits = standing-fits r o; same = e }
 
   -- NFD is composed in its place
   pub composed-stands : (part : List ℕ) (n r : ℕ) → length answer′ ≡ length answer → Ordered (theTable ws) text answer answer′ work work′ n
@@ -155,9 +167,9 @@ module _ (text ws answer answer′ work work′ : List ℕ) (ix : Sections) (l :
       let few : r ≤ n = rw long at (k .room) in
       let front : take r (part ++ drop n answer′) ≡ nfc t text = take-append-le r part (drop n answer′) (omega arith) ∙ k .front ∙ is in
       let all : length (part ++ drop n answer′) ≡ length answer′ = length-front answer′ part n (k .same) in
-      let told : Told (formWithin nfc t text (length answer) (length work)) (part ++ drop n answer′) (Formed r) =
-      rw (o .passes nfc) (ap Formed count, rw (← count) front, omega (arith, o .room, count)) in
-      record { told = rw (laid-form nfc text ws ix (length answer) (length work) l) told; same = all ∙ e }
+      let told : Told formAnswering (formWithin nfc t text (length answer) (length work)) (part ++ drop n answer′) (formValues (Formed r)) =
+      rw (o .passes nfc) (rw count refl, λ h. rw (← count) front) in
+      record { told = rw (laid-form nfc text ws ix (length answer) (length work) l) told; fits = omega (arith, o .room, all); same = all ∙ e }
 
 -- NFD stands there, once the answer is known
 pub standing-formed : (t : Table) (text answer answer′ work work′ : List ℕ) (r : FormAnswer) (n : ℕ) → r ≡ Formed n → Standing t text answer answer′ work work′ r
@@ -168,45 +180,20 @@ standing-formed t text answer answer′ work work′ r n e o = subst (λ (x : Fo
 pub ordered-ready : (t : Table) (text answer answer′ work work′ : List ℕ) (n : ℕ) → Ordered t text answer answer′ work work′ n → Ready t (take n answer′) (take n work′)
 ordered-ready t text answer answer′ work work′ n o = rw (o .front) (o .ready)
 
--- what a verdict says of the answer and of both buffers, once what is behind the front is cleared
-pub formed : (room work : ℕ) (v : Verdict (List ℕ)) (r : FormAnswer) (front : List ℕ) → Told v front r → length front ≡ room
-    → (formValues r ≡ forming room work v .values) × (take (lengthOf r) front ++ replicate (length front - lengthOf r) 0 ≡ forming room work v .answer) × (replicate work 0 ≡ forming room work v .work)
-formed room work (accepted s) r front told l = rw (told .0) (refl, rw (told .1, l), refl)
-formed room work (refused n p) r front told l =
-    let z : lengthOf r ≡ 0 = ap (λ (u : FormValues). u .length) told in
-    let all : room - 0 ≡ room = omega arith in
-    (told, rw (z, l, all), refl)
-
--- the front of the answer is no longer than the answer
-pub told-fits : (v : Verdict (List ℕ)) (r : FormAnswer) (front : List ℕ) → Told v front r → lengthOf r ≤ length front
-told-fits (accepted s) r front told = rw (told .0) (told .2)
-told-fits (refused n p) r front told =
-    let z : lengthOf r ≡ 0 = ap (λ (u : FormValues). u .length) told in
-    omega arith
-
-pub stands-fits : (form : Table → List ℕ → List ℕ) (text ws answer front : List ℕ) (work : ℕ) (r : FormAnswer) → Stands form text ws answer front work r → lengthOf r ≤ length front
-stands-fits form text ws answer front work r o = told-fits (formBy form text ws (length answer) work) r front (o .told)
-
--- what is behind the first n words is cleared (`tail` came back of it), and so is the work area
-pub cleared : (r n : ℕ) (front tail work work′ : List ℕ) → n ≡ r → tail ≡ replicate (length (midOf n (length front - n) front)) 0 → work′ ≡ replicate (length work) 0
-    → Cleared r front (putMid n (length front - n) front tail) work work′
-cleared r n front tail work work′ e z w = record { answer-is = rw (z, put-filled n front 0, e); work-is = w }
-
 -- the end of a call
 pub finished : (form : Table → List ℕ → List ℕ) (call : List ℕ → List ℕ → ℕ → ℕ → Forming)
-    → ((text ws : List ℕ) (room work : ℕ) → call text ws room work ≡ forming room work (formBy form text ws room work))
+    → ((text ws : List ℕ) (room work : ℕ) → call text ws room work ≡ resultOf formAnswering room work (formBy form text ws room work))
     → (text ws answer front answer′ work left work′ : List ℕ) (r : FormAnswer) → Stands form text ws answer front (length work) r → length left ≡ length work
-    → Cleared (lengthOf r) front answer′ left work′ → Forms call text ws answer answer′ work work′ (formValues r)
-finished form call c text ws answer front answer′ work left work′ r o l z =
-    let v : Verdict (List ℕ) = formBy form text ws (length answer) (length work) in
-    let f = formed (length answer) (length work) v r front (o .told) (o .same) in
-    let here = c text ws (length answer) (length work) in
-    record { values = rw here (f .0); answer-is = rw (here, z .answer-is) (f .1); work-is = rw (here, z .work-is, l) (f .2) }
+    → (n : ℕ) → n ≡ lengthOf r → (kept : Bool) → Finishes front answer′ left work′ n kept → Forms call text ws answer answer′ work work′ (formValues r)
+finished form call c text ws answer front answer′ work left work′ r o l n e kept f =
+    rw (c text ws (length answer) (length work))
+    (ends-fitting formAnswering answer front answer′ work left work′ (formValues r) (formBy form text ws (length answer) (length work))
+    (record { same = o .same; same-work = l; told = o .told }) n e kept f (o .fits))
 
-pub nfd-is : (text ws : List ℕ) (room work : ℕ) → nfdCall text ws room work ≡ forming room work (formBy nfd text ws room work)
+pub nfd-is : (text ws : List ℕ) (room work : ℕ) → nfdCall text ws room work ≡ resultOf formAnswering room work (formBy nfd text ws room work)
 unfolding nfdCall
 nfd-is text ws room work = refl
 
-pub nfc-is : (text ws : List ℕ) (room work : ℕ) → nfcCall text ws room work ≡ forming room work (formBy nfc text ws room work)
+pub nfc-is : (text ws : List ℕ) (room work : ℕ) → nfcCall text ws room work ≡ resultOf formAnswering room work (formBy nfc text ws room work)
 unfolding nfcCall
 nfc-is text ws room work = refl

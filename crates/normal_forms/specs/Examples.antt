@@ -25,12 +25,12 @@ unfolding nfcCall
 composed = refl
 
 -- the answer of NFC has room, and its full decomposition has none
-pub no-room : nfcCall text words 2 3 ≡ told 15 0 (0 ∷ 0 ∷ []) (0 ∷ 0 ∷ 0 ∷ [])
+pub no-room : nfcCall text words 2 3 ≡ told 52 0 (0 ∷ 0 ∷ []) (0 ∷ 0 ∷ 0 ∷ [])
 unfolding nfcCall
 no-room = refl
 
 -- neither buffer has room: the work area is tried first
-pub no-work : nfdCall text words 2 2 ≡ told 2 0 (0 ∷ 0 ∷ []) (0 ∷ 0 ∷ [])
+pub no-work : nfdCall text words 2 2 ≡ told 51 0 (0 ∷ 0 ∷ []) (0 ∷ 0 ∷ [])
 unfolding nfdCall
 no-work = refl
 

@@ -20,16 +20,16 @@ fn form_fields(answer: FormAnswer) -> WanlophengForm
             number: 1,
             length: 0,
         },
-        FormAnswer::WorkAreaTooSmall => WanlophengForm {
-            number: 2,
+        FormAnswer::WorkedTooLong => WanlophengForm {
+            number: 50,
             length: 0,
         },
-        FormAnswer::TextTooLong => WanlophengForm {
-            number: 3,
+        FormAnswer::WorkAreaTooSmall => WanlophengForm {
+            number: 51,
             length: 0,
         },
         FormAnswer::BufferTooSmall => WanlophengForm {
-            number: 15,
+            number: 52,
             length: 0,
         },
     }

@@ -1,59 +1,45 @@
 // NFD and NFC of a text, by a table. specs/Forms.antt states what they answer.
 pub mod export;
 
+use ending::finish;
+use limits::MOST_WORKED;
 use table::Layout;
 use table::Sections;
 use text::decompose::append_decomposed;
+use text::nfc::put_classes;
 ghost use mathlib.Core.Path.{_≡_};
-ghost use mathlib.Core.List.{map};
-ghost use Prim.Native.Nat.{_≤_};
 ghost use lib.ListN.{length};
 ghost use Rattle.table.specs.Laid.{Laid, theTable};
-ghost use Rattle.text.specs.Decomposition.{classOf, fourRounds};
 ghost use Rattle.text.specs.Ordering.{nfd};
 ghost use Rattle.text.specs.Composition.{nfc};
-ghost use Rattle.text.specs.Rounds.{Appended};
-ghost use Rattle.normal_forms.specs.Forms.{mostText, formValues, lengthOf, nfdCall, nfcCall};
-ghost use Rattle.normal_forms.specs.Promise.{Arranged, Standing, Stands, Cleared, Forms};
-
-// The most codepoints of a text. Full decomposition makes at most 256 of each.
-const MOST_TEXT: usize = 4294967296;
+ghost use Rattle.normal_forms.specs.Forms.{formValues, lengthOf, nfdCall, nfcCall};
+ghost use Rattle.normal_forms.specs.Promise.{Decomposes, Arranged, Standing, Stands, Forms};
 
 // The length of the form, or why there is none.
 pub enum FormAnswer {
     Formed(usize),
     LayoutFault,
+    WorkedTooLong,
     WorkAreaTooSmall,
-    TextTooLong,
     BufferTooSmall,
 }
 
-// Writes the four rounds of the text, as far as there is room, and answers their length.
+// Writes the four rounds of the text, as far as there is room, and answers their length. Past the worked limit it stops, and answers how far
+// it got.
 fn decompose_into(words: &[u32], ix: Sections, text: &[u32], out: &mut [u32]) -> usize
     requires { ⌜ Laid (now words) ix ⌝ }
-    requires { ⌜ length (now text) ≤ mostText ⌝ }
-    ensures { λ r. ⌜ Appended (now (out .entry)) (now (out .exit)) 0 (fourRounds (theTable (now (words .entry))) (now (text .entry))) r ⌝ }
+    ensures { λ r. ⌜ Decomposes (theTable (now (words .entry))) (now (text .entry)) (now (out .entry)) (now (out .exit)) r ⌝ }
 {
     let mut to = 0;
     let mut i = 0;
     while i < text.len() {
         to = append_decomposed(words, ix, out, to, text[i]);
+        if to > MOST_WORKED {
+            return to;
+        }
         i += 1;
     }
     to
-}
-
-// Writes the class of each codepoint of the text to its place among the classes.
-fn classes_into(words: &[u32], ix: Sections, text: &[u32], classes: &mut [u32])
-    requires { ⌜ Laid (now words) ix ⌝ }
-    requires { ⌜ length (now text) ≡ length (now classes) ⌝ }
-    ensures { λ _. ⌜ now (classes .exit) ≡ map (classOf (theTable (now (words .entry)))) (now (text .entry)) ⌝ }
-{
-    let mut i = 0;
-    while i < text.len() {
-        classes[i] = text::class::class_of(words, ix, text[i]);
-        i += 1;
-    }
 }
 
 // Puts the text into canonical order, and leaves its classes beside it.
@@ -62,7 +48,7 @@ fn arrange(words: &[u32], ix: Sections, text: &mut [u32], classes: &mut [u32])
     requires { ⌜ length (now text) ≡ length (now classes) ⌝ }
     ensures { λ _. ⌜ Arranged (theTable (now (words .entry))) (now (text .entry)) (now (text .exit)) (now (classes .exit)) ⌝ }
 {
-    classes_into(words, ix, text, classes);
+    put_classes(words, ix, text, classes);
     text::order::order(text, classes);
 }
 
@@ -77,10 +63,10 @@ fn decomposed(
     requires { ⌜ Laid (now words) ix ⌝ }
     ensures { λ r. ⌜ Standing (theTable (now (words .entry))) (now (text .entry)) (now (answer .entry)) (now (answer .exit)) (now (work .entry)) (now (work .exit)) r ⌝ }
 {
-    if text.len() > MOST_TEXT {
-        return FormAnswer::TextTooLong;
-    }
     let n = decompose_into(words, ix, text, answer);
+    if n > MOST_WORKED {
+        return FormAnswer::WorkedTooLong;
+    }
     if n > work.len() {
         return FormAnswer::WorkAreaTooSmall;
     }
@@ -125,20 +111,10 @@ fn length_of(found: FormAnswer) -> usize
     match found {
         FormAnswer::Formed(n) => n,
         FormAnswer::LayoutFault => 0,
+        FormAnswer::WorkedTooLong => 0,
         FormAnswer::WorkAreaTooSmall => 0,
-        FormAnswer::TextTooLong => 0,
         FormAnswer::BufferTooSmall => 0,
     }
-}
-
-// What is behind the form becomes zeros, and so does the work area.
-fn clear_rest(found: FormAnswer, answer: &mut [u32], work: &mut [u32])
-    requires { ⌜ lengthOf found ≤ length (now answer) ⌝ }
-    ensures { λ _. ⌜ Cleared (lengthOf found) (now (answer .entry)) (now (answer .exit)) (now (work .entry)) (now (work .exit)) ⌝ }
-{
-    let n = length_of(found);
-    buffers::clear(&mut answer[n..]);
-    buffers::clear(work);
 }
 
 // NFD of the text into `answer`; zeros follow, and a refusal leaves zeros alone. The work area is zeros in the end.
@@ -146,7 +122,8 @@ pub fn nfd(text: &[u32], words: &[u32], answer: &mut [u32], work: &mut [u32]) ->
     ensures { λ r. ⌜ Forms nfdCall (now (text .entry)) (now (words .entry)) (now (answer .entry)) (now (answer .exit)) (now (work .entry)) (now (work .exit)) (formValues r) ⌝ }
 {
     let found = nfd_front(text, words, answer, work);
-    clear_rest(found, answer, work);
+    let n = length_of(found);
+    finish(answer, work, n);
     found
 }
 
@@ -155,6 +132,7 @@ pub fn nfc(text: &[u32], words: &[u32], answer: &mut [u32], work: &mut [u32]) ->
     ensures { λ r. ⌜ Forms nfcCall (now (text .entry)) (now (words .entry)) (now (answer .entry)) (now (answer .exit)) (now (work .entry)) (now (work .exit)) (formValues r) ⌝ }
 {
     let found = nfc_front(text, words, answer, work);
-    clear_rest(found, answer, work);
+    let n = length_of(found);
+    finish(answer, work, n);
     found
 }

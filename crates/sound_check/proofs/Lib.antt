@@ -1,12 +1,1 @@
-pub mod Walks
-pub mod ScalarLaws
-pub mod SectionsHold
-pub mod StripLaws
-pub mod ApartLaws
-pub mod PairLaws
-pub mod HeadLaws
-pub mod CoverLaws
-pub mod SetLaws
-pub mod PointLaws
-pub mod EndLaws
 pub mod CheckLaws

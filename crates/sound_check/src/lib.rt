@@ -1,14 +1,12 @@
-// The soundness check of a name table.
-pub mod apart;
-pub mod cover;
-pub mod heads;
-pub mod pairs;
-pub mod scalars;
-pub mod sequences;
-pub mod sets;
-pub mod valid;
-
+// The soundness check of a name table: the rules, asked in their order.
 use answers::Soundness;
+use rule_7::rule7;
+use rules_1_3::rule1;
+use rules_1_3::rule3;
+use rules_2_6::rule2;
+use rules_2_6::rule6;
+use rules_4_5::rule4;
+use rules_4_5::rule5;
 use table::Layout;
 use table::Sections;
 use table::laid::layout;
@@ -22,25 +20,25 @@ fn rules(words: &[u32], ix: Sections) -> Soundness
     requires { ⌜ Laid (now words) ix ⌝ }
     ensures { λ r. ⌜ brokenRule r ≡ lowestBroken (theTable (now (words .entry))) ⌝ }
 {
-    if !scalars::keeps_rule1(words, ix) {
+    if !rule1::keeps_rule1(words, ix) {
         return Soundness::Broken(1);
     }
-    if !cover::keeps_rule2(words, ix) {
+    if !rule2::keeps_rule2(words, ix) {
         return Soundness::Broken(2);
     }
-    if !valid::keeps_rule3(words, ix) {
+    if !rule3::keeps_rule3(words, ix) {
         return Soundness::Broken(3);
     }
-    if !sequences::keeps_rule4(words, ix) {
+    if !rule4::keeps_rule4(words, ix) {
         return Soundness::Broken(4);
     }
-    if !apart::keeps_rule5(words, ix) {
+    if !rule5::keeps_rule5(words, ix) {
         return Soundness::Broken(5);
     }
-    if !heads::keeps_rule6(words, ix) {
+    if !rule6::keeps_rule6(words, ix) {
         return Soundness::Broken(6);
     }
-    if !pairs::keeps_rule7(words, ix) {
+    if !rule7::keeps_rule7(words, ix) {
         return Soundness::Broken(7);
     }
     Soundness::Sound

@@ -3,3 +3,4 @@ pub mod Valid
 pub mod Sequences
 pub mod Pairs
 pub mod Soundness
+pub mod Answer

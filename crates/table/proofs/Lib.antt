@@ -3,3 +3,4 @@ pub mod WalkLaws
 pub mod Lookups
 pub mod Records
 pub mod Searches
+pub mod GroupWalks

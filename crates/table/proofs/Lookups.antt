@@ -1,5 +1,5 @@
 -- What the lookups over a section's words have to do with those in a table. Assumes nothing.
-use Prim.Native.Nat.{ℕ, zero, suc, _+_, _-_, _<_, _≤_}
+use Prim.Native.Nat.{ℕ, zero, suc, _+_, _-_, _%_, _^_, _<_, _≤_}
 use native.Mathlib.Numerals.{add-one, unary-clauses}
 use native.Mathlib.Omega.{arith}
 use mathlib.Core.Path.{_≡_, refl, sym, _∙_}
@@ -9,8 +9,8 @@ use mathlib.Core.Option.{Option, none, some}
 use lib.ListN.{length, getD, take, drop, length-take, length-drop, drop-of-length-le}
 use lib.Seq.{drop-cons, drop-drop, take-nil, take-take}
 use lib.Dec.{leb, ltb, eqb}
-use borrow.Author.Tests.{ltb-true, ltb-false, leb-true, le-leb, lt-leb, eq-eqb, ne-eqb}
-use Rattle.lists.specs.Lists.{andThen, mem}
+use borrow.Author.Tests.{ltb-true, ltb-false, leb-true, leb-false, le-leb, lt-leb, eq-eqb, ne-eqb}
+use Rattle.lists.specs.Lists.{all, andThen, mem}
 use Rattle.table.specs.declared.Span.{Span}
 use Rattle.table.specs.declared.Sections.{Sections}
 use Rattle.table.specs.Laid.{within, Fits, Laid, theTable}
@@ -120,19 +120,57 @@ module _ {A : Type 0} (f : List ℕ → A) (ws : List ℕ) where
   pub walk-on : (i k : ℕ) → Walk f ws i → i + k ≤ length ws → f (drop i ws) ≡ f (drop (i + k) ws) → Walk f ws (i + k)
   walk-on i k w h e = record { inside = h; same = w .same ∙ e }
 
+-- over words each of which is to pass a test
+module _ (p : ℕ → Bool) (s : List ℕ) (i : ℕ) (w : Walk (all p) s i) where
+  pub all-on : i < length s → p (getD s i 0) ≡ true → Walk (all p) s (i + 1)
+  all-on h e = walk-on _ _ i 1 w (omega arith) (rw (drop-next s i h, e))
+
+  pub all-not : i < length s → p (getD s i 0) ≡ false → all p s ≡ false
+  all-not h e = rw (w .same, drop-next s i h, e)
+
+  pub all-stop : length s ≤ i → all p s ≡ true
+  all-stop h = rw (w .same, drop-of-length-le s h)
+
+-- tests that agree on every number agree on all of a list
+pub all-same : (p q : ℕ → Bool) → ((c : ℕ) → p c ≡ q c) → (s : List ℕ) → all p s ≡ all q s
+all-same p q e [] = refl
+all-same p q e (c ∷ s) = rw (e c, all-same p q e s)
+
+-- nothing lies between a first and a last that is smaller
+pub not-between : (c first last : ℕ) → last < first → false ≡ (leb first c && leb c last)
+not-between c first last h = go (leb first c) refl
+  where
+    go : (a : Bool) → leb first c ≡ a → false ≡ (leb first c && leb c last)
+    go true f = let k : first ≤ c = leb-true _ _ f in rw (f, lt-leb c last (omega arith))
+    go false f = rw f
+
+-- the wrapped difference of c and the first of a pair is at most that of the last and the first just where c lies between them
+pub wrapped-between : (c first last r : ℕ) → first ≤ last → last < 2 ^ 32 → r < 2 ^ 32 → (r + first) % 2 ^ 32 ≡ c
+    → leb r (last - first) ≡ (leb first c && leb c last)
+wrapped-between c first last r ordered wide low e = go (leb first c) refl (leb c last) refl
+  where
+    go : (a : Bool) → leb first c ≡ a → (b : Bool) → leb c last ≡ b → leb r (last - first) ≡ (leb first c && leb c last)
+    go true f true g =
+        let h : first ≤ c = leb-true _ _ f in
+        let k : c ≤ last = leb-true _ _ g in
+        rw (f, g) (le-leb r (last - first) (omega arith))
+    go true f false g =
+        let h : first ≤ c = leb-true _ _ f in
+        let k : last < c = leb-false _ _ g in
+        rw (f, g) (lt-leb r (last - first) (omega arith))
+    go false f b g =
+        let h : c < first = leb-false _ _ f in
+        rw f (lt-leb r (last - first) (omega arith))
+
 -- over pairs
 module _ (c : ℕ) (ws : List ℕ) (i : ℕ) (w : Walk (inPairs c) ws i) (h : 1 < length ws - i) where
-  pub pairs-hit : getD ws i 0 ≤ c → c ≤ getD ws (i + 1) 0 → true ≡ inPairs c ws
+  pub pairs-hit : true ≡ (leb (getD ws i 0) c && leb c (getD ws (i + 1) 0)) → true ≡ inPairs c ws
   unfolding inPairs
-  pairs-hit a b = rw (w .same, drop-two ws i h, le-leb _ _ a, le-leb _ _ b)
+  pairs-hit e = rw (w .same, drop-two ws i h, ← e)
 
-  pub pairs-below : c < getD ws i 0 → Walk (inPairs c) ws (i + 2)
+  pub pairs-on : false ≡ (leb (getD ws i 0) c && leb c (getD ws (i + 1) 0)) → Walk (inPairs c) ws (i + 2)
   unfolding inPairs
-  pairs-below a = walk-on _ _ i 2 w (omega arith) (rw (drop-two ws i h, lt-leb _ _ a))
-
-  pub pairs-above : getD ws i 0 ≤ c → getD ws (i + 1) 0 < c → Walk (inPairs c) ws (i + 2)
-  unfolding inPairs
-  pairs-above a b = walk-on _ _ i 2 w (omega arith) (rw (drop-two ws i h, le-leb _ _ a, lt-leb _ _ b))
+  pairs-on e = walk-on _ _ i 2 w (omega arith) (rw (drop-two ws i h, ← e))
 
 pub pairs-stop : (c : ℕ) (ws : List ℕ) (i : ℕ) → Walk (inPairs c) ws i → length ws - i ≤ 1 → false ≡ inPairs c ws
 unfolding inPairs
@@ -145,17 +183,13 @@ pairs-stop c ws i w h = rw (w .same) (go (drop i ws) (simp length-drop h))
 
 -- over triples
 module _ (c : ℕ) (ws : List ℕ) (i : ℕ) (w : Walk (classAmong c) ws i) (h : 2 < length ws - i) where
-  pub class-hit : getD ws i 0 ≤ c → c ≤ getD ws (i + 1) 0 → getD ws (i + 2) 0 ≡ classAmong c ws
+  pub class-hit : true ≡ (leb (getD ws i 0) c && leb c (getD ws (i + 1) 0)) → getD ws (i + 2) 0 ≡ classAmong c ws
   unfolding classAmong
-  class-hit a b = rw (w .same, drop-three ws i h, le-leb _ _ a, le-leb _ _ b)
+  class-hit e = rw (w .same, drop-three ws i h, ← e)
 
-  pub class-below : c < getD ws i 0 → Walk (classAmong c) ws (i + 3)
+  pub class-on : false ≡ (leb (getD ws i 0) c && leb c (getD ws (i + 1) 0)) → Walk (classAmong c) ws (i + 3)
   unfolding classAmong
-  class-below a = walk-on _ _ i 3 w (omega arith) (rw (drop-three ws i h, lt-leb _ _ a))
-
-  pub class-above : getD ws i 0 ≤ c → getD ws (i + 1) 0 < c → Walk (classAmong c) ws (i + 3)
-  unfolding classAmong
-  class-above a b = walk-on _ _ i 3 w (omega arith) (rw (drop-three ws i h, le-leb _ _ a, lt-leb _ _ b))
+  class-on e = walk-on _ _ i 3 w (omega arith) (rw (drop-three ws i h, ← e))
 
 pub class-stop : (c : ℕ) (ws : List ℕ) (i : ℕ) → Walk (classAmong c) ws i → length ws - i ≤ 2 → 0 ≡ classAmong c ws
 unfolding classAmong

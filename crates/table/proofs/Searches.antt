@@ -20,7 +20,7 @@ use Rattle.table.specs.declared.Items.the-variants.{At, Nothing}
 use Rattle.table.specs.Laid.{within, Fits, Laid, theTable}
 use Rattle.table.proofs.SectionLaws.{laid-fits, laid-reads}
 use Rattle.table.specs.Lookup.{itemsOf, wholeOf}
-use Rattle.table.specs.Part.{HeadedAt, WholesAt, HeadedHere, confusedAt, WholeHere, countedAt, headsIn, wholesIn, ItemsFound, WholeFound, HeadedPart, WholesPart}
+use Rattle.table.specs.Part.{HeadedAt, WholesAt, HeadedHere, confusedAt, WholeHere, countedAt, recordsIn, headsIn, wholesIn, ItemsFound, WholeFound, HeadedPart, WholesPart}
 use Rattle.table.proofs.Lookups.{none-some, false-true, onlyIf-some, inFront-some, within-length, behind, within-within, behind-fits}
 use Rattle.table.proofs.Records.{count-fits, within-count, records-start, headed-end, headed-step, wholes-end, wholes-step}
 
@@ -31,7 +31,7 @@ pub record HeadWalk (part : List ℕ) (c at : ℕ) : Type 0 where
   pub same : itemsOf left c ≡ itemsOf (headsIn part) c
 
 pub head-start : (part : List ℕ) (c : ℕ) → isSome (headed (length part) mostItems part) ≡ true → HeadWalk part c 0
-unfolding headsIn
+unfolding recordsIn
 head-start part c h = go (headed (length part) mostItems part) refl h
   where
     go : (o : Option (List Headed)) → headed (length part) mostItems part ≡ o → isSome o ≡ true → HeadWalk part c 0
@@ -84,7 +84,7 @@ pub record WholeWalk (part : List ℕ) (c at : ℕ) : Type 0 where
   pub same : wholeOf left c ≡ wholeOf (wholesIn part) c
 
 pub whole-start : (part : List ℕ) (c : ℕ) → isSome (wholes (length part) part) ≡ true → WholeWalk part c 0
-unfolding wholesIn
+unfolding recordsIn
 whole-start part c h = go (wholes (length part) part) refl h
   where
     go : (o : Option (List Whole)) → wholes (length part) part ≡ o → isSome o ≡ true → WholeWalk part c 0
@@ -256,19 +256,19 @@ module _ (ws : List ℕ) (ix : Sections) (l : Laid ws ix) where
 
   pub mapped-found : (c : ℕ) (r : Items) → ItemsFound ws mostItems (itemsOf (headsIn (within (ix .mapped) ws)) c) r
       → ItemsFound ws mostItems (itemsOf (theTable ws .mapped) c) r
-  unfolding headsIn
+  unfolding recordsIn
   mapped-found c r i = rw (laid-reads ws ix l .mapped) at i
 
   pub decomposition-found : (c : ℕ) (r : Items) → ItemsFound ws mostItems (itemsOf (headsIn (within (ix .decompositions) ws)) c) r
       → ItemsFound ws mostParts (itemsOf (theTable ws .decompositions) c) r
-  unfolding headsIn
+  unfolding recordsIn
   decomposition-found c r i =
       let e = laid-reads ws ix l .decompositions in
       let w = headed-wider _ mostParts mostItems _ _ (omega arith) e in
       items-narrow ws mostItems _ mostParts _ _ c r e (rw w at i)
 
   pub whole-found : (c : ℕ) (r : WholeAt) → WholeFound ws (wholeOf (wholesIn (within (ix .wholes) ws)) c) r → WholeFound ws (wholeOf (theTable ws .wholes) c) r
-  unfolding wholesIn
+  unfolding recordsIn
   whole-found c r i = rw (laid-reads ws ix l .wholes) at i
 
 -- What a caller learns where items, or a whole, are there or not.

@@ -4,3 +4,4 @@ pub mod Lookup
 pub mod Laid
 pub mod Walk
 pub mod Part
+pub mod GroupPart

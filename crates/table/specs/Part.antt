@@ -39,13 +39,16 @@ pub record ClassFound (rs : List ClassRange) (c r : ℕ) : Type 0 where
 abbrev pub countedAt : List ℕ → ℕ → Span
 countedAt ws at = record { from = at + 1; to = at + 1 + getD ws at 0 }
 
--- the records of a part whose items are at most 32 each
-unfoldable pub headsIn : List ℕ → List Headed
-headsIn part = Option·getD (headed (length part) mostItems part) []
+-- the records of a part, as `reader` reads them: headed, sequences, groups or wholes
+unfoldable pub recordsIn : {X : Type 0} → (ℕ → List ℕ → Option (List X)) → List ℕ → List X
+recordsIn reader part = Option·getD (reader (length part) part) []
 
--- the wholes of a part
-unfoldable pub wholesIn : List ℕ → List Whole
-wholesIn part = Option·getD (wholes (length part) part) []
+-- those head, count, items, whose items are at most 32 each, and the wholes
+abbrev pub headsIn : List ℕ → List Headed
+headsIn part = recordsIn (λ steps. headed steps mostItems) part
+
+abbrev pub wholesIn : List ℕ → List Whole
+wholesIn part = recordsIn wholes part
 
 -- at least one item
 abbrev pub Filled : Items → Type 0

@@ -41,3 +41,11 @@ pub enum WholeAt {
     Lists { valid: Span, confused: Span },
     Unconfused,
 }
+
+// The record of a group: its flags, where its pairs stand among the words, and the place behind the record.
+pub struct GroupRecord {
+    pub restricted: bool,
+    pub whitelisted: bool,
+    pub pairs: Span,
+    pub next: usize,
+}

@@ -1,17 +1,32 @@
 // Lookups in a table: first over the words of one section, then over the words of a table and the places of its sections.
+use crate::GroupRecord;
 use crate::Items;
 use crate::Sections;
 use crate::Span;
 use crate::WholeAt;
+use std::num::wrapping_sub_u32;
 ghost use mathlib.Core.Path.{_≡_};
 ghost use Prim.Native.Nat.{_+_, _≤_};
 ghost use lib.ListN.{length, getD};
-ghost use mathlib.Core.Bool.{true};
+ghost use mathlib.Core.Bool.{true, _&&_};
+ghost use lib.Dec.{leb};
 ghost use Rattle.lists.specs.Lists.{mem, isSome};
 ghost use Rattle.table.specs.Layout.{mostItems, mostParts, headed, wholes};
 ghost use Rattle.table.specs.Lookup.{inRanges, itemsOf, wholeOf};
 ghost use Rattle.table.specs.Laid.{Laid, Fits, within, theTable};
+ghost use Rattle.table.specs.GroupPart.{groupAt};
 ghost use Rattle.table.specs.Part.{inPairs, classAmong, ClassFound, countedAt, headsIn, wholesIn, HeadedPart, WholesPart, ItemsFound, WholeFound};
+
+// Whether c lies from first to last. In pairs in random order a processor foretells `last < first`, which holds in no table, and the one test
+// behind it, which seldom passes; `first <= c` by itself would be a guess at every pair.
+pub fn between(c: u32, first: u32, last: u32) -> bool
+    ensures { λ r. ⌜ r ≡ (leb first c && leb c last) ⌝ }
+{
+    if last < first {
+        return false;
+    }
+    wrapping_sub_u32(c, first) <= last - first
+}
 
 // Whether c lies in one of the pairs first, last.
 pub fn in_pairs(part: &[u32], c: u32) -> bool
@@ -19,7 +34,7 @@ pub fn in_pairs(part: &[u32], c: u32) -> bool
 {
     let mut i: usize = 0;
     while 1 < part.len() - i {
-        if part[i] <= c && c <= part[i + 1] {
+        if between(c, part[i], part[i + 1]) {
             return true;
         }
         i += 2;
@@ -33,7 +48,7 @@ pub fn class_in(part: &[u32], c: u32) -> u32
 {
     let mut i: usize = 0;
     while 2 < part.len() - i {
-        if part[i] <= c && c <= part[i + 1] {
+        if between(c, part[i], part[i + 1]) {
             return part[i + 2];
         }
         i += 3;
@@ -95,6 +110,21 @@ pub fn counted(words: &[u32], at: usize) -> Span
     Span {
         from: from,
         to: from + n,
+    }
+}
+
+// The group whose record stands at a place.
+pub fn group_at(part: &[u32], at: usize) -> GroupRecord
+    requires { ⌜ at + 2 + getD (now part) (at + 1) 0 ≤ length (now part) ⌝ }
+    ensures { λ r. ⌜ r ≡ groupAt (now (part .entry)) at ⌝ }
+{
+    let flags = part[at];
+    let pairs = counted(part, at + 1);
+    GroupRecord {
+        restricted: flags % 2 == 1,
+        whitelisted: flags / 2 % 2 == 1,
+        pairs: pairs,
+        next: pairs.to,
     }
 }
 

@@ -6,3 +6,4 @@ pub mod Rounds
 pub mod Pairs
 pub mod Composing
 pub mod Texts
+pub mod Scalars

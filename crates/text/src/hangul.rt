@@ -1,18 +1,8 @@
 // Hangul syllables and jamo, by the Unicode Standard's arithmetic.
+use table::lookup::between;
 ghost use mathlib.Core.Path.{_≡_};
 ghost use mathlib.Core.Bool.{_&&_};
-ghost use lib.Dec.{leb};
 ghost use Rattle.text.specs.Hangul.{isSyllable, isJamo, isLeading, isVowel, isTrailing, isOpenSyllable};
-
-// c lies from first to last.
-fn between(c: u32, first: u32, last: u32) -> bool
-    ensures { λ r. ⌜ r ≡ (leb first c && leb c last) ⌝ }
-{
-    if c < first {
-        return false;
-    }
-    c <= last
-}
 
 pub fn is_syllable(c: u32) -> bool
     ensures { λ r. ⌜ r ≡ isSyllable c ⌝ }

@@ -5,3 +5,4 @@ pub mod decompose;
 pub mod hangul;
 pub mod nfc;
 pub mod order;
+pub mod scalar;

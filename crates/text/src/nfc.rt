@@ -1,33 +1,15 @@
-// Full decomposition and composition of a text.
+// Ordering and composition of a decomposed text.
 use crate::class;
 use crate::compose;
-use crate::decompose;
 use crate::order;
 use table::Sections;
 ghost use mathlib.Core.Path.{_≡_};
 ghost use mathlib.Core.List.{map};
-ghost use Prim.Native.Nat.{_≤_, _+_, _*_, _^_};
 ghost use lib.ListN.{length};
 ghost use Rattle.table.specs.Laid.{Laid, theTable};
-ghost use Rattle.text.specs.Decomposition.{classOf, fourRounds};
+ghost use Rattle.text.specs.Decomposition.{classOf};
 ghost use Rattle.text.specs.Ordering.{order};
-ghost use Rattle.text.specs.Rounds.{Appended};
 ghost use Rattle.text.specs.Work.{ComposedInto};
-
-// Writes the full decomposition of the text s, not yet ordered, at `at`, as far as there is room, and answers the place behind it.
-pub fn append_text(words: &[u32], ix: Sections, out: &mut [u32], at: usize, s: &[u32]) -> usize
-    requires { ⌜ Laid (now words) ix ⌝ }
-    requires { ⌜ at + 256 * length (now s) ≤ 2 ^ 40 ⌝ }
-    ensures { λ r. ⌜ Appended (now (out .entry)) (now (out .exit)) at (fourRounds (theTable (now (words .entry))) (now (s .entry))) r ⌝ }
-{
-    let mut to = at;
-    let mut i = 0;
-    while i < s.len() {
-        to = decompose::append_decomposed(words, ix, out, to, s[i]);
-        i += 1;
-    }
-    to
-}
 
 // Writes the class of each codepoint of the text beside it.
 pub fn put_classes(words: &[u32], ix: Sections, text: &[u32], classes: &mut [u32])

@@ -1,5 +1,4 @@
 pub mod Laws
-pub mod Examples
 pub mod Parsed
 pub mod Rounds
 pub mod Insertion
@@ -7,6 +6,3 @@ pub mod Runs
 pub mod Exchange
 pub mod Composing
 pub mod Syllables
-pub mod Stable
-pub mod PairLaws
-pub mod Recompose

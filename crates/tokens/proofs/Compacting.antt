@@ -11,9 +11,10 @@ use lib.Dec.{eqb}
 use Rattle.table.specs.Table.{Table}
 use Rattle.table.proofs.Lookups.{drop-take}
 use Rattle.tokens.specs.Tokens.{Token, emoji, text, joinedTokens, normal, normalToken}
-use Rattle.tokens.specs.Cells.{mostWorked, markToken, marksOf, decomposed, decomposedToken, Cells}
-use Rattle.tokens.specs.Laying.{runMarks, PutAt}
-use Rattle.tokens.specs.Normal.{composedText, TextKept, EmojiKept, twos, NormalCells}
+use Rattle.limits.specs.Limits.{mostWorked, leastWork}
+use Rattle.tokens.specs.Cells.{markToken, marksOf, decomposed, decomposedToken, Cells}
+use Rattle.tokens.specs.Laying.{runMarks}
+use Rattle.tokens.specs.Normal.{composedText, Kept, TextKept, EmojiKept, twos, NormalCells}
 
 -- a decomposed token in normal form
 abbrev composedToken : Table → Token → Token
@@ -136,11 +137,8 @@ cell-here y n i long h =
     rw (add-one i, ← getD-take n y i 0 h) (drop-cons (take n y) i 0 inside)
 
 -- cells that were not touched
-cells-kept : (y y′ : List ℕ) (r i n : ℕ) → r ≤ i → drop r y′ ≡ drop r y → drop i (take n y′) ≡ drop i (take n y)
-cells-kept y y′ r i n h e =
-    let at : r + (i - r) ≡ i = omega arith in
-    let back : drop i y′ ≡ drop i y = rw (← at, ← drop-drop (i - r) r y′, ← drop-drop (i - r) r y, e) in
-    rw (drop-take i n y′, drop-take i n y, back)
+cells-kept : (y y′ : List ℕ) (i n : ℕ) → drop i y′ ≡ drop i y → drop i (take n y′) ≡ drop i (take n y)
+cells-kept y y′ i n e = rw (drop-take i n y′, drop-take i n y, e)
 
 -- the goal, tokens in normal form, is what stands in the first `at` cells and what becomes of the tokens that are left from i on
 pub record Left (t : Table) (goal : List Token) (w : List ℕ) (n at i : ℕ) : Type 0 where
@@ -173,58 +171,58 @@ compact-start t w n =
           };
     }
 
-module _ (t : Table) (w₀ w : List ℕ) (n at i : ℕ) (big : 2048 ≤ length w₀) (few : n ≤ mostWorked) (p : Compacting t w₀ w n at i) (h : i < n) where
+module _ (t : Table) (w₀ w : List ℕ) (n at i : ℕ) (big : leastWork ≤ length w₀) (few : n ≤ mostWorked) (p : Compacting t w₀ w n at i) (h : i < n) where
   abbrev marks : List ℕ
   marks = drop mostWorked w
 
   word-here : drop i (take n w) ≡ getD w i 0 ∷ drop (i + 1) (take n w)
   word-here = cell-here w n i (omega (arith, p .same)) h
 
-  mark-here : drop i (take n marks) ≡ getD w (1024 + i) 0 ∷ drop (i + 1) (take n marks)
+  mark-here : drop i (take n marks) ≡ getD w (mostWorked + i) 0 ∷ drop (i + 1) (take n marks)
   mark-here =
       let long : n ≤ length marks = simp length-drop (omega (arith, p .same)) in
-      rw (← getD-drop 1024 w i 0) (cell-here marks n i long h)
+      rw (← getD-drop mostWorked w i 0) (cell-here marks n i long h)
 
   -- what is put down leaves the cells from j on alone
-  words-kept : (w′ s ms : List ℕ) (r j : ℕ) → PutAt w w′ at s ms r → r ≤ j → j ≤ n → drop j (take n w′) ≡ drop j (take n w)
-  words-kept w′ s ms r j q hj hn =
-      let a : take n (take mostWorked w′) ≡ take n w′ = take-take n 1024 w′ few in
-      let b : take n (take mostWorked w) ≡ take n w = take-take n 1024 w few in
-      rw (← a, ← b) (cells-kept (take mostWorked w) (take mostWorked w′) r j n hj (q .words-left (omega arith)))
+  words-kept : (w′ s ms : List ℕ) (r j : ℕ) → Kept w w′ j at s ms r → drop j (take n w′) ≡ drop j (take n w)
+  words-kept w′ s ms r j q =
+      let a : take n (take mostWorked w′) ≡ take n w′ = take-take n mostWorked w′ few in
+      let b : take n (take mostWorked w) ≡ take n w = take-take n mostWorked w few in
+      rw (← a, ← b) (cells-kept (take mostWorked w) (take mostWorked w′) j n (q .words-left))
 
-  marks-kept : (w′ s ms : List ℕ) (r j : ℕ) → PutAt w w′ at s ms r → r ≤ j → j ≤ n → drop j (take n (drop mostWorked w′)) ≡ drop j (take n marks)
-  marks-kept w′ s ms r j q hj hn = cells-kept marks (drop mostWorked w′) r j n hj (q .marks-left (omega arith))
+  marks-kept : (w′ s ms : List ℕ) (r j : ℕ) → Kept w w′ j at s ms r → drop j (take n (drop mostWorked w′)) ≡ drop j (take n marks)
+  marks-kept w′ s ms r j q = cells-kept marks (drop mostWorked w′) j n (q .marks-left)
 
   -- a text put behind what is done, before what is left
-  put-words : (w′ s ms : List ℕ) (r : ℕ) → PutAt w w′ at s ms r → r ≤ mostWorked → (goal rest : List ℕ) → goal ≡ take at w ++ (s ++ rest) → goal ≡ take r w′ ++ rest
-  put-words w′ s ms r q hr goal rest e = rw (q .words hr) (e ∙ sym (append-assoc (take at w) s rest))
+  put-words : (w′ s ms : List ℕ) (r j : ℕ) → Kept w w′ j at s ms r → (goal rest : List ℕ) → goal ≡ take at w ++ (s ++ rest)
+      → goal ≡ take r w′ ++ rest
+  put-words w′ s ms r j q goal rest e = rw (q .words) (e ∙ sym (append-assoc (take at w) s rest))
 
-  put-marks : (w′ s ms : List ℕ) (r : ℕ) → PutAt w w′ at s ms r → r ≤ mostWorked → (goal rest : List ℕ) → goal ≡ take at marks ++ (ms ++ rest)
+  put-marks : (w′ s ms : List ℕ) (r j : ℕ) → Kept w w′ j at s ms r → (goal rest : List ℕ) → goal ≡ take at marks ++ (ms ++ rest)
       → goal ≡ take r (drop mostWorked w′) ++ rest
-  put-marks w′ s ms r q hr goal rest e = rw (q .beside hr) (e ∙ sym (append-assoc (take at marks) ms rest))
+  put-marks w′ s ms r j q goal rest e = rw (q .beside) (e ∙ sym (append-assoc (take at marks) ms rest))
 
-  module _ (z : getD w (1024 + i) 0 ≡ 0) (w′ : List ℕ) (r : ℕ) (k : EmojiKept w w′ i at r) where
+  module _ (z : getD w (mostWorked + i) 0 ≡ 0) (w′ : List ℕ) (r : ℕ) (k : EmojiKept w w′ i at r) where
     end-emoji : r ≡ at + 1
     end-emoji = k .put .end
 
     left-emoji : (goal : List Token) → Left t goal w n at i → Left t goal w′ n r (i + 1)
     left-emoji goal l =
         let c : ℕ = getD w i 0 in
-        let f = emoji-first t (l .left) (getD w (1024 + i) 0) (drop (i + 1) (take n marks)) (sym (l .beside) ∙ mark-here) z in
+        let f = emoji-first t (l .left) (getD w (mostWorked + i) 0) (drop (i + 1) (take n marks)) (sym (l .beside) ∙ mark-here) z in
         let both : c ∷ drop (i + 1) (take n w) ≡ f .code ∷ joinedTokens (f .rest) = sym word-here ∙ l .rest ∙ f .words in
-        let beside : getD w (1024 + i) 0 ∷ drop (i + 1) (take n marks) ≡ 0 ∷ marksOf (f .rest) = sym mark-here ∙ l .beside ∙ f .marks in
+        let beside : getD w (mostWorked + i) 0 ∷ drop (i + 1) (take n marks) ≡ 0 ∷ marksOf (f .rest) = sym mark-here ∙ l .beside ∙ f .marks in
         let code : c ≡ f .code = head-eq-of-cons-eq both in
-        let small : r ≤ i + 1 = omega (arith, end-emoji, p .low) in
         let words-then : joinedTokens goal ≡ take at w ++ (c ∷ [] ++ joinedTokens (map (composedToken t) (f .rest))) =
         l .words ∙ ap (λ (x : List ℕ). take at w ++ x) (rw code (f .words-then)) in
         let marks-then : marksOf goal ≡ take at marks ++ (0 ∷ [] ++ marksOf (map (composedToken t) (f .rest))) =
         l .marks ∙ ap (λ (x : List ℕ). take at marks ++ x) (f .marks-then) in
         record {
           left = f .rest;
-          words = put-words w′ (c ∷ []) (0 ∷ []) r (k .put) (omega arith) (joinedTokens goal) _ words-then;
-          marks = put-marks w′ (c ∷ []) (0 ∷ []) r (k .put) (omega arith) (marksOf goal) _ marks-then;
-          rest = words-kept w′ (c ∷ []) (0 ∷ []) r (i + 1) (k .put) small (omega arith) ∙ tail-eq-of-cons-eq both;
-          beside = marks-kept w′ (c ∷ []) (0 ∷ []) r (i + 1) (k .put) small (omega arith) ∙ tail-eq-of-cons-eq beside;
+          words = put-words w′ (c ∷ []) (0 ∷ []) r (i + 1) (k .put) (joinedTokens goal) _ words-then;
+          marks = put-marks w′ (c ∷ []) (0 ∷ []) r (i + 1) (k .put) (marksOf goal) _ marks-then;
+          rest = words-kept w′ (c ∷ []) (0 ∷ []) r (i + 1) (k .put) ∙ tail-eq-of-cons-eq both;
+          beside = marks-kept w′ (c ∷ []) (0 ∷ []) r (i + 1) (k .put) ∙ tail-eq-of-cons-eq beside;
         }
 
     pub compact-emoji : Compacting t w₀ w′ n r (i + 1)
@@ -245,13 +243,13 @@ module _ (t : Table) (w₀ w : List ℕ) (n at i : ℕ) (big : 2048 ≤ length w
     pub end-behind : i < e
     end-behind = omega arith
 
-    module _ (z : getD w (1024 + i) 0 ≡ 0 → ⊥) (w′ : List ℕ) (r : ℕ) (k : TextKept t w w′ i e at r) where
+    module _ (z : getD w (mostWorked + i) 0 ≡ 0 → ⊥) (w′ : List ℕ) (r : ℕ) (k : TextKept t w w′ i e at r) where
       low : r ≤ e
       low = omega (arith, k .few, p .low, end-behind)
 
       left-text : (goal : List Token) → Left t goal w n at i → Left t goal w′ n r e
       left-text goal l =
-          let f = text-first t (l .left) (getD w (1024 + i) 0) (drop (i + 1) (take n marks)) (sym (l .beside) ∙ mark-here) z in
+          let f = text-first t (l .left) (getD w (mostWorked + i) 0) (drop (i + 1) (take n marks)) (sym (l .beside) ∙ mark-here) z in
           let d : List ℕ = f .code ∷ f .later in
           let m : ℕ = length (f .later) in
           let cells : drop i (take n w) ≡ d ++ joinedTokens (f .rest) = l .rest ∙ f .words in
@@ -266,8 +264,8 @@ module _ (t : Table) (w₀ w : List ℕ) (n at i : ℕ) (big : 2048 ≤ length w
           ap (take (suc m)) (drop-take i n w) ∙ take-take (suc m) (n - i) (drop i w) (omega (arith, end-inside)) in
           let part : take (e - i) (drop i w) ≡ d = ap (λ (j : ℕ). take j (drop i w)) wide ∙ sym within ∙ front in
           let s : List ℕ = composedText t d in
-          let put : PutAt w w′ at s (runMarks 1 2 (length s)) r = rw part at (k .put) in
-          let small : r ≤ mostWorked = omega (arith, low, end-inside) in
+          let ks : List ℕ = runMarks 1 2 (length s) in
+          let put : Kept w w′ e at s ks r = rw part at (k .put) in
           let rest : drop e (take n w) ≡ joinedTokens (f .rest) =
           ap (λ (j : ℕ). drop j (take n w)) (sym end) ∙ sym (drop-drop (suc m) i (take n w)) ∙ ap (drop (suc m)) cells ∙ drop-append-seam d (joinedTokens (f .rest)) in
           let ms-length : length ms ≡ suc m = ap suc (length-replicate m 2) in
@@ -276,10 +274,10 @@ module _ (t : Table) (w₀ w : List ℕ) (n at i : ℕ) (big : 2048 ≤ length w
           ∙ ap (λ (j : ℕ). drop j (ms ++ marksOf (f .rest))) (sym ms-length) ∙ drop-append-seam ms (marksOf (f .rest)) in
           record {
             left = f .rest;
-            words = put-words w′ s (runMarks 1 2 (length s)) r put small (joinedTokens goal) _ (l .words ∙ ap (λ (x : List ℕ). take at w ++ x) (f .words-then));
-            marks = put-marks w′ s (runMarks 1 2 (length s)) r put small (marksOf goal) _ (l .marks ∙ ap (λ (x : List ℕ). take at marks ++ x) (f .marks-then));
-            rest = words-kept w′ s (runMarks 1 2 (length s)) r e put low end-inside ∙ rest;
-            beside = marks-kept w′ s (runMarks 1 2 (length s)) r e put low end-inside ∙ behind;
+            words = put-words w′ s ks r e put (joinedTokens goal) _ (l .words ∙ ap (λ (x : List ℕ). take at w ++ x) (f .words-then));
+            marks = put-marks w′ s ks r e put (marksOf goal) _ (l .marks ∙ ap (λ (x : List ℕ). take at marks ++ x) (f .marks-then));
+            rest = words-kept w′ s ks r e put ∙ rest;
+            beside = marks-kept w′ s ks r e put ∙ behind;
           }
 
       pub compact-text : Compacting t w₀ w′ n r e
@@ -291,7 +289,7 @@ module _ (t : Table) (w₀ w : List ℕ) (n at i : ℕ) (big : 2048 ≤ length w
             left = λ ts c. left-text (normal t ts) (p .left ts c);
           }
 
-pub compact-stop : (t : Table) (w₀ w : List ℕ) (n at i : ℕ) → 2048 ≤ length w₀ → n ≤ mostWorked → Compacting t w₀ w n at i → n ≤ i → NormalCells t w₀ w n at
+pub compact-stop : (t : Table) (w₀ w : List ℕ) (n at i : ℕ) → leastWork ≤ length w₀ → n ≤ mostWorked → Compacting t w₀ w n at i → n ≤ i → NormalCells t w₀ w n at
 compact-stop t w₀ w n at i big few p h =
     record { same = p .same; few = omega (arith, p .low, p .inside); cells = λ ts c. done (normal t ts) (p .left ts c) }
   where

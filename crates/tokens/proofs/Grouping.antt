@@ -11,7 +11,8 @@ use Rattle.tokens.specs.declared.cells.Run.{Run}
 use Rattle.tokens.specs.Scan as scan
 use Rattle.tokens.specs.Scan.{Step}
 use Rattle.tokens.specs.Tokens.{Token, emoji, text, isEmoji, before, tokensOf, worked, workedToken, joinedTokens}
-use Rattle.tokens.specs.Cells.{mostWorked, marksOf, decomposed, decomposedToken, Cells}
+use Rattle.limits.specs.Limits.{mostWorked}
+use Rattle.tokens.specs.Cells.{marksOf, decomposed, decomposedToken, Cells}
 use Rattle.tokens.specs.Laying.{runMarks, nextMark, stepText, stepMarks, stepMark, laid, marksFrom, stepEmoji, stepTexts, Laying}
 use Rattle.tokens.proofs.Laying.{four-join, marks-join}
 

@@ -16,7 +16,7 @@ use Rattle.tokens.specs.Emoji.{Found}
 use Rattle.tokens.specs.Scan as scan
 use Rattle.tokens.specs.Scan.{Step}
 use Rattle.tokens.specs.Tokens.{emoji, text, worked}
-use Rattle.tokens.specs.Cells.{mostWorked}
+use Rattle.limits.specs.Limits.{mostWorked}
 use Rattle.tokens.specs.Laying.{runMarks, nextMark, stepText, stepMarks, stepMark, laid, marksFrom, markAfter, stepEmoji, stepTexts, Laying, PutAt}
 
 pub four-join : (t : Table) (a b : List ℕ) → fourRounds t (a ++ b) ≡ fourRounds t a ++ fourRounds t b

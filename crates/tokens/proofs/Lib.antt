@@ -8,4 +8,5 @@ pub mod Stripping
 pub mod Texts
 pub mod Steps
 pub mod Reading
+pub mod Moving
 pub mod Compacting

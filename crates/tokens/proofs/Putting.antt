@@ -7,7 +7,7 @@ use mathlib.Core.Path.{_≡_, refl, sym, _∙_, ap}
 use mathlib.Core.List.{List, [], _∷_, _++_, append-nil, append-assoc}
 use lib.ListN.{length, getD, take, drop, set, replicate, length-set, length-drop}
 use lib.Seq.{take-suc, take-suc-set, take-set-le, take-set-lt, drop-set-lt, drop-set-add, drop-drop, take-all}
-use Rattle.tokens.specs.Cells.{mostWorked}
+use Rattle.limits.specs.Limits.{mostWorked, leastWork}
 use Rattle.tokens.specs.Laying.{runMarks, PutAt}
 
 -- the mark at a place
@@ -55,8 +55,8 @@ module _ (w₀ : List ℕ) (n : ℕ) (s : List ℕ) (first later : ℕ) where
         marks-left = refl;
       }
 
-  pub put-more : (w : List ℕ) (mark i : ℕ) → 2048 ≤ length w₀ → i < length s → Putting w₀ n s first later w mark i
-      → Putting w₀ n s first later (set (set w (n + i) (getD s i 0)) (1024 + (n + i)) mark) later (i + 1)
+  pub put-more : (w : List ℕ) (mark i : ℕ) → leastWork ≤ length w₀ → i < length s → Putting w₀ n s first later w mark i
+      → Putting w₀ n s first later (set (set w (n + i) (getD s i 0)) (mostWorked + (n + i)) mark) later (i + 1)
   put-more w mark i big h p =
       let j : ℕ = n + i in
       let x : ℕ = getD s i 0 in
@@ -65,20 +65,20 @@ module _ (w₀ : List ℕ) (n : ℕ) (s : List ℕ) (first later : ℕ) where
       let high : j < length (drop mostWorked w) = simp length-drop (omega (arith, p .room)) in
       let e : n + (i + 1) ≡ suc j = omega arith in
       let f : i + 1 ≡ suc i = add-one i in
-      let a : take (suc j) (set (set w j x) (1024 + j) mark) ≡ take (suc j) (set w j x) = take-set-le (suc j) (set w j x) (1024 + j) mark (omega arith) in
-      let b : drop mostWorked (set (set w j x) (1024 + j) mark) ≡ set (drop mostWorked w) j mark =
-      drop-set-add 1024 (set w j x) j mark ∙ ap (λ (l : List ℕ). set l j mark) (drop-set-lt 1024 w j x (omega (arith, p .room))) in
-      let words : take (n + (i + 1)) (set (set w j x) (1024 + j) mark) ≡ take n w₀ ++ take (i + 1) s =
+      let a : take (suc j) (set (set w j x) (mostWorked + j) mark) ≡ take (suc j) (set w j x) = take-set-le (suc j) (set w j x) (mostWorked + j) mark (omega arith) in
+      let b : drop mostWorked (set (set w j x) (mostWorked + j) mark) ≡ set (drop mostWorked w) j mark =
+      drop-set-add mostWorked (set w j x) j mark ∙ ap (λ (l : List ℕ). set l j mark) (drop-set-lt mostWorked w j x (omega (arith, p .room))) in
+      let words : take (n + (i + 1)) (set (set w j x) (mostWorked + j) mark) ≡ take n w₀ ++ take (i + 1) s =
       rw (e, f, a, take-suc-set w j x low, p .words, take-suc s i 0 h) (append-assoc (take n w₀) (take i s) (x ∷ [])) in
-      let beside : take (n + (i + 1)) (drop mostWorked (set (set w j x) (1024 + j) mark)) ≡ take n (drop mostWorked w₀) ++ runMarks first later (i + 1) =
+      let beside : take (n + (i + 1)) (drop mostWorked (set (set w j x) (mostWorked + j) mark)) ≡ take n (drop mostWorked w₀) ++ runMarks first later (i + 1) =
       rw (e, f, b, take-suc-set (drop mostWorked w) j mark high, p .beside, marks-snoc first later i, p .next)
       (append-assoc (take n (drop mostWorked w₀)) (runMarks first later i) (markAt first later i ∷ [])) in
-      let below : j < 1024 = omega (arith, p .room) in
-      let c : take mostWorked (set (set w j x) (1024 + j) mark) ≡ set (take mostWorked w) j x =
-      take-set-le 1024 (set w j x) (1024 + j) mark (omega arith) ∙ take-set-lt 1024 w j x below in
-      let words-left : drop (n + (i + 1)) (take mostWorked (set (set w j x) (1024 + j) mark)) ≡ drop (n + (i + 1)) (take mostWorked w₀) =
+      let below : j < mostWorked = omega (arith, p .room) in
+      let c : take mostWorked (set (set w j x) (mostWorked + j) mark) ≡ set (take mostWorked w) j x =
+      take-set-le mostWorked (set w j x) (mostWorked + j) mark (omega arith) ∙ take-set-lt mostWorked w j x below in
+      let words-left : drop (n + (i + 1)) (take mostWorked (set (set w j x) (mostWorked + j) mark)) ≡ drop (n + (i + 1)) (take mostWorked w₀) =
       rw (e, c, drop-set-lt (suc j) (take mostWorked w) j x (omega arith)) (drop-one-more (take mostWorked w) (take mostWorked w₀) j (p .words-left)) in
-      let marks-left : drop (n + (i + 1)) (drop mostWorked (set (set w j x) (1024 + j) mark)) ≡ drop (n + (i + 1)) (drop mostWorked w₀) =
+      let marks-left : drop (n + (i + 1)) (drop mostWorked (set (set w j x) (mostWorked + j) mark)) ≡ drop (n + (i + 1)) (drop mostWorked w₀) =
       rw (e, b, drop-set-lt (suc j) (drop mostWorked w) j mark (omega arith)) (drop-one-more (drop mostWorked w) (drop mostWorked w₀) j (p .marks-left)) in
       record {
         inside = omega arith;
@@ -104,7 +104,7 @@ module _ (w₀ : List ℕ) (n : ℕ) (s : List ℕ) (first later : ℕ) where
         marks-left = λ few. rw (← e) (p .marks-left);
       }
 
-  pub put-none : 1024 < n + length s → PutAt w₀ w₀ n s (runMarks first later (length s)) (n + length s)
+  pub put-none : mostWorked < n + length s → PutAt w₀ w₀ n s (runMarks first later (length s)) (n + length s)
   put-none h =
       record {
         end = refl;

@@ -10,7 +10,6 @@ use lib.ListN.{length, getD, take, drop, length-drop, drop-of-length-le}
 use lib.Seq.{drop-drop, take-all}
 use Rattle.table.specs.declared.Span.{Span}
 use Rattle.table.specs.Table.{Table}
-use Rattle.table.specs.Layout.{mostItems}
 use Rattle.table.specs.Lookup.{inRanges, itemsOf}
 use Rattle.table.specs.Laid.{within}
 use Rattle.tokens.specs.declared.cells.Run.{Run}
@@ -18,6 +17,8 @@ use Rattle.tokens.specs.declared.emoji.Match as match
 use Rattle.tokens.specs.declared.emoji.Match.{Match}
 use Rattle.tokens.specs.declared.single.Single as single
 use Rattle.tokens.specs.declared.single.Single.{Single}
+use Rattle.tokens.specs.declared.scan.Which as which
+use Rattle.tokens.specs.declared.scan.Which.{Which}
 use Rattle.tokens.specs.declared.scan.Stepped as stepped
 use Rattle.tokens.specs.declared.scan.Stepped.{Stepped}
 use Rattle.tokens.specs.declared.scan.Scanned as scanned
@@ -28,7 +29,7 @@ use Rattle.tokens.specs.Match.{SequenceFits, FoundBy}
 use Rattle.tokens.specs.Scan.{Step, emoji, text, ignored, disallowed, width, codepointStep, stepAt, stepsFrom, steps, firstDisallowed}
 use Rattle.tokens.specs.Single.{ItemsThere, SingleFound}
 use Rattle.tokens.specs.Tokens.{tokensOf}
-use Rattle.tokens.specs.Laying.{mostFromOne, Laying, EmojiPut, TextPut, ItemsPut}
+use Rattle.tokens.specs.Laying.{mostStep, Laying, EmojiPut, TextPut, ItemsPut}
 use Rattle.tokens.specs.Scanning.{firstStep, Went, StepPut, Scans}
 use Rattle.tokens.proofs.Laying.{laying-start, laying-empty, laying-ignored}
 use Rattle.tokens.proofs.Grouping.{worked-length, tokens-joined, tokens-emoji, tokens-text, laying-cells}
@@ -43,7 +44,8 @@ one-items ws c s x f i e =
     g .fits
 
 module _ (t : Table) (ws : List ℕ) (c : ℕ) (s : Step) (x : Single) (f : SingleFound ws c s x) (w : List ℕ) (run : Run) where
-  pub one-valid : x ≡ single.the-variants.Valid → (w′ : List ℕ) (r : Run) → TextPut t w w′ c run r → StepPut t s w w′ run (stepped.the-variants.Went 1 r)
+  pub one-valid : x ≡ single.the-variants.Valid → (w′ : List ℕ) (r : Run) → TextPut t w w′ c run r
+      → StepPut t s w w′ run (stepped.the-variants.Went 1 which.the-variants.Codepoint r)
   one-valid e w′ r p =
       let q : text (c ∷ []) ≡ s = rw e at (f .same) in
       record {
@@ -52,21 +54,29 @@ module _ (t : Table) (ws : List ℕ) (c : ℕ) (s : Step) (x : Single) (f : Sing
             record {
               allowed = text-allowed s (c ∷ []) q;
               taken = rw (← q);
+              which = rw (← q);
               few = omega (arith, p .few);
               lays = λ ss l. rw (← q) (p .lays ss [] (laying-empty t ss run w l));
             };
       }
 
   pub one-mapped : (i : Span) → x ≡ single.the-variants.Mapped i → (w′ : List ℕ) (r : Run) → ItemsPut t w w′ (within i ws) run r
-      → StepPut t s w w′ run (stepped.the-variants.Went 1 r)
+      → StepPut t s w w′ run (stepped.the-variants.Went 1 which.the-variants.Codepoint r)
   one-mapped i e w′ r p =
       let q : text (within i ws) ≡ s = rw e at (f .same) in
       record {
         same = p .same;
-        went = record { allowed = text-allowed s (within i ws) q; taken = rw (← q); few = p .few; lays = λ ss l. rw (← q) (p .lays ss l) };
+        went =
+            record {
+              allowed = text-allowed s (within i ws) q;
+              taken = rw (← q);
+              which = rw (← q);
+              few = p .few;
+              lays = λ ss l. rw (← q) (p .lays ss l);
+            };
       }
 
-  pub one-ignored : x ≡ single.the-variants.Ignored → StepPut t s w w run (stepped.the-variants.Went 1 run)
+  pub one-ignored : x ≡ single.the-variants.Ignored → StepPut t s w w run (stepped.the-variants.Went 1 which.the-variants.Codepoint run)
   one-ignored e =
       let q : ignored ≡ s = rw e at (f .same) in
       record {
@@ -75,6 +85,7 @@ module _ (t : Table) (ws : List ℕ) (c : ℕ) (s : Step) (x : Single) (f : Sing
             record {
               allowed = λ d. let z : _≡_ {A = ℕ} 0 1 = cc in omega arith;
               taken = rw (← q);
+              which = rw (← q);
               few = omega arith;
               lays = λ ss l. rw (← q) (laying-ignored t ss run w l);
             };
@@ -103,7 +114,7 @@ module _ (t : Table) (ws : List ℕ) where
 
   pub step-emoji : (rest : List ℕ) (m : Match) → 1 ≤ length rest → FoundBy ws rest (find (t .emoji) rest) m
       → (n : ℕ) (q : Span) (k g : ℕ) → m ≡ match.the-variants.Found n q k g → (w w′ : List ℕ) (run r : Run) → EmojiPut ws w w′ q run r
-      → StepPut t (firstStep t rest) w w′ run (stepped.the-variants.Went k r)
+      → StepPut t (firstStep t rest) w w′ run (stepped.the-variants.Went k (which.the-variants.Emoji n g) r)
   step-emoji rest m h d n q k g e w w′ run r p =
       let f : Found = record { number = n; taken = record { length = k; selectors = g }; stripped = strip (within q ws) } in
       let some-found : some f ≡ find (t .emoji) rest = rw e at (d .same) in
@@ -114,6 +125,7 @@ module _ (t : Table) (ws : List ℕ) where
             record {
               allowed = λ o. let z : _≡_ {A = ℕ} 0 1 = cc in omega arith;
               taken = rw s;
+              which = rw s;
               few = omega (arith, p .few);
               lays = λ ss l. rw s (p .lays t ss f refl l);
             };
@@ -186,7 +198,7 @@ disallowed-next at disallowed ss h = absurd (h refl)
 pub record Scanning (t : Table) (l w₀ w : List ℕ) (run : Run) (at : ℕ) : Type 0 where
   pub done : List Step
   pub inside : at ≤ length l
-  pub few : run .worked ≤ mostFromOne * mostItems * at
+  pub few : run .worked ≤ mostStep * at
   pub same : length w ≡ length w₀
   pub split : steps t l ≡ done ++ stepsFrom t 0 (drop at l)
   pub search : firstDisallowed 0 (steps t l) ≡ firstDisallowed at (stepsFrom t 0 (drop at l))
@@ -214,24 +226,24 @@ module _ (t : Table) (l w₀ : List ℕ) where
     first : stepsFrom t 0 (drop at l) ≡ here ∷ stepsFrom t 0 (drop (at + width here) l)
     first = steps-first t (drop at l) left ∙ rw (drop-drop (width here) at l)
 
-    scan-went : (w′ : List ℕ) (x : Stepped) → StepPut t (firstStep t lent) w w′ run x → (k : ℕ) (r : Run) → x ≡ stepped.the-variants.Went k r
-        → StepPut t here w w′ run (stepped.the-variants.Went k r)
-    scan-went w′ x q k r e = rw (rest-is l at, e) at q
+    scan-went : (w′ : List ℕ) (x : Stepped) → StepPut t (firstStep t lent) w w′ run x → (k : ℕ) (m : Which) (r : Run)
+        → x ≡ stepped.the-variants.Went k m r → StepPut t here w w′ run (stepped.the-variants.Went k m r)
+    scan-went w′ x q k m r e = rw (rest-is l at, e) at q
 
-    pub scan-taken : (w′ : List ℕ) (x : Stepped) → StepPut t (firstStep t lent) w w′ run x → (k : ℕ) (r : Run) → x ≡ stepped.the-variants.Went k r
-        → (1 ≤ k) × (at + k ≤ length l)
-    scan-taken w′ x q k r e =
-        let g : Went t here w w′ run k r = scan-went w′ x q k r e .went in
+    pub scan-taken : (w′ : List ℕ) (x : Stepped) → StepPut t (firstStep t lent) w w′ run x → (k : ℕ) (m : Which) (r : Run)
+        → x ≡ stepped.the-variants.Went k m r → (1 ≤ k) × (at + k ≤ length l)
+    scan-taken w′ x q k m r e =
+        let g : Went t here w w′ run k m r = scan-went w′ x q k m r e .went in
         let wide = step-wide t (drop at l) left in
         let room : length (drop at l) ≡ length l - at = length-drop at l in
         (omega (arith, g .taken, wide .low), omega (arith, g .taken, wide .high))
 
-    pub scan-more : (w′ : List ℕ) (x : Stepped) → StepPut t (firstStep t lent) w w′ run x → (k : ℕ) (r : Run) → x ≡ stepped.the-variants.Went k r
-        → Scanning t l w₀ w′ r (at + k)
-    scan-more w′ x p′ k r e =
-        let q : StepPut t here w w′ run (stepped.the-variants.Went k r) = scan-went w′ x p′ k r e in
-        let taken = scan-taken w′ x p′ k r e in
-        let g : Went t here w w′ run k r = q .went in
+    pub scan-more : (w′ : List ℕ) (x : Stepped) → StepPut t (firstStep t lent) w w′ run x → (k : ℕ) (m : Which) (r : Run)
+        → x ≡ stepped.the-variants.Went k m r → Scanning t l w₀ w′ r (at + k)
+    scan-more w′ x p′ k m r e =
+        let q : StepPut t here w w′ run (stepped.the-variants.Went k m r) = scan-went w′ x p′ k m r e in
+        let taken = scan-taken w′ x p′ k m r e in
+        let g : Went t here w w′ run k m r = q .went in
         let s : List Step = stepsFrom t 0 (drop (at + width here) l) in
         let one : (p .done ++ here ∷ []) ++ s ≡ p .done ++ here ∷ s = append-assoc (p .done) (here ∷ []) s in
         record {

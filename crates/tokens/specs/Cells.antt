@@ -1,17 +1,14 @@
--- How tokens stand in the work area: their codepoints in its first 1,024 words, and beside them, in the next 1,024, a mark for each:
--- 0 for emoji, 1 for the first codepoint of a text token, 2 for a later one. Assumes nothing.
+-- How tokens stand in the work area: their codepoints in its first mostWorked words, and beside them, in the next mostWorked, a mark for
+-- each: 0 for emoji, 1 for the first codepoint of a text token, 2 for a later one. Assumes nothing.
 use Prim.Native.Nat.{ℕ, _≤_}
 use mathlib.Core.Path.{_≡_}
 use mathlib.Core.List.{List, [], _∷_, map}
 use lib.ListN.{length, take, drop, replicate}
 use Rattle.lists.specs.Lists.{joinedMap}
+use Rattle.limits.specs.Limits.{mostWorked}
 use Rattle.table.specs.Table.{Table}
 use Rattle.text.specs.Decomposition.{fourRounds}
 use Rattle.tokens.specs.Tokens.{Token, emoji, text, joinedTokens}
-
--- the most codepoints that the tokens of a label may have, decomposed: "worked length over 1,024"
-abbrev pub mostWorked : ℕ
-mostWorked = 1024
 
 -- the marks of a token
 abbrev pub markToken : Token → List ℕ

@@ -5,6 +5,7 @@ use mathlib.Core.Bool.{Bool, true, false, not}
 use mathlib.Core.List.{List, [], _∷_, _++_}
 use lib.ListN.{length, take, drop, replicate}
 use Rattle.lists.specs.Lists.{any, joinedMap, isEmpty}
+use Rattle.limits.specs.Limits.{mostInput, mostWorked}
 use Rattle.table.specs.Table.{Table}
 use Rattle.table.specs.declared.Span.{Span}
 use Rattle.table.specs.Layout.{mostItems}
@@ -13,11 +14,18 @@ use Rattle.text.specs.Decomposition.{fourRounds}
 use Rattle.tokens.specs.declared.cells.Run.{Run}
 use Rattle.tokens.specs.Emoji.{Found, strip}
 use Rattle.tokens.specs.Scan.{Step, emoji, text, ignored, disallowed}
-use Rattle.tokens.specs.Cells.{mostWorked}
 
 -- the most codepoints that four rounds make of one
 abbrev pub mostFromOne : ℕ
 mostFromOne = 256
+
+-- the most codepoints that one step of a label lays down
+abbrev pub mostStep : ℕ
+mostStep = mostFromOne * mostItems
+
+-- the most that all steps of an input lay down, kept or not: the sums of the scan stay below this and one step more
+abbrev pub mostLaid : ℕ
+mostLaid = mostStep * mostInput
 
 -- n marks: one, and then others
 abbrev pub runMarks : ℕ → ℕ → ℕ → List ℕ
@@ -89,7 +97,8 @@ pub record Laying (t : Table) (ss : List Step) (run : Run) (w : List ℕ) : Type
   pub words : run .worked ≤ mostWorked → take (run .worked) w ≡ laid t ss
   pub marks : run .worked ≤ mostWorked → take (run .worked) (drop mostWorked w) ≡ marksFrom t 1 ss
 
--- s and its marks are put behind the first n codepoints, as long as there is room; r is the place behind them
+-- s and its marks are put behind the first n codepoints, as long as there is room; r is the place behind them. Past the limit the words are
+-- open.
 pub record PutAt (w w′ : List ℕ) (n : ℕ) (s marks : List ℕ) (r : ℕ) : Type 0 where
   pub end : r ≡ n + length s
   pub same : length w′ ≡ length w
@@ -98,13 +107,13 @@ pub record PutAt (w w′ : List ℕ) (n : ℕ) (s marks : List ℕ) (r : ℕ) : 
   pub words-left : r ≤ mostWorked → drop r (take mostWorked w′) ≡ drop r (take mostWorked w)
   pub marks-left : r ≤ mostWorked → drop r (drop mostWorked w′) ≡ drop r (drop mostWorked w)
 
--- the sequence without its FE0F are the first r of `out`
+-- the sequence without its FE0F are the first r of `out`; what is behind them is open
 pub record StrippedInto (seq out out′ : List ℕ) (r : ℕ) : Type 0 where
   pub same : length out′ ≡ length out
   pub few : r ≤ length seq
   pub put : take r out′ ≡ strip seq
 
--- an emoji is laid down
+-- an emoji is laid down; words beyond the cells are open here and below
 pub record EmojiPut (ws w w′ : List ℕ) (s : Span) (run r : Run) : Type 0 where
   pub same : length w′ ≡ length w
   pub few : r .worked ≤ run .worked + mostItems
@@ -119,5 +128,5 @@ pub record TextPut (t : Table) (w w′ : List ℕ) (c : ℕ) (run r : Run) : Typ
 -- a text is laid down, decomposed
 pub record ItemsPut (t : Table) (w w′ : List ℕ) (s : List ℕ) (run r : Run) : Type 0 where
   pub same : length w′ ≡ length w
-  pub few : r .worked ≤ run .worked + mostFromOne * mostItems
+  pub few : r .worked ≤ run .worked + mostStep
   pub lays : (ss : List Step) → Laying t ss run w → Laying t (ss ++ text s ∷ []) r w′

@@ -3,21 +3,23 @@ use Prim.Native.Nat.{ℕ, _+_, _*_, _≤_}
 use mathlib.Core.Path.{_≡_}
 use mathlib.Core.Bool.{not}
 use mathlib.Core.List.{List, [], _∷_, _++_}
-use mathlib.Core.Option.{none, some}
+use mathlib.Core.Option.{Option, none, some}
 use lib.ListN.{length}
 use Rattle.lists.specs.Lists.{any}
 use Rattle.table.specs.Table.{Table}
-use Rattle.table.specs.Layout.{mostItems}
 use Rattle.tokens.specs.declared.cells.Run.{Run}
 use Rattle.tokens.specs.declared.scan.Tally.{Tally}
+use Rattle.tokens.specs.declared.scan.Which as which
+use Rattle.tokens.specs.declared.scan.Which.{Which}
 use Rattle.tokens.specs.declared.scan.Stepped as stepped
 use Rattle.tokens.specs.declared.scan.Stepped.{Stepped}
 use Rattle.tokens.specs.declared.scan.Scanned as scanned
 use Rattle.tokens.specs.declared.scan.Scanned.{Scanned}
-use Rattle.tokens.specs.Scan.{Step, disallowed, width, stepAt, steps, firstDisallowed}
+use Rattle.tokens.specs.Scan.{Step, emoji, text, ignored, disallowed, width, stepAt, steps, firstDisallowed}
 use Rattle.tokens.specs.Tokens.{Token, isEmoji, tokensOf, worked}
-use Rattle.tokens.specs.Cells.{mostWorked, decomposed, Cells}
-use Rattle.tokens.specs.Laying.{mostFromOne, Laying}
+use Rattle.limits.specs.Limits.{mostWorked}
+use Rattle.tokens.specs.Cells.{decomposed, Cells}
+use Rattle.tokens.specs.Laying.{mostStep, Laying}
 
 -- the step at the start of what is left of a label
 unfoldable pub firstStep : Table → List ℕ → Step
@@ -25,18 +27,36 @@ unfolding stepAt
 firstStep t [] = disallowed
 firstStep t (c ∷ rest) = stepAt t c rest
 
+-- which emoji it was: "the number of the matching record (from 0) and how many FE0F it took from the input"
+pub record Chosen : Type 0 where
+  pub number : ℕ
+  pub selectors : ℕ
+
+-- that of a step, where it is an emoji
+abbrev pub chosen : Step → Option Chosen
+chosen (emoji f) = some (record { number = f .number; selectors = f .taken .selectors })
+chosen (text s) = none
+chosen ignored = none
+chosen disallowed = none
+
+-- that of an answer
+abbrev pub chosenBy : Which → Option Chosen
+chosenBy (which.the-variants.Emoji n s) = some (record { number = n; selectors = s })
+chosenBy which.the-variants.Codepoint = none
+
 -- a step that is not disallowed is laid down
-pub record Went (t : Table) (s : Step) (w w′ : List ℕ) (run : Run) (k : ℕ) (r : Run) : Type 0 where
+pub record Went (t : Table) (s : Step) (w w′ : List ℕ) (run : Run) (k : ℕ) (m : Which) (r : Run) : Type 0 where
   pub allowed : s ≡ disallowed → ⊥
   pub taken : k ≡ width s
-  pub few : r .worked ≤ run .worked + mostFromOne * mostItems
+  pub which : chosenBy m ≡ chosen s
+  pub few : r .worked ≤ run .worked + mostStep
   pub lays : (ss : List Step) → Laying t ss run w → Laying t (ss ++ s ∷ []) r w′
 
 abbrev pub StepWent : Table → Step → List ℕ → List ℕ → Run → Stepped → Type 0
 StepWent t s w w′ run stepped.the-variants.Disallowed = s ≡ disallowed
-StepWent t s w w′ run (stepped.the-variants.Went k r) = Went t s w w′ run k r
+StepWent t s w w′ run (stepped.the-variants.Went k m r) = Went t s w w′ run k m r
 
--- what a step answers
+-- what a step answers; words of the work area beyond the cells are open
 pub record StepPut (t : Table) (s : Step) (w w′ : List ℕ) (run : Run) (r : Stepped) : Type 0 where
   pub same : length w′ ≡ length w
   pub went : StepWent t s w w′ run r
@@ -53,7 +73,7 @@ abbrev pub ScanIs : Table → List ℕ → List ℕ → Scanned → Type 0
 ScanIs t l w (scanned.the-variants.Disallowed i) = firstDisallowed 0 (steps t l) ≡ some i
 ScanIs t l w (scanned.the-variants.Tokens k) = (firstDisallowed 0 (steps t l) ≡ none) × Tallied t (tokensOf (steps t l)) w k
 
--- what the scan of the label l answers
+-- what the scan of the label l answers; words of the work area beyond the cells are open, and all of them after 5 or past the limit
 pub record Scans (t : Table) (l w w′ : List ℕ) (r : Scanned) : Type 0 where
   pub same : length w′ ≡ length w
   pub is : ScanIs t l w′ r

@@ -1,17 +1,16 @@
-// Laying tokens down in the work area: codepoints in its first 1,024 words, marks beside them in the next 1,024.
+// Laying tokens down in the work area: codepoints in its first MOST_WORKED words, marks beside them in the next MOST_WORKED.
+use limits::MOST_WORKED;
 use table::Sections;
 use table::Span;
 use text::decompose::append_decomposed;
-ghost use Prim.Native.Nat.{_≤_, _^_};
+ghost use Prim.Native.Nat.{_≤_, _+_};
 ghost use mathlib.Core.Path.{_≡_};
 ghost use lib.ListN.{length};
+ghost use Rattle.limits.specs.Limits.{leastWork};
 ghost use Rattle.table.specs.Laid.{Laid, theTable, within};
 ghost use Rattle.tokens.specs.Match.{SequenceFits};
 ghost use Rattle.tokens.specs.Single.{ItemsThere};
-ghost use Rattle.tokens.specs.Laying.{PutAt, runMarks, nextMark, StrippedInto, EmojiPut, TextPut, ItemsPut};
-
-// The most codepoints that the tokens of a label may have, decomposed; the marks stand so many words behind them.
-pub const MOST_WORKED: usize = 1024;
+ghost use Rattle.tokens.specs.Laying.{mostStep, mostLaid, PutAt, runMarks, nextMark, StrippedInto, EmojiPut, TextPut, ItemsPut};
 
 // What is laid down so far: the number of codepoints, whether there are emoji and text, and the mark of the next codepoint of text.
 pub struct Run {
@@ -24,7 +23,7 @@ pub struct Run {
 // Puts s behind the first n codepoints, with a mark for its first codepoint and one for each later one, if there is room. The bound on n
 // only keeps the sum within a machine word.
 pub fn put(w: &mut [u32], n: usize, s: &[u32], first: u32, later: u32) -> usize
-    requires { ⌜ (2048 ≤ length (now w)) × (n ≤ 2 ^ 26) ⌝ }
+    requires { ⌜ (leastWork ≤ length (now w)) × (n ≤ mostLaid + mostStep) ⌝ }
     ensures { λ r. ⌜ PutAt (now (w .entry)) (now (w .exit)) n (now (s .entry)) (runMarks first later (length (now (s .entry)))) r ⌝ }
 {
     let end = n + s.len();
@@ -64,7 +63,7 @@ fn strip_into(seq: &[u32], out: &mut [u32]) -> usize
 
 // Lays an emoji down, "stripped of FE0F".
 pub fn put_emoji(words: &[u32], w: &mut [u32], run: Run, sequence: Span) -> Run
-    requires { ⌜ (2048 ≤ length (now w)) × (run .worked ≤ 2 ^ 26) × SequenceFits (now words) sequence ⌝ }
+    requires { ⌜ (leastWork ≤ length (now w)) × (run .worked ≤ mostLaid + mostStep) × SequenceFits (now words) sequence ⌝ }
     ensures { λ r. ⌜ EmojiPut (now (words .entry)) (now (w .entry)) (now (w .exit)) sequence run r ⌝ }
 {
     let from = sequence.from;
@@ -93,7 +92,7 @@ fn next_mark(mark: u32, n: usize) -> u32
 // Lays one codepoint of text down, decomposed.
 pub fn put_text(words: &[u32], ix: Sections, w: &mut [u32], run: Run, c: u32) -> Run
     requires { ⌜ Laid (now words) ix ⌝ }
-    requires { ⌜ (2048 ≤ length (now w)) × (run .worked ≤ 2 ^ 26) ⌝ }
+    requires { ⌜ (leastWork ≤ length (now w)) × (run .worked ≤ mostLaid + mostStep) ⌝ }
     ensures { λ r. ⌜ TextPut (theTable (now (words .entry))) (now (w .entry)) (now (w .exit)) c run r ⌝ }
 {
     let mut parts = [0u32; 256];
@@ -111,7 +110,7 @@ pub fn put_text(words: &[u32], ix: Sections, w: &mut [u32], run: Run, c: u32) ->
 // Lays the items of a mapping down, decomposed.
 pub fn put_items(words: &[u32], ix: Sections, w: &mut [u32], run: Run, items: Span) -> Run
     requires { ⌜ Laid (now words) ix ⌝ }
-    requires { ⌜ (2048 ≤ length (now w)) × (run .worked ≤ 2 ^ 25) × ItemsThere (now words) items ⌝ }
+    requires { ⌜ (leastWork ≤ length (now w)) × (run .worked ≤ mostLaid) × ItemsThere (now words) items ⌝ }
     ensures { λ r. ⌜ ItemsPut (theTable (now (words .entry))) (now (w .entry)) (now (w .exit)) (within items (now (words .entry))) run r ⌝ }
 {
     let from = items.from;

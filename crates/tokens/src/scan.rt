@@ -8,16 +8,28 @@ use crate::emoji::find;
 use crate::single::Single;
 use crate::single::alone;
 use table::Sections;
-ghost use Prim.Native.Nat.{_≤_, _^_};
+ghost use Prim.Native.Nat.{_≤_};
 ghost use lib.ListN.{length};
+ghost use Rattle.limits.specs.Limits.{mostInput, leastWork};
 ghost use Rattle.table.specs.Laid.{Laid, theTable};
 ghost use Rattle.tokens.specs.Scan.{codepointStep};
+ghost use Rattle.tokens.specs.Laying.{mostLaid};
 ghost use Rattle.tokens.specs.Scanning.{StepPut, firstStep, Scans};
 
-// What one step gave: a disallowed codepoint, or the run behind it and how much of the label it took.
+// What a step took: the emoji of the record with this number, with so many FE0F of the input, or one codepoint.
+pub enum Which {
+    Emoji { number: usize, selectors: usize },
+    Codepoint,
+}
+
+// What one step gave: a disallowed codepoint, or the run behind it, how much of the label it took, and what that was.
 pub enum Stepped {
     Disallowed,
-    Went { taken: usize, run: Run },
+    Went {
+        taken: usize,
+        which: Which,
+        run: Run,
+    },
 }
 
 // The tokens of a label: their worked length, and whether there are emoji and text.
@@ -36,20 +48,26 @@ pub enum Scanned {
 // Takes one codepoint that no emoji sequence takes.
 fn take_one(words: &[u32], ix: Sections, w: &mut [u32], run: Run, c: u32) -> Stepped
     requires { ⌜ Laid (now words) ix ⌝ }
-    requires { ⌜ (2048 ≤ length (now w)) × (run .worked ≤ 2 ^ 25) ⌝ }
+    requires { ⌜ (leastWork ≤ length (now w)) × (run .worked ≤ mostLaid) ⌝ }
     ensures { λ r. ⌜ StepPut (theTable (now (words .entry))) (codepointStep (theTable (now (words .entry))) c) (now (w .entry)) (now (w .exit)) run r ⌝ }
 {
     let found = alone(words, ix, c);
     match found {
         Single::Valid => Stepped::Went {
             taken: 1,
+            which: Which::Codepoint,
             run: put_text(words, ix, w, run, c),
         },
         Single::Mapped(s) => Stepped::Went {
             taken: 1,
+            which: Which::Codepoint,
             run: put_items(words, ix, w, run, s),
         },
-        Single::Ignored => Stepped::Went { taken: 1, run },
+        Single::Ignored => Stepped::Went {
+            taken: 1,
+            which: Which::Codepoint,
+            run,
+        },
         Single::Disallowed => Stepped::Disallowed,
     }
 }
@@ -57,29 +75,30 @@ fn take_one(words: &[u32], ix: Sections, w: &mut [u32], run: Run, c: u32) -> Ste
 // Takes one step at the start of the rest of a label: an emoji sequence, or else one codepoint.
 fn step(words: &[u32], ix: Sections, rest: &[u32], w: &mut [u32], run: Run) -> Stepped
     requires { ⌜ Laid (now words) ix ⌝ }
-    requires { ⌜ (2048 ≤ length (now w)) × (run .worked ≤ 2 ^ 25) × (1 ≤ length (now rest)) ⌝ }
+    requires { ⌜ (leastWork ≤ length (now w)) × (run .worked ≤ mostLaid) × (1 ≤ length (now rest)) ⌝ }
     ensures { λ r. ⌜ StepPut (theTable (now (words .entry))) (firstStep (theTable (now (words .entry))) (now (rest .entry))) (now (w .entry)) (now (w .exit)) run r ⌝ }
 {
     let found = find(words, ix, rest);
     match found {
         Match::Found {
-            number: _,
+            number,
             sequence,
             taken,
-            selectors: _,
+            selectors,
         } => Stepped::Went {
             taken,
+            which: Which::Emoji { number, selectors },
             run: put_emoji(words, w, run, sequence),
         },
         Match::Nothing => take_one(words, ix, w, run, rest[0]),
     }
 }
 
-// Scans a label. As long as the worked length is at most 1,024 the tokens, their text decomposed, stand in the work area; past that only
+// Scans a label. As long as the worked length is at most MOST_WORKED the tokens, their text decomposed, stand in the work area; past that only
 // the length goes on.
 pub fn scan(words: &[u32], ix: Sections, label: &[u32], w: &mut [u32]) -> Scanned
     requires { ⌜ Laid (now words) ix ⌝ }
-    requires { ⌜ (2048 ≤ length (now w)) × (length (now label) ≤ 4096) ⌝ }
+    requires { ⌜ (leastWork ≤ length (now w)) × (length (now label) ≤ mostInput) ⌝ }
     ensures { λ r. ⌜ Scans (theTable (now (words .entry))) (now (label .entry)) (now (w .entry)) (now (w .exit)) r ⌝ }
 {
     let mut run = Run {
@@ -92,7 +111,11 @@ pub fn scan(words: &[u32], ix: Sections, label: &[u32], w: &mut [u32]) -> Scanne
     while at < label.len() {
         let went = step(words, ix, &label[at..], w, run);
         match went {
-            Stepped::Went { taken, run: next } => {
+            Stepped::Went {
+                taken,
+                which: _,
+                run: next,
+            } => {
                 run = next;
                 at += taken;
             }

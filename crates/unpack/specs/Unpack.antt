@@ -1,9 +1,10 @@
 -- Unpacking a table file. 01, "The table", first paragraph. Assumes nothing.
-use Prim.Native.Nat.{ℕ, _+_, _-_, _*_}
+use Prim.Native.Nat.{ℕ, _+_, _*_}
 use mathlib.Core.Bool.{cond}
-use mathlib.Core.List.{List, [], _∷_, _++_}
+use mathlib.Core.List.{List, [], _∷_}
 use lib.ListN.{length, replicate}
 use lib.Dec.{leb, eqb}
+use Rattle.lists.specs.Filled.{filled}
 use Rattle.answers.specs.Verdict.{Verdict, accepted, refused}
 use Rattle.answers.specs.Values.{UnpackValues}
 
@@ -46,7 +47,7 @@ pub record Unpacking : Type 0 where
 
 -- "On success it answers the count, and words past the table are zero"; "refuses (answer buffer zeroed)"
 abbrev pub unpacking : ℕ → Verdict (List ℕ) → Unpacking
-unpacking room (accepted ws) = record { values = record { number = 0; count = length ws }; answer = ws ++ replicate (room - length ws) 0 }
+unpacking room (accepted ws) = record { values = record { number = 0; count = length ws }; answer = filled room ws }
 unpacking room (refused n p) = record { values = record { number = n; count = 0 }; answer = replicate room 0 }
 
 -- the unpack call on a file's bytes, with an answer buffer of `room` words

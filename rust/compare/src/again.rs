@@ -1,9 +1,11 @@
 //! Demand 3 on any engine: doing it again changes nothing, and joining.
 
-use crate::engine::*;
+use crate::engine::Engine;
 use crate::harness::{hex, say};
+use crate::tally::Tally;
 use gen::{Rng, Vocabulary};
-use plain::{judge_name, limits, parse, Index, Table, STOP};
+use plain::label::Finished;
+use plain::{judge_name, limits, parse, Index, Kind, LabelForm, Name, Refusal, Soundness, Table, STOP};
 use std::fmt;
 
 #[derive(Clone, Debug, Default)]
@@ -30,31 +32,45 @@ impl fmt::Display for AgainCounts {
     }
 }
 
-/// A call with marks in both buffers; checks what must lie in them after it.
-fn name_call(engine: &dyn Engine, table: &[u32], name: &[u32], room: usize, work: usize) -> (NameFlat, Vec<u32>) {
+/// A call with marks in both buffers, its answer with the words of the normal
+/// form; checks what must lie in the buffers after it.
+fn name_call(
+    engine: &dyn Engine,
+    table: &[u32],
+    name: &[u32],
+    room: usize,
+    work: usize,
+) -> Result<(Name, Vec<u32>), Refusal> {
     let mut answer = vec![0xABCD_EF01; room];
     let mut area = vec![0x1234_5678; work];
-    let flat = engine.name(name, table, &mut answer, &mut area);
-    let due = if flat.refusal == 0 { flat.length as usize } else { 0 };
+    let given = engine.name(name, table, &mut answer, &mut area);
+    let due = given.map_or(0, |n| n.length);
     assert!(area.iter().all(|&w| w == 0), "work area not zero");
     assert!(answer[due..].iter().all(|&w| w == 0), "words past the answer not zero");
     answer.truncate(due);
-    (flat, answer)
+    given.map(|n| (n, answer))
 }
 
 /// Every label's kind, by the label call on that label alone.
-fn kinds(engine: &dyn Engine, table: &[u32], name: &[u32]) -> Vec<(u32, u32, u32)> {
+fn kinds(engine: &dyn Engine, table: &[u32], name: &[u32]) -> Vec<Kind> {
     if name.is_empty() {
         return Vec::new();
     }
     let kind = |label: &[u32]| {
         let mut answer = vec![7; limits::WORKED];
         let mut area = vec![7; limits::WORK_WORDS];
-        let flat = engine.label(label, table, &mut answer, &mut area);
-        assert_eq!(flat.refusal, 0, "a label of an accepted name is refused alone");
-        (flat.kind, flat.group, flat.restricted)
+        let given = engine.label(label, table, &mut answer, &mut area);
+        given.expect("a label of an accepted name is accepted alone").kind
     };
     name.split(|&c| c == STOP).map(kind).collect()
+}
+
+/// Sound table number `seed`, and where its names come from.
+fn sound(engine: &dyn Engine, rng: &mut Rng, seed: u64) -> (Vec<u32>, Vocabulary) {
+    let builder = gen::sound_table(rng);
+    let words = builder.to_words();
+    assert_eq!(engine.soundness(&words), Soundness::Sound, "seed {seed}");
+    (words, Vocabulary::new(rng, &builder))
 }
 
 /// Normalises accepted names again until `due` names were accepted; panics
@@ -64,43 +80,54 @@ pub fn again(engine: &dyn Engine, first_seed: u64, due: u64, names_per_table: us
     let mut seed = first_seed;
     while counts.accepted < due {
         let mut rng = Rng::new(seed);
-        let builder = gen::sound_table(&mut rng);
-        let words = builder.to_words();
-        assert_eq!(engine.soundness(&words), SOUND, "seed {seed}");
+        let (words, vocabulary) = sound(engine, &mut rng, seed);
         let table = parse(&words).unwrap();
         let index = Index::new(&table);
-        let vocabulary = Vocabulary::new(&mut rng, &builder);
         counts.tables += 1;
         for _ in 0..names_per_table {
             let name = vocabulary.name(&mut rng);
             let room = limits::WORKED + rng.below(3);
-            let (flat, answer) = name_call(engine, &words, &name, room, limits::WORK_WORDS);
-            if flat.refusal != 0 {
-                continue;
-            }
-            let at = || format!("seed {seed}, name {}, answer {}", hex(&name), hex(&answer));
-            let before = kinds(engine, &words, &name);
-            assert_eq!(before.len(), flat.labels as usize, "{}", at());
-            // Enough room is any room from the answer's length on.
-            let room = answer.len() + if rng.percent(50) { 0 } else { rng.below(9) };
-            let work = limits::WORK_WORDS + if rng.percent(80) { 0 } else { rng.below(9) };
-            let (flat_again, answer_again) = name_call(engine, &words, &answer, room, work);
-            assert_eq!(flat_again, flat, "{}", at());
-            assert_eq!(answer_again, answer, "{}", at());
-            assert_eq!(kinds(engine, &words, &answer), before, "{}", at());
-
-            let forms = judge_name(&index, &name).unwrap();
-            let has_emoji = |f: &plain::LabelForm| f.tokens.iter().any(|t| matches!(t, plain::label::Finished::Emoji(_)));
-            counts.accepted += 1;
-            counts.changed += u64::from(answer != name);
-            counts.emoji += u64::from(forms.iter().any(has_emoji));
-            counts.composed += u64::from(forms.iter().any(|f| f.composed));
-            counts.labels += u64::from(flat.labels);
-            counts.group_labels += before.iter().filter(|k| k.0 == GROUP).count() as u64;
+            let Ok(first) = name_call(engine, &words, &name, room, limits::WORK_WORDS) else { continue };
+            let at = || format!("seed {seed}, name {}, answer {}", hex(&name), hex(&first.1));
+            let kinds = once_more(engine, &words, &mut rng, &name, &first, at);
+            counts.add(&name, &first, &kinds, &judge_name(&index, &name).unwrap());
         }
         seed += 1;
     }
     counts
+}
+
+/// The answer of this accepted name handed in again: the kinds of the labels,
+/// which were the same.
+fn once_more(
+    engine: &dyn Engine,
+    words: &[u32],
+    rng: &mut Rng,
+    name: &[u32],
+    first: &(Name, Vec<u32>),
+    at: impl Fn() -> String,
+) -> Vec<Kind> {
+    let (given, answer) = first;
+    let before = kinds(engine, words, name);
+    assert_eq!(before.len(), given.labels, "{}", at());
+    // Enough room is any room from the answer's length on.
+    let room = answer.len() + if rng.percent(50) { 0 } else { rng.below(9) };
+    let work = limits::WORK_WORDS + if rng.percent(80) { 0 } else { rng.below(9) };
+    assert_eq!(name_call(engine, words, answer, room, work).as_ref(), Ok(first), "{}", at());
+    assert_eq!(kinds(engine, words, answer), before, "{}", at());
+    before
+}
+
+impl AgainCounts {
+    fn add(&mut self, name: &[u32], (given, answer): &(Name, Vec<u32>), kinds: &[Kind], forms: &[LabelForm]) {
+        let has_emoji = |f: &LabelForm| f.tokens.iter().any(|t| matches!(t, Finished::Emoji(_)));
+        self.accepted += 1;
+        self.changed += u64::from(answer != name);
+        self.emoji += u64::from(forms.iter().any(has_emoji));
+        self.composed += u64::from(forms.iter().any(|f| f.composed));
+        self.labels += given.labels as u64;
+        self.group_labels += kinds.iter().filter(|k| matches!(k, Kind::Group { .. })).count() as u64;
+    }
 }
 
 /// Demand 3, first half, on 100,000 accepted names, of which many change, hold
@@ -118,20 +145,15 @@ pub fn check_again(engine: &dyn Engine, first_seed: u64) {
 pub struct JoinCounts {
     pub tables: u64,
     pub sound_tables: u64,
-    pub pairs: u64,
     pub accepted: u64,
-    /// Refused as 2, 3, 7, 15.
-    pub refused: [u64; 4],
+    /// As 2, 3, 7 or 15.
+    pub refused: Tally,
 }
 
 impl fmt::Display for JoinCounts {
     fn fmt(&self, f: &mut fmt::Formatter) -> fmt::Result {
-        let [two, three, seven, fifteen] = self.refused;
-        write!(
-            f,
-            "tables {}, sound {}; pairs {}: joined accepted {}, refused 2:{two} 3:{three} 7:{seven} 15:{fifteen}",
-            self.tables, self.sound_tables, self.pairs, self.accepted
-        )
+        let JoinCounts { tables, sound_tables, accepted, refused } = self;
+        write!(f, "tables {tables}, sound {sound_tables}; joined names: accepted {accepted}, refused{refused}")
     }
 }
 
@@ -146,8 +168,79 @@ fn worked_lengths(table: &Table, name: &[u32]) -> Vec<usize> {
     reached
 }
 
-/// Joins accepted names, neither empty, over any tables; panics where the
-/// joined name is not what demand 3 says.
+/// An accepted name, not empty.
+struct Accepted {
+    name: Vec<u32>,
+    labels: usize,
+    answer: Vec<u32>,
+}
+
+/// Accepted names, some of them long.
+fn accepted_names(
+    engine: &dyn Engine,
+    words: &[u32],
+    rng: &mut Rng,
+    vocabulary: &Vocabulary,
+    tried: usize,
+) -> Vec<Accepted> {
+    let mut accepted = Vec::new();
+    for i in 0..tried {
+        let name = if i % 5 == 0 { vocabulary.long_name(rng) } else { vocabulary.name(rng) };
+        if let Ok((given, answer)) = name_call(engine, words, &name, limits::WORKED, limits::WORK_WORDS) {
+            if !name.is_empty() {
+                accepted.push(Accepted { name, labels: given.labels, answer });
+            }
+        }
+    }
+    accepted
+}
+
+/// What 01 says of two accepted names joined: refused by a limit, or their
+/// answers joined.
+fn due(table: &Table, a: &Accepted, b: &Accepted, room: usize, work: usize) -> Result<(Name, Vec<u32>), Refusal> {
+    let answer = [&a.answer[..], &[STOP], &b.answer[..]].concat();
+    // 7 is named at the first label of the second name that passes it.
+    let before = worked_lengths(table, &a.name).last().unwrap() + 1;
+    let over = worked_lengths(table, &b.name).iter().position(|w| before + w > limits::WORKED);
+    if work < limits::WORK_WORDS {
+        Err(Refusal::new(2, 0))
+    } else if a.name.len() + 1 + b.name.len() > limits::INPUT {
+        Err(Refusal::new(3, 0))
+    } else if let Some(label) = over {
+        Err(Refusal::new(7, a.labels + label))
+    } else if answer.len() > room {
+        Err(Refusal::new(15, 0))
+    } else {
+        Ok((Name { length: answer.len(), labels: a.labels + b.labels }, answer))
+    }
+}
+
+/// Joins two accepted names, in buffers that may be too small; panics where
+/// the joined name is not what demand 3 says.
+fn join(engine: &dyn Engine, words: &[u32], table: &Table, rng: &mut Rng, of: &[Accepted], counts: &mut JoinCounts) {
+    let (a, b) = (rng.pick(of), rng.pick(of));
+    let joined = [&a.name[..], &[STOP], &b.name[..]].concat();
+    let length = a.answer.len() + 1 + b.answer.len();
+    let room = match rng.below(8) {
+        0 => length - 1,
+        1 => rng.below(length + 1),
+        _ => length + rng.below(20),
+    };
+    let work = if rng.percent(4) { rng.below(limits::WORK_WORDS) } else { limits::WORK_WORDS };
+    let given = name_call(engine, words, &joined, room, work);
+    let at = || format!("joined {}, room {room}, work area {work}", hex(&joined));
+    assert_eq!(given, due(table, a, b, room, work), "{}", at());
+    match given {
+        Ok(_) => {
+            let both = [kinds(engine, words, &a.name), kinds(engine, words, &b.name)].concat();
+            assert_eq!(kinds(engine, words, &joined), both, "{}", at());
+            counts.accepted += 1;
+        }
+        Err(refusal) => counts.refused.add(refusal.number),
+    }
+}
+
+/// Joins accepted names, neither empty, over any tables.
 pub fn joining(engine: &dyn Engine, first_seed: u64, tables: u64, pairs_per_table: usize) -> JoinCounts {
     let mut counts = JoinCounts::default();
     for seed in first_seed..first_seed + tables {
@@ -156,62 +249,12 @@ pub fn joining(engine: &dyn Engine, first_seed: u64, tables: u64, pairs_per_tabl
         let words = made.words;
         let Some(table) = parse(&words) else { continue };
         counts.tables += 1;
-        counts.sound_tables += u64::from(engine.soundness(&words) == SOUND);
+        counts.sound_tables += u64::from(engine.soundness(&words) == Soundness::Sound);
         let vocabulary = Vocabulary::new(&mut rng, &made.builder);
-        // Accepted names, some of them long.
-        let mut accepted = Vec::new();
-        for i in 0..2 * pairs_per_table {
-            let name = if i % 5 == 0 { vocabulary.long_name(&mut rng) } else { vocabulary.name(&mut rng) };
-            let (flat, answer) = name_call(engine, &words, &name, limits::WORKED, limits::WORK_WORDS);
-            if flat.refusal == 0 && !name.is_empty() {
-                accepted.push((name, flat, answer));
-            }
-        }
-        if accepted.is_empty() {
-            continue;
-        }
-        for _ in 0..pairs_per_table {
-            let (name_a, flat_a, answer_a) = rng.pick(&accepted);
-            let (name_b, flat_b, answer_b) = rng.pick(&accepted);
-            let joined = [&name_a[..], &[STOP], &name_b[..]].concat();
-            let due = [&answer_a[..], &[STOP], &answer_b[..]].concat();
-            let room = match rng.below(8) {
-                0 => due.len() - 1,
-                1 => rng.below(due.len() + 1),
-                _ => due.len() + rng.below(20),
-            };
-            let work = if rng.percent(4) { rng.below(limits::WORK_WORDS) } else { limits::WORK_WORDS };
-            let (flat, answer) = name_call(engine, &words, &joined, room, work);
-            let at = || format!("seed {seed}, joined {}, room {room}, work area {work}", hex(&joined));
-
-            // 7 is named at the first label of the second name that passes it.
-            let before = worked_lengths(&table, name_a).last().unwrap() + 1;
-            let over = worked_lengths(&table, name_b).iter().position(|w| before + w > limits::WORKED);
-            let refused = |refusal: u32, place: u32| NameFlat { refusal, place, ..NameFlat::default() };
-            let expected = if work < limits::WORK_WORDS {
-                refused(2, 0)
-            } else if joined.len() > limits::INPUT {
-                refused(3, 0)
-            } else if let Some(label) = over {
-                refused(7, flat_a.labels + label as u32)
-            } else if due.len() > room {
-                refused(15, 0)
-            } else {
-                NameFlat { length: due.len() as u32, labels: flat_a.labels + flat_b.labels, ..NameFlat::default() }
-            };
-            assert_eq!(flat, expected, "{}", at());
-            counts.pairs += 1;
-            match flat.refusal {
-                0 => {
-                    assert_eq!(answer, due, "{}", at());
-                    let both = [kinds(engine, &words, name_a), kinds(engine, &words, name_b)].concat();
-                    assert_eq!(kinds(engine, &words, &joined), both, "{}", at());
-                    counts.accepted += 1;
-                }
-                2 => counts.refused[0] += 1,
-                3 => counts.refused[1] += 1,
-                7 => counts.refused[2] += 1,
-                _ => counts.refused[3] += 1,
+        let accepted = accepted_names(engine, &words, &mut rng, &vocabulary, 2 * pairs_per_table);
+        if !accepted.is_empty() {
+            for _ in 0..pairs_per_table {
+                join(engine, &words, &table, &mut rng, &accepted, &mut counts);
             }
         }
     }
@@ -224,6 +267,6 @@ pub fn check_joining(engine: &dyn Engine, first_seed: u64, tables: u64) {
     let counts = joining(engine, first_seed, tables, 50);
     say(&counts);
     assert!(6 * counts.accepted >= 100 * tables, "a third of the pairs is accepted");
-    assert!(counts.refused.iter().all(|&n| 12 * n >= tables), "every limit is reached");
+    assert!([2, 3, 7, 15].iter().all(|&n| 12 * counts.refused.of(n) >= tables), "every limit is reached");
     assert!(4 * (counts.tables - counts.sound_tables) >= tables, "a quarter of the tables is unsound");
 }

@@ -1,8 +1,10 @@
 //! The random comparison. Buffers of many sizes are filled with marks
 //! beforehand; answers and every word of both buffers are compared.
 
-use crate::engine::*;
+use crate::engine::Engine;
+use crate::tally::Tally;
 use gen::{Rng, Vocabulary};
+use plain::{Kind, Label, Name, Refusal, Soundness};
 use std::fmt;
 
 #[derive(Clone, Copy, Debug)]
@@ -21,7 +23,14 @@ pub struct Settings {
 
 impl Default for Settings {
     fn default() -> Settings {
-        Settings { first_seed: 1, tables: 2_000, names_per_table: 100, files_per_table: 4, more_soundness: 3_000, keep: 20 }
+        Settings {
+            first_seed: 1,
+            tables: 2_000,
+            names_per_table: 100,
+            files_per_table: 4,
+            more_soundness: 3_000,
+            keep: 20,
+        }
     }
 }
 
@@ -30,24 +39,47 @@ impl Default for Settings {
 pub struct Counts {
     pub tables: u64,
     pub names: u64,
-    /// All calls of the name call and of the label call.
-    pub name_calls: u64,
-    pub label_calls: u64,
-    /// By refusal; place 0 counts what was accepted.
-    pub name_refusals: [u64; 16],
-    pub label_refusals: [u64; 16],
+    pub name_calls: CallCounts,
+    pub label_calls: CallCounts,
     /// Names, each counted once, that were accepted.
     pub accepted_names: u64,
     pub names_of_4096: u64,
     pub accepted_names_of_4096: u64,
     /// Emoji, ASCII, unrestricted group, restricted group.
     pub kinds: [u64; 4],
-    /// 0 to 7, and 8 for sound.
-    pub soundness: [u64; 9],
-    /// Unpacked, 20, 21, 22.
-    pub unpacked: [u64; 4],
+    pub sound: u64,
+    /// By the lowest broken rule.
+    pub broken: Tally,
+    pub unpack_calls: CallCounts,
     pub differences: u64,
 }
+
+/// What the calls of one kind answered.
+#[derive(Clone, Debug, Default, PartialEq, Eq)]
+pub struct CallCounts {
+    pub accepted: u64,
+    pub refused: Tally,
+}
+
+impl CallCounts {
+    pub fn add<T>(&mut self, answer: &Result<T, Refusal>) {
+        match answer {
+            Ok(_) => self.accepted += 1,
+            Err(refusal) => self.refused.add(refusal.number),
+        }
+    }
+}
+
+impl fmt::Display for CallCounts {
+    fn fmt(&self, f: &mut fmt::Formatter) -> fmt::Result {
+        write!(f, "accepted {}; refused{}", self.accepted, self.refused)
+    }
+}
+
+/// What the calls can refuse, and the rules that the check can name.
+const REFUSALS: std::ops::RangeInclusive<u32> = 1..=15;
+const UNPACK_REFUSALS: std::ops::RangeInclusive<u32> = 20..=22;
+const RULES: std::ops::RangeInclusive<u32> = 0..=7;
 
 impl Counts {
     /// What was reached too seldom, as the comparison asks it: every refusal
@@ -60,19 +92,24 @@ impl Counts {
                 missing.push(format!("{what}: {count}, due {least}"));
             }
         };
-        for number in 1..16 {
-            ask(format!("name call, refusal {number}"), self.name_refusals[number], 500);
-            ask(format!("label call, refusal {number}"), self.label_refusals[number], 500);
+        let calls = [
+            ("name call", &self.name_calls, REFUSALS),
+            ("label call", &self.label_calls, REFUSALS),
+            ("unpack", &self.unpack_calls, UNPACK_REFUSALS),
+        ];
+        for (call, counts, numbers) in calls {
+            for number in numbers {
+                ask(format!("{call}, refusal {number}"), counts.refused.of(number), 500);
+            }
         }
         for (kind, count) in ["emoji", "ASCII", "group", "restricted group"].iter().zip(self.kinds) {
             ask(format!("kind {kind}"), count, 500);
         }
-        for (answer, &count) in self.soundness.iter().enumerate() {
-            ask(format!("soundness {answer}"), count, 200);
+        for rule in RULES {
+            ask(format!("soundness {rule}"), self.broken.of(rule), 200);
         }
-        for (i, &count) in self.unpacked.iter().enumerate() {
-            ask(format!("unpack {}", [0, 20, 21, 22][i]), count, 500);
-        }
+        ask("sound".into(), self.sound, 200);
+        ask("unpacked".into(), self.unpack_calls.accepted, 500);
         ask("accepted names".into(), self.accepted_names, 40_000);
         ask("names of 4,096".into(), self.names_of_4096, 1);
         missing
@@ -83,25 +120,12 @@ impl fmt::Display for Counts {
     fn fmt(&self, f: &mut fmt::Formatter) -> fmt::Result {
         writeln!(f, "tables {}, names {}, accepted {}", self.tables, self.names, self.accepted_names)?;
         writeln!(f, "names of 4,096 codepoints {}, accepted {}", self.names_of_4096, self.accepted_names_of_4096)?;
-        for (what, calls, refusals) in [
-            ("name call", self.name_calls, &self.name_refusals),
-            ("label call", self.label_calls, &self.label_refusals),
-        ] {
-            write!(f, "{what}: {calls} calls, accepted {}; refusals", refusals[0])?;
-            for (number, count) in refusals.iter().enumerate().skip(1) {
-                write!(f, " {number}:{count}")?;
-            }
-            writeln!(f)?;
-        }
+        writeln!(f, "name call: {}", self.name_calls)?;
+        writeln!(f, "label call: {}", self.label_calls)?;
         let [emoji, ascii, group, restricted] = self.kinds;
         writeln!(f, "kinds: emoji {emoji}, ASCII {ascii}, group {group}, restricted group {restricted}")?;
-        write!(f, "soundness:")?;
-        for (answer, count) in self.soundness.iter().enumerate().take(8) {
-            write!(f, " {answer}:{count}")?;
-        }
-        writeln!(f, " sound:{}", self.soundness[8])?;
-        let [done, a, b, c] = self.unpacked;
-        writeln!(f, "unpacked {done}, refusals 20:{a} 21:{b} 22:{c}")?;
+        writeln!(f, "soundness: sound {}; broken{}", self.sound, self.broken)?;
+        writeln!(f, "unpack: {}", self.unpack_calls)?;
         write!(f, "differences {}", self.differences)
     }
 }
@@ -213,9 +237,13 @@ impl Both<'_> {
     fn soundness(&mut self, seed: u64, table: &[u32]) {
         let (x, y) = (self.a.soundness(table), self.b.soundness(table));
         self.report.counts.tables += 1;
-        self.report.counts.soundness[x.0 as usize] += 1;
+        match x {
+            Soundness::Sound => self.report.counts.sound += 1,
+            Soundness::Broken(rule) => self.report.counts.broken.add(rule),
+        }
         if x != y {
-            self.report.differ(self.settings, || format!("seed {seed}: soundness {x:?} and {y:?}\n  table {}", hex(table)));
+            self.report
+                .differ(self.settings, || format!("seed {seed}: soundness {x:?} and {y:?}\n  table {}", hex(table)));
         }
     }
 
@@ -223,18 +251,19 @@ impl Both<'_> {
         let room = answer_size(rng, name);
         let work = work_size(rng);
         let answer = self.name(seed, table, name, room, work);
-        let accepted = u64::from(answer.refusal == 0);
+        let accepted = u64::from(answer.is_ok());
         self.report.counts.names += 1;
         self.report.counts.accepted_names += accepted;
         if name.len() == plain::limits::INPUT {
             self.report.counts.names_of_4096 += 1;
             self.report.counts.accepted_names_of_4096 += accepted;
         }
-        if answer.refusal == 0 && rng.percent(6) {
-            // Room that just suffices, and one word less.
-            let due = answer.length as usize;
-            for room in [Some(due), due.checked_sub(1)].into_iter().flatten() {
-                self.name(seed, table, name, room, work);
+        if let Ok(Name { length, .. }) = answer {
+            if rng.percent(6) {
+                // Room that just suffices, and one word less.
+                for room in [Some(length), length.checked_sub(1)].into_iter().flatten() {
+                    let _ = self.name(seed, table, name, room, work);
+                }
             }
         }
         // The label call on a label of the name, or on the whole name.
@@ -260,8 +289,8 @@ impl Both<'_> {
     ) -> R {
         let run = |engine: &dyn Engine, salt: u32| {
             let (mut answer, mut area) = (marks(room, salt), marks(work, salt + 4));
-            let flat = call(engine, &mut answer, &mut area);
-            (flat, answer, area)
+            let given = call(engine, &mut answer, &mut area);
+            (given, answer, area)
         };
         let (x, y) = (run(self.a, 1), run(self.b, 2));
         if x != y {
@@ -278,14 +307,13 @@ impl Both<'_> {
         x.0
     }
 
-    fn name(&mut self, seed: u64, table: &[u32], name: &[u32], room: usize, work: usize) -> NameFlat {
+    fn name(&mut self, seed: u64, table: &[u32], name: &[u32], room: usize, work: usize) -> Result<Name, Refusal> {
         let x = self.call(
             [room, work],
             |engine, answer, area| engine.name(name, table, answer, area),
             || [format!("seed {seed}: name {}", hex(name)), format!("\n  table {}", hex(table))],
         );
-        self.report.counts.name_calls += 1;
-        self.report.counts.name_refusals[x.refusal as usize] += 1;
+        self.report.counts.name_calls.add(&x);
         x
     }
 
@@ -296,14 +324,14 @@ impl Both<'_> {
             || [format!("seed {seed}: label {}", hex(label)), format!("\n  table {}", hex(table))],
         );
         let counts = &mut self.report.counts;
-        counts.label_calls += 1;
-        counts.label_refusals[x.refusal as usize] += 1;
-        match (x.kind, x.restricted) {
-            (EMOJI, _) => counts.kinds[0] += 1,
-            (ASCII, _) => counts.kinds[1] += 1,
-            (GROUP, 0) => counts.kinds[2] += 1,
-            (GROUP, _) => counts.kinds[3] += 1,
-            _ => {}
+        counts.label_calls.add(&x);
+        if let Ok(Label { kind, .. }) = x {
+            let place = match kind {
+                Kind::Emoji => 0,
+                Kind::Ascii => 1,
+                Kind::Group { restricted, .. } => 2 + usize::from(restricted),
+            };
+            counts.kinds[place] += 1;
         }
     }
 
@@ -316,7 +344,6 @@ impl Both<'_> {
                 [format!("seed {seed}: file {}", bytes.join(" ")), String::new()]
             },
         );
-        let place = if x.refusal == 0 { 0 } else { x.refusal as usize - 19 };
-        self.report.counts.unpacked[place] += 1;
+        self.report.counts.unpack_calls.add(&x);
     }
 }

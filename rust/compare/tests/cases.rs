@@ -22,24 +22,16 @@ fn taken(mut answer: Vec<u32>, length: usize) -> Vec<u32> {
     answer
 }
 
-fn run_name(words: &[u32], input: &[u32], room: usize) -> Result<(Vec<u32>, usize), (u32, usize)> {
-    let (flat, answer) = lent(room, |answer, work| name(input, words, answer, work));
-    let (length, given) = match flat {
-        NameAnswer::Accepted { length, labels } => (length, Ok(labels)),
-        NameAnswer::Refused { number, place } => (0, Err((number, place))),
-    };
-    let answer = taken(answer, length);
-    given.map(|labels| (answer, labels))
+fn run_name(words: &[u32], input: &[u32], room: usize) -> Result<(Vec<u32>, usize), Refusal> {
+    let (given, answer) = lent(room, |answer, work| name(input, words, answer, work));
+    let answer = taken(answer, given.map_or(0, |n| n.length));
+    given.map(|n| (answer, n.labels))
 }
 
-fn run_label(words: &[u32], input: &[u32], room: usize) -> Result<(Vec<u32>, Kind), (u32, usize)> {
-    let (flat, answer) = lent(room, |answer, work| label(input, words, answer, work));
-    let (length, given) = match flat {
-        LabelAnswer::Accepted { length, kind } => (length, Ok(kind)),
-        LabelAnswer::Refused { number, place } => (0, Err((number, place))),
-    };
-    let answer = taken(answer, length);
-    given.map(|kind| (answer, kind))
+fn run_label(words: &[u32], input: &[u32], room: usize) -> Result<(Vec<u32>, Kind), Refusal> {
+    let (given, answer) = lent(room, |answer, work| label(input, words, answer, work));
+    let answer = taken(answer, given.map_or(0, |l| l.length));
+    given.map(|l| (answer, l.kind))
 }
 
 /// A one-label name: both calls give this answer, and the label this kind.
@@ -52,11 +44,11 @@ fn gives(input: &[u32], answer: &[u32], kind: Kind) {
 /// A one-label name: both calls refuse it so.
 fn refused(input: &[u32], number: u32, place: usize) {
     let words = small_table().to_words();
-    assert_eq!(run_name(&words, input, 1024), Err((number, place)), "{input:X?}");
-    assert_eq!(run_label(&words, input, 1024), Err((number, place)), "{input:X?}");
+    assert_eq!(run_name(&words, input, 1024), Err(Refusal { number, place }), "{input:X?}");
+    assert_eq!(run_label(&words, input, 1024), Err(Refusal { number, place }), "{input:X?}");
 }
 
-fn group(number: u32) -> Kind {
+fn group(number: usize) -> Kind {
     Kind::Group { number, restricted: number == EGYPTIAN }
 }
 
@@ -87,12 +79,12 @@ fn names_at_the_counter() {
     gives(&[0x2010, 0x39E, 0x31, 0xFE0F, 0x20E3], &[0x2D, 0x3BE, 0x31, 0x20E3], group(GREEK));
     assert_eq!(run_name(&words, &[], 5), Ok((vec![], 0)));
     assert_eq!(run_name(&words, &[], 0), Ok((vec![], 0)));
-    assert_eq!(run_label(&words, &[], 5), Err((6, 0)));
-    assert_eq!(run_name(&words, &[0x2E], 5), Err((6, 0)));
-    assert_eq!(run_name(&words, &[0x61, 0x2E, 0x2E, 0x62], 5), Err((6, 1)));
-    assert_eq!(run_name(&words, &[0x61, 0x2E], 5), Err((6, 1)));
-    assert_eq!(run_name(&words, &[0x61], 0), Err((NO_ROOM, 0)));
-    assert_eq!(run_label(&words, &[0x61], 0), Err((NO_ROOM, 0)));
+    assert_eq!(run_label(&words, &[], 5), Err(Refusal::new(6, 0)));
+    assert_eq!(run_name(&words, &[0x2E], 5), Err(Refusal::new(6, 0)));
+    assert_eq!(run_name(&words, &[0x61, 0x2E, 0x2E, 0x62], 5), Err(Refusal::new(6, 1)));
+    assert_eq!(run_name(&words, &[0x61, 0x2E], 5), Err(Refusal::new(6, 1)));
+    assert_eq!(run_name(&words, &[0x61], 0), Err(Refusal::new(NO_ROOM, 0)));
+    assert_eq!(run_label(&words, &[0x61], 0), Err(Refusal::new(NO_ROOM, 0)));
     gives(&[0x61; 1024], &[0x61; 1024], Kind::Ascii);
     refused(&[0x61; 1025], 7, 0);
     refused(&[0x2E3B; 341], 9, 0);
@@ -120,7 +112,9 @@ fn examples_of_the_source() {
     gives(&text("a\u{2019}s"), &text("a\u{2019}s"), group(LATIN));
     gives(&text("a\u{30FB}a"), &text("a\u{30FB}a"), group(LATIN));
     gives(&text("a\u{30FB}a\u{2019}s"), &text("a\u{30FB}a\u{2019}s"), group(LATIN));
-    for bad in ["\u{2019}85", "joneses\u{2019}", "\u{30FB}a\u{30FB}", "6\u{2019}0\u{2019}\u{2019}", "a\u{30FB}\u{30FB}a"] {
+    for bad in
+        ["\u{2019}85", "joneses\u{2019}", "\u{30FB}a\u{30FB}", "6\u{2019}0\u{2019}\u{2019}", "a\u{30FB}\u{30FB}a"]
+    {
         refused(&text(bad), 10, 0);
     }
     // Composition, kinds and mixtures.
@@ -143,10 +137,9 @@ fn examples_of_the_source() {
     // A whitelisted group is not asked for NSM.
     gives(&[0x561, 0x300, 0x300], &[0x561, 0x300, 0x300], group(WHITELISTED));
     // Emoji matching.
-    for matches in [
-        &[0x1F468, 0x200D, 0x2764, 0xFE0F, 0x200D, 0x1F468][..],
-        &[0x1F468, 0x200D, 0x2764, 0x200D, 0x1F468],
-    ] {
+    for matches in
+        [&[0x1F468, 0x200D, 0x2764, 0xFE0F, 0x200D, 0x1F468][..], &[0x1F468, 0x200D, 0x2764, 0x200D, 0x1F468]]
+    {
         gives(matches, &[0x1F468, 0x200D, 0x2764, 0x200D, 0x1F468], Kind::Emoji);
     }
     refused(&[0x1F468, 0x200D, 0x2764, 0xFE0F, 0xFE0F, 0x200D, 0x1F468], 5, 1);
@@ -177,11 +170,11 @@ fn errors_met_in_the_field() {
     // a longer answer stood in them.
     let words = small_table().to_words();
     let (mut answer, mut work) = ([0; 9], [0; 2048]);
-    name(&text("abcdefgh"), &words, &mut answer, &mut work);
+    assert!(name(&text("abcdefgh"), &words, &mut answer, &mut work).is_ok());
     assert_eq!(answer, [0x61, 0x62, 0x63, 0x64, 0x65, 0x66, 0x67, 0x68, 0]);
-    name(&text("ba"), &words, &mut answer, &mut work);
+    assert!(name(&text("ba"), &words, &mut answer, &mut work).is_ok());
     assert_eq!(answer, [0x62, 0x61, 0, 0, 0, 0, 0, 0, 0]);
-    name(&text("b a"), &words, &mut answer, &mut work);
+    assert!(name(&text("b a"), &words, &mut answer, &mut work).is_err());
     assert_eq!(answer, [0; 9]);
 }
 
@@ -190,13 +183,11 @@ fn order_of_refusals() {
     let words = small_table().to_words();
     let call = |input: &[u32], words: &[u32], room: usize, area: usize| {
         let (mut answer, mut work) = (vec![9; room], vec![9; area]);
-        let flat = name(input, words, &mut answer, &mut work);
-        if let NameAnswer::Refused { .. } = flat {
-            assert!(answer.iter().chain(&work).all(|&w| w == 0));
-        }
-        flat
+        let given = name(input, words, &mut answer, &mut work);
+        assert!(given.is_ok() || answer.iter().chain(&work).all(|&w| w == 0));
+        given
     };
-    let no = |number: u32, place: usize| NameAnswer::Refused { number, place };
+    let no = |number: u32, place: usize| Err(Refusal { number, place });
     let bad_long = vec![0xD800; 4097];
     // 1, 2, 3, 4 in order, over the whole name and the empty one too.
     assert_eq!(call(&bad_long, &[], 3, 0), no(1, 0));
@@ -222,29 +213,29 @@ fn order_of_refusals() {
     // 15 comes after every label.
     assert_eq!(call(&[0x61, 0x62, 0x2E, 0x21], &words, 1, 2048), no(5, 3));
     assert_eq!(call(&[0x61, 0x62, 0x2E, 0x63], &words, 3, 2048), no(15, 0));
-    assert_eq!(call(&[0x61, 0x62, 0x2E, 0x63], &words, 4, 2048), NameAnswer::Accepted { length: 4, labels: 2 });
+    assert_eq!(call(&[0x61, 0x62, 0x2E, 0x63], &words, 4, 2048), Ok(Name { length: 4, labels: 2 }));
     // Exactly 1,024 with stops passes.
     let mut exact = vec![0x61; 1024];
     exact[500] = 0x2E;
-    assert_eq!(call(&exact, &words, 2000, 5000), NameAnswer::Accepted { length: 1024, labels: 2 });
+    assert_eq!(call(&exact, &words, 2000, 5000), Ok(Name { length: 1024, labels: 2 }));
 }
 
 #[test]
 fn label_call_and_stop() {
     let words = small_table().to_words();
-    assert_eq!(run_label(&words, &[0x61, 0x2E, 0x62], 9), Err((5, 1)));
-    assert_eq!(run_label(&words, &[0x21, 0x2E], 9), Err((5, 0)));
-    assert_eq!(run_label(&words, &[0x2E], 9), Err((5, 0)));
-    assert_eq!(run_label(&words, &[0x2E, 0x21], 9), Err((5, 0)));
+    assert_eq!(run_label(&words, &[0x61, 0x2E, 0x62], 9), Err(Refusal::new(5, 1)));
+    assert_eq!(run_label(&words, &[0x21, 0x2E], 9), Err(Refusal::new(5, 0)));
+    assert_eq!(run_label(&words, &[0x2E], 9), Err(Refusal::new(5, 0)));
+    assert_eq!(run_label(&words, &[0x2E, 0x21], 9), Err(Refusal::new(5, 0)));
     // Before 7, and whatever the table says of 2E.
     let mut long = vec![0x61; 1500];
     long.push(0x2E);
-    assert_eq!(run_label(&words, &long, 9), Err((5, 1500)));
+    assert_eq!(run_label(&words, &long, 9), Err(Refusal::new(5, 1500)));
     let mut b = small_table();
     b.valid.push((0x2E, 0x2E));
     b.ignored.push((0x2E, 0x2E));
     b.emoji.push(vec![0x1F680, 0x2E]);
-    assert_eq!(run_label(&b.to_words(), &[0x1F680, 0x2E], 9), Err((5, 1)));
+    assert_eq!(run_label(&b.to_words(), &[0x1F680, 0x2E], 9), Err(Refusal::new(5, 1)));
 }
 
 #[test]
@@ -336,30 +327,30 @@ fn layout_cases() {
 fn unpack_cases() {
     let run = |file: &[u8], room: usize| {
         let mut answer = vec![0xFFFF_FFFF; room];
-        let flat = unpack(file, &mut answer);
-        let due = if let Unpacked::Count(count) = flat { count } else { 0 };
+        let given = unpack(file, &mut answer);
+        let due = given.unwrap_or(0);
         assert!(answer[due..].iter().all(|&w| w == 0));
         answer.truncate(due);
-        (flat, answer)
+        (given, answer)
     };
-    let no = |number: u32| (Unpacked::Refused(number), vec![]);
+    let no = |number: u32| (Err(Refusal { number, place: 0 }), vec![]);
     assert_eq!(run(&[], 3), no(21));
     assert_eq!(run(&[1], 3), no(21));
     assert_eq!(run(&[0], 3), no(20));
     assert_eq!(run(&[2, 9, 9], 3), no(20), "a wrong version with a wrong length");
     assert_eq!(run(&[1, 0, 0, 0], 3), no(21));
-    assert_eq!(run(&[1, 0, 0, 0, 0], 3), (Unpacked::Count(0), vec![]));
+    assert_eq!(run(&[1, 0, 0, 0, 0], 3), (Ok(0), vec![]));
     assert_eq!(run(&[1, 0, 0, 0, 0, 7], 3), no(21));
     assert_eq!(run(&[1, 0x40, 0, 0, 0], 3), no(21), "a count whose bytes pass 32 bits");
     assert_eq!(run(&[1, 0xC0, 0, 0, 1, 1, 2, 3, 4], 3), no(21));
     let words = [0x01020304, 0xFFFF_FFFF];
-    assert_eq!(run(&pack(&words), 2), (Unpacked::Count(2), words.to_vec()));
-    assert_eq!(run(&pack(&words), 5), (Unpacked::Count(2), words.to_vec()));
+    assert_eq!(run(&pack(&words), 2), (Ok(2), words.to_vec()));
+    assert_eq!(run(&pack(&words), 5), (Ok(2), words.to_vec()));
     assert_eq!(run(&pack(&words), 1), no(22), "a buffer too small by one");
     assert_eq!(pack(&words), [1, 0, 0, 0, 2, 1, 2, 3, 4, 255, 255, 255, 255]);
     // More words than a table may have: unpacking has no such limit.
     let many = vec![3; 131_073];
-    assert_eq!(run(&pack(&many), 131_073).0, Unpacked::Count(131_073));
+    assert_eq!(run(&pack(&many), 131_073).0, Ok(131_073));
 }
 
 /// For each rule changes that break it and no other rule.
@@ -405,7 +396,7 @@ fn each_soundness_rule_alone() {
     // 3
     alone(3, &|b| b.mapped.push((0x2160, vec![0x61, 0x41])));
     alone(3, &|b| b.mapped.push((0x41, vec![STOP]))); // a shadowed record
-    // 4
+                                                      // 4
     alone(4, &|b| b.emoji.push(vec![0x1F469, STOP]));
     alone(4, &|b| b.emoji.push(vec![FE0F, 0x1F469]));
     alone(4, &|b| b.emoji.push(vec![0x1F469, FE0F, FE0F]));

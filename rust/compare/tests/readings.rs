@@ -13,16 +13,16 @@ fn base() -> TableBuilder {
 }
 
 /// The answer and kind of a label, or the refusal.
-fn run(b: &TableBuilder, label: &[u32]) -> Result<(Vec<u32>, Kind), (u32, usize)> {
+fn run(b: &TableBuilder, label: &[u32]) -> Result<(Vec<u32>, Kind), Refusal> {
     let words = b.to_words();
     let table = parse(&words).expect("layout");
-    judge_label(&table, label).map(|f| (f.answer, f.kind)).map_err(|r| (r.number, r.place))
+    judge_label(&table, label).map(|f| (f.answer, f.kind))
 }
 
-fn run_name(b: &TableBuilder, name: &[u32]) -> Result<(Vec<u32>, usize), (u32, usize)> {
+fn run_name(b: &TableBuilder, name: &[u32]) -> Result<(Vec<u32>, usize), Refusal> {
     let words = b.to_words();
     let table = parse(&words).expect("layout");
-    let labels = judge_name(&table, name).map_err(|r| (r.number, r.place))?;
+    let labels = judge_name(&table, name)?;
     Ok((plain::calls::join_labels(&labels), labels.len()))
 }
 
@@ -101,7 +101,8 @@ fn four_rounds_and_no_more() {
 #[test]
 fn ordering_and_blocking() {
     let mut b = base();
-    b.decompositions = vec![(0xE0, vec![0x61, 0x300]), (0xE1, vec![0x61, 0x305]), (0xE2, vec![0xE0, 0x62]), (0xE3, vec![0x61, 0x62])];
+    b.decompositions =
+        vec![(0xE0, vec![0x61, 0x300]), (0xE1, vec![0x61, 0x305]), (0xE2, vec![0xE0, 0x62]), (0xE3, vec![0x61, 0x62])];
     check_nfc(&b, &[0x61, 0x300, 0x305], &[0xE1, 0x300]); // 220 is ordered first
     check_nfc(&b, &[0x61, 0x301, 0x300], &[0x61, 0x301, 0x300]); // an equal class between
     check_nfc(&b, &[0x61, 0x306, 0x300], &[0xE0, 0x306]); // a lower class between
@@ -124,13 +125,13 @@ fn empty_emoji_tokens() {
     assert_eq!(run(&b, &[0x61, FE0F]), Ok((vec![0x61], first()))); // two tokens: not ASCII
     assert_eq!(run(&b, &[0x61, FE0F, 0x300]), Ok((vec![0x61, 0x300], first()))); // parts texts
     b.marks = vec![(0x300, 0x300)];
-    assert_eq!(run(&b, &[0x61, FE0F, 0x300]), Err((11, 0)));
+    assert_eq!(run(&b, &[0x61, FE0F, 0x300]), Err(Refusal::new(11, 0)));
     assert_eq!(run(&b, &[FE0F; 4096]), Ok((vec![], Kind::Emoji)));
     assert_eq!(run_name(&b, &[FE0F, STOP, FE0F]), Ok((vec![STOP], 2)));
     // Two fenced around one are side by side.
     b.fenced = vec![(0x62, 0x62)];
     assert_eq!(run(&b, &[0x61, 0x62, 0x61, 0x62, 0x63, 0xE0]), Ok((vec![0x61, 0x62, 0x61, 0x62, 0x63, 0xE0], first())));
-    assert_eq!(run(&b, &[0x61, 0x62, FE0F, 0x62, 0x63]), Err((10, 0)));
+    assert_eq!(run(&b, &[0x61, 0x62, FE0F, 0x62, 0x63]), Err(Refusal::new(10, 0)));
     // Each FE0F of a run is optional; as many as are there are taken.
     b.emoji = vec![vec![FE0F, FE0F, 0x1F468, FE0F, FE0F]];
     for front in 0..3 {
@@ -139,8 +140,8 @@ fn empty_emoji_tokens() {
             assert_eq!(run(&b, &label), Ok((vec![0x1F468], Kind::Emoji)));
         }
     }
-    assert_eq!(run(&b, &[FE0F, FE0F, FE0F, 0x1F468]), Err((5, 0)));
-    assert_eq!(run(&b, &[0x1F468, FE0F, FE0F, FE0F]), Err((5, 3)));
+    assert_eq!(run(&b, &[FE0F, FE0F, FE0F, 0x1F468]), Err(Refusal::new(5, 0)));
+    assert_eq!(run(&b, &[0x1F468, FE0F, FE0F, FE0F]), Err(Refusal::new(5, 3)));
 }
 
 #[test]
@@ -175,7 +176,7 @@ fn stops_and_other_numbers_in_entries() {
     assert_eq!(run_name(&b, &[0x61, STOP, 0x61]), Ok((vec![0x61, STOP, 0x61], 2)));
     assert_eq!(run_name(&b, &[0x41]), Ok((vec![0x61, STOP], 1)));
     assert_eq!(run(&b, &[0x41]), Ok((vec![0x61, STOP], Kind::Ascii)));
-    assert_eq!(run(&b, &[0x42]), Err((12, 0)));
+    assert_eq!(run(&b, &[0x42]), Err(Refusal::new(12, 0)));
     b.groups[0].1.push((0xFFFF_FFFF, 0xFFFF_FFFF));
     assert_eq!(run(&b, &[0x42]), Ok((vec![0xFFFF_FFFF], first())));
 }
@@ -187,7 +188,7 @@ fn order_of_lookups() {
     b.mapped = vec![(0x41, vec![0x62]), (0x41, vec![0x63]), (0x61, vec![0x64])];
     b.ignored = vec![(0x40, 0x61)];
     assert_eq!(run(&b, &[0x61, 0x40, 0x41]), Ok((vec![0x61, 0x62], Kind::Ascii)));
-    assert_eq!(run(&b, &[0x40, 0x40]), Err((6, 0)));
+    assert_eq!(run(&b, &[0x40, 0x40]), Err(Refusal::new(6, 0)));
 }
 
 /// 13 looks at the joined text, across emoji, and NSM need not be marks.
@@ -196,13 +197,13 @@ fn nsm_across_emoji() {
     let mut b = base();
     b.emoji = vec![vec![0x1F468]];
     b.nsm = vec![(0x62, 0x66)];
-    assert_eq!(run(&b, &[0x61, 0x62, 0x1F468, 0x62]), Err((13, 0)));
+    assert_eq!(run(&b, &[0x61, 0x62, 0x1F468, 0x62]), Err(Refusal::new(13, 0)));
     assert_eq!(run(&b, &[0x61, 0x62, 0x1F468, 0x63]).map(|x| x.1), Ok(first()));
     assert_eq!(run(&b, &[0x62, 0x63, 0x1F468, 0x64, 0x65]).map(|x| x.1), Ok(first()));
-    assert_eq!(run(&b, &[0x62, 0x63, 0x1F468, 0x64, 0x65, 0x66]), Err((13, 0)));
+    assert_eq!(run(&b, &[0x62, 0x63, 0x1F468, 0x64, 0x65, 0x66]), Err(Refusal::new(13, 0)));
     // Ordered across the emoji as well: 304, 305, 304 become 305, 304, 304.
     b.nsm = vec![(0x304, 0x304)];
-    assert_eq!(run(&b, &[0x61, 0x304, 0x1F468, 0x305, 0x304]), Err((13, 0)));
+    assert_eq!(run(&b, &[0x61, 0x304, 0x1F468, 0x305, 0x304]), Err(Refusal::new(13, 0)));
 }
 
 /// The second decomposition may have 262,144 codepoints.
@@ -216,9 +217,9 @@ fn second_decomposition_is_long() {
         ..TableBuilder::default()
     };
     assert_eq!(run(&b, &[y(0); 4]), Ok((vec![y(4); 1024], first())));
-    assert_eq!(run(&b, &[y(0); 5]), Err((7, 0)));
+    assert_eq!(run(&b, &[y(0); 5]), Err(Refusal::new(7, 0)));
     b.nsm = vec![(y(8), y(8))];
-    assert_eq!(run(&b, &[y(0); 4]), Err((13, 0)));
+    assert_eq!(run(&b, &[y(0); 4]), Err(Refusal::new(13, 0)));
     b.nsm = vec![(y(4), y(4))];
     assert_eq!(run(&b, &[y(0); 4]), Ok((vec![y(4); 1024], first())));
 }
@@ -235,31 +236,31 @@ fn wholes() {
     // A member of a valid list only is not confused.
     b.wholes = vec![(vec![0x100], vec![0x110])];
     assert_eq!(run(&b, &[0x100]).map(|x| x.1), kind);
-    assert_eq!(run(&b, &[0x110]), Err((14, 0)));
+    assert_eq!(run(&b, &[0x110]), Err(Refusal::new(14, 0)));
     // Another confused member in the extent gives no way out; a restricted
     // group is a candidate.
     b.wholes = vec![(vec![0x102], vec![0x100])];
     assert_eq!(run(&b, &[0x100]).map(|x| x.1), kind);
     b.wholes = vec![(vec![0x102, 0x110], vec![0x100])];
-    assert_eq!(run(&b, &[0x100]), Err((14, 0)));
+    assert_eq!(run(&b, &[0x100]), Err(Refusal::new(14, 0)));
     // Every other character must be in that group too.
     assert_eq!(run(&b, &[0x100, 0x103]).map(|x| x.1), kind);
     // The first whole counts, not a later one.
     b.wholes = vec![(vec![0x102], vec![0x100]), (vec![0x110], vec![0x100])];
     assert_eq!(run(&b, &[0x100]).map(|x| x.1), kind);
     b.wholes = vec![(vec![0x100, 0x102], vec![]), (vec![0x110], vec![0x100])];
-    assert_eq!(run(&b, &[0x100]), Err((14, 0)));
+    assert_eq!(run(&b, &[0x100]), Err(Refusal::new(14, 0)));
     // 101 is in groups 0 and 2: members of both are in its extent.
     b.wholes = vec![(vec![0x121, 0x102], vec![0x101])];
     assert_eq!(run(&b, &[0x101]).map(|x| x.1), kind);
     // The extent does not go on from member to member: 121 shares a group
     // with 101 but not with 100.
     b.wholes = vec![(vec![0x101, 0x121], vec![0x100])];
-    assert_eq!(run(&b, &[0x100]), Err((14, 0)));
+    assert_eq!(run(&b, &[0x100]), Err(Refusal::new(14, 0)));
     // Each confused character its own way: one group for all of them.
     b.wholes = vec![(vec![0x110], vec![0x100]), (vec![0x120], vec![0x102])];
-    assert_eq!(run(&b, &[0x100]), Err((14, 0)));
-    assert_eq!(run(&b, &[0x102]), Err((14, 0)));
+    assert_eq!(run(&b, &[0x100]), Err(Refusal::new(14, 0)));
+    assert_eq!(run(&b, &[0x102]), Err(Refusal::new(14, 0)));
     assert_eq!(run(&b, &[0x100, 0x102]).map(|x| x.1), kind);
     // The first group that holds the text is the kind.
     assert_eq!(run(&b, &[0x101]).map(|x| x.1), kind);

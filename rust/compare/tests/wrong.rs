@@ -1,7 +1,5 @@
 //! Wrong engines: the comparison finds each of them different.
 
-use compare::engine::*;
-use compare::plain_engine::{flat_label, flat_name};
 use compare::{compare, say, Engine, Plain, Settings};
 use plain::label::{self, Finished};
 use plain::text::{compose, four_rounds, order};
@@ -57,6 +55,10 @@ use Wrong::*;
 /// The rules of one label put together anew from the parts of the plain
 /// version, with one thing wrong.
 struct Assembled(Wrong);
+
+fn refuse<T>(number: u32, place: usize) -> Result<T, Refusal> {
+    Err(Refusal::new(number, place))
+}
 
 struct Form {
     answer: Vec<u32>,
@@ -116,15 +118,15 @@ impl Assembled {
         four
     }
 
-    /// Number and, for 5, the index in the label.
-    fn judge(&self, t: &Table, input: &[u32], before: usize) -> Result<Form, (u32, usize)> {
+    /// The place is, for 5, the index in the label.
+    fn judge(&self, t: &Table, input: &[u32], before: usize) -> Result<Form, Refusal> {
         let limit = if self.is(WorkedLengthOffByOne) { 1025 } else { 1024 };
         if self.is(SevenBeforeFive) && input.len() > 2 * limit {
-            return Err((7, 0));
+            return refuse(7, 0);
         }
-        let walked = self.walk(t, input).map_err(|index| (5, index))?;
+        let walked = self.walk(t, input).map_err(|index| Refusal::new(5, index))?;
         if walked.is_empty() {
-            return Err((6, 0));
+            return refuse(6, 0);
         }
         let mut worked = 0;
         let mut tokens = Vec::new();
@@ -143,7 +145,7 @@ impl Assembled {
                 }
             }
             if before + worked > limit {
-                return Err((7, 0));
+                return refuse(7, 0);
             }
         }
         if self.is(ComposesWholeLabel) {
@@ -152,7 +154,7 @@ impl Assembled {
                 tokens = vec![Finished::Text(all)];
             }
         }
-        let kind = self.kind(t, &tokens).map_err(|number| (number, 0))?;
+        let kind = self.kind(t, &tokens).map_err(|number| Refusal::new(number, 0))?;
         Ok(Form { answer: label::joined(&tokens), kind, worked })
     }
 
@@ -201,7 +203,7 @@ impl Assembled {
         if self.confusable(t, &text) {
             return Err(14);
         }
-        Ok(Kind::Group { number: group as u32, restricted: flags & 1 != 0 })
+        Ok(Kind::Group { number: group, restricted: flags & 1 != 0 })
     }
 
     fn confusable(&self, t: &Table, text: &[u32]) -> bool {
@@ -226,20 +228,20 @@ impl Assembled {
         })
     }
 
-    fn input_fault(&self, input: &[u32]) -> Result<(), (u32, usize)> {
+    fn input_fault(&self, input: &[u32]) -> Result<(), Refusal> {
         if input.len() > 4096 {
-            return Err((3, 0));
+            return refuse(3, 0);
         }
         match input.iter().position(|&c| !is_scalar(c)) {
-            Some(index) => Err((4, index)),
+            Some(index) => refuse(4, index),
             None => Ok(()),
         }
     }
 
-    fn whole_name(&self, input: &[u32], words: &[u32], room: usize, work: usize) -> Result<(Vec<u32>, usize), (u32, usize)> {
-        let table = parse(words).ok_or((1, 0))?;
+    fn whole_name(&self, input: &[u32], words: &[u32], room: usize, work: usize) -> Result<(Vec<u32>, usize), Refusal> {
+        let table = parse(words).ok_or(Refusal::new(1, 0))?;
         if work < 2048 {
-            return Err((2, 0));
+            return refuse(2, 0);
         }
         self.input_fault(input)?;
         let filtered: Vec<u32>;
@@ -261,41 +263,41 @@ impl Assembled {
                 answer.push(STOP);
                 worked += usize::from(!self.is(ForgetsStopsInWorkedLength));
             }
-            let form = self.judge(&table, part, worked).map_err(|(number, index)| match number {
-                5 if self.is(PlaceInLabel) => (5, index),
-                5 => (5, start + index),
-                _ if self.is(LabelNumberOffByOne) => (number, i + 1),
-                _ => (number, i),
+            let form = self.judge(&table, part, worked).map_err(|Refusal { number, place }| match number {
+                5 if self.is(PlaceInLabel) => Refusal::new(5, place),
+                5 => Refusal::new(5, start + place),
+                _ if self.is(LabelNumberOffByOne) => Refusal::new(number, i + 1),
+                _ => Refusal::new(number, i),
             })?;
             worked += form.worked;
             start += part.len() + 1;
             answer.extend(form.answer);
             labels += 1;
             if self.is(FifteenEarly) && answer.len() > room {
-                return Err((15, 0));
+                return refuse(15, 0);
             }
         }
         if self.is(CountsLabelsOfAnswer) {
             labels = answer.split(|&c| c == STOP).count();
         }
         if answer.len() > room {
-            return Err((15, 0));
+            return refuse(15, 0);
         }
         Ok((answer, labels))
     }
 
-    fn one_label(&self, input: &[u32], words: &[u32], room: usize, work: usize) -> Result<(Vec<u32>, Kind), (u32, usize)> {
-        let table = parse(words).ok_or((1, 0))?;
+    fn one_label(&self, input: &[u32], words: &[u32], room: usize, work: usize) -> Result<(Vec<u32>, Kind), Refusal> {
+        let table = parse(words).ok_or(Refusal::new(1, 0))?;
         if work < 2048 {
-            return Err((2, 0));
+            return refuse(2, 0);
         }
         self.input_fault(input)?;
         if let Some(stop) = input.iter().position(|&c| c == STOP) {
-            return Err((5, self.walk(&table, &input[..stop]).err().unwrap_or(stop)));
+            return refuse(5, self.walk(&table, &input[..stop]).err().unwrap_or(stop));
         }
         let form = self.judge(&table, input, 0)?;
         if form.answer.len() > room {
-            return Err((15, 0));
+            return refuse(15, 0);
         }
         Ok((form.answer, form.kind))
     }
@@ -340,39 +342,33 @@ fn source_confusable(t: &Table, text: &[u32]) -> bool {
 }
 
 impl Engine for Assembled {
-    fn name(&self, name: &[u32], table: &[u32], answer: &mut [u32], work: &mut [u32]) -> NameFlat {
+    fn name(&self, name: &[u32], table: &[u32], answer: &mut [u32], work: &mut [u32]) -> Result<Name, Refusal> {
         match self.0 {
-            DoesNothing => return NameFlat::default(),
+            DoesNothing => return Ok(Name { length: 0, labels: 0 }),
             RefusesEverything => {
                 self.settle(&[], answer, work);
-                return NameFlat { refusal: 1, ..NameFlat::default() };
+                return refuse(1, 0);
             }
             CopiesItsInput if name.len() <= answer.len() => {
                 self.settle(name, answer, work);
-                let labels = name.split(|&c| c == STOP).count() as u32;
-                return NameFlat { length: name.len() as u32, labels, ..NameFlat::default() };
+                let labels = name.split(|&c| c == STOP).count();
+                return Ok(Name { length: name.len(), labels });
             }
             _ => {}
         }
         let judged = self.whole_name(name, table, answer.len(), work.len());
         self.settle(judged.as_ref().map_or(&[], |j| &j.0), answer, work);
-        flat_name(match judged {
-            Ok((due, labels)) => NameAnswer::Accepted { length: due.len(), labels },
-            Err((number, place)) => NameAnswer::Refused { number, place },
-        })
+        judged.map(|(due, labels)| Name { length: due.len(), labels })
     }
-    fn label(&self, label: &[u32], table: &[u32], answer: &mut [u32], work: &mut [u32]) -> LabelFlat {
+    fn label(&self, label: &[u32], table: &[u32], answer: &mut [u32], work: &mut [u32]) -> Result<Label, Refusal> {
         let judged = self.one_label(label, table, answer.len(), work.len());
         self.settle(judged.as_ref().map_or(&[], |j| &j.0), answer, work);
-        flat_label(match judged {
-            Ok((due, kind)) => LabelAnswer::Accepted { length: due.len(), kind },
-            Err((number, place)) => LabelAnswer::Refused { number, place },
-        })
+        judged.map(|(due, kind)| Label { length: due.len(), kind })
     }
-    fn soundness(&self, table: &[u32]) -> SoundnessFlat {
+    fn soundness(&self, table: &[u32]) -> Soundness {
         Plain.soundness(table)
     }
-    fn unpack(&self, file: &[u8], answer: &mut [u32]) -> UnpackFlat {
+    fn unpack(&self, file: &[u8], answer: &mut [u32]) -> Result<usize, Refusal> {
         Plain.unpack(file, answer)
     }
 }
@@ -410,21 +406,19 @@ wrongs! {
 struct Checks(WrongCheck);
 
 impl Engine for Checks {
-    fn name(&self, name: &[u32], table: &[u32], answer: &mut [u32], work: &mut [u32]) -> NameFlat {
+    fn name(&self, name: &[u32], table: &[u32], answer: &mut [u32], work: &mut [u32]) -> Result<Name, Refusal> {
         Plain.name(name, table, answer, work)
     }
-    fn label(&self, label: &[u32], table: &[u32], answer: &mut [u32], work: &mut [u32]) -> LabelFlat {
+    fn label(&self, label: &[u32], table: &[u32], answer: &mut [u32], work: &mut [u32]) -> Result<Label, Refusal> {
         Plain.label(label, table, answer, work)
     }
-    fn soundness(&self, words: &[u32]) -> SoundnessFlat {
+    fn soundness(&self, words: &[u32]) -> Soundness {
         let Some(table) = parse(words) else {
-            return if let WrongCheck::EverySound = self.0 { SOUND } else { SoundnessFlat(0) };
+            return if let WrongCheck::EverySound = self.0 { Soundness::Sound } else { Soundness::Broken(0) };
         };
         let index = Index::new(&table);
         let broken = |rule: u32| plain::soundness::broken(&index, rule).is_some();
-        let hangul_pair = |r: &Record| {
-            matches!(*r.items, [a, b] if plain::text::hangul_composite(a, b).is_some())
-        };
+        let hangul_pair = |r: &Record| matches!(*r.items, [a, b] if plain::text::hangul_composite(a, b).is_some());
         let judged = |rule: u32| match (self.0, rule) {
             (WrongCheck::EverySound, _) => false,
             (WrongCheck::ValidOneWay, 2) => {
@@ -445,20 +439,22 @@ impl Engine for Checks {
             WrongCheck::HighestRule => (1..=7).rev().find(|&rule| judged(rule)),
             _ => (1..=7).find(|&rule| judged(rule)),
         };
-        rule.map_or(SOUND, SoundnessFlat)
+        rule.map_or(Soundness::Sound, Soundness::Broken)
     }
-    fn unpack(&self, file: &[u8], answer: &mut [u32]) -> UnpackFlat {
+    fn unpack(&self, file: &[u8], answer: &mut [u32]) -> Result<usize, Refusal> {
         let old = answer.to_vec();
         let right = Plain.unpack(file, answer);
         let count = file.get(1..5).map(|b| u32::from_be_bytes([b[0], b[1], b[2], b[3]]));
         let fits = count.is_some_and(|n| file.len() as u64 == 5 + 4 * u64::from(n));
+        let number = right.err().map_or(0, |r| r.number);
         match self.0 {
-            WrongCheck::LengthBeforeVersion if right.refusal == 20 && !fits => UnpackFlat { refusal: 21, count: 0 },
-            WrongCheck::RoomBeforeLength if right.refusal == 21 && count.is_some_and(|n| n as usize > old.len()) => {
-                UnpackFlat { refusal: 22, count: 0 }
+            WrongCheck::LengthBeforeVersion if number == 20 && !fits => refuse(21, 0),
+            WrongCheck::RoomBeforeLength if number == 21 && count.is_some_and(|n| n as usize > old.len()) => {
+                refuse(22, 0)
             }
             WrongCheck::LeavesWords => {
-                answer[right.count as usize..].copy_from_slice(&old[right.count as usize..]);
+                let due = right.unwrap_or(0);
+                answer[due..].copy_from_slice(&old[due..]);
                 right
             }
             _ => right,
@@ -503,8 +499,8 @@ fn errors_met_in_the_field_fail() {
     for (wrong, input) in cases {
         let run = |engine: &dyn Engine| {
             let (mut answer, mut work) = ([5; 9], [5; 2048]);
-            let flat = engine.name(input, &words, &mut answer, &mut work);
-            (flat, answer, work)
+            let given = engine.name(input, &words, &mut answer, &mut work);
+            (given, answer, work)
         };
         assert_eq!(run(&Plain), run(&Assembled(Nothing)), "{wrong:?}");
         assert_ne!(run(&Plain), run(&Assembled(wrong)), "{wrong:?}");

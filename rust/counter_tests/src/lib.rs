@@ -2,7 +2,7 @@
 //! it writes, and runs of the proved one.
 
 use plain::calls::join_labels;
-use plain::{judge_name, parse, unpack, Index, Refusal, Unpacked};
+use plain::{judge_name, parse, unpack, Index, Refusal};
 use std::fs;
 use std::io::{Read, Write};
 use std::path::{Path, PathBuf};
@@ -37,10 +37,7 @@ pub fn read_line(line: &[u8]) -> Option<Vec<u32>> {
 
 /// A name as a line, without its end.
 pub fn hex_line(name: &[u32]) -> String {
-    name.iter()
-        .map(|c| format!("{c:X}"))
-        .collect::<Vec<_>>()
-        .join(" ")
+    name.iter().map(|c| format!("{c:X}")).collect::<Vec<_>>().join(" ")
 }
 
 /// The lines of an input: nothing stands after a final 0A.
@@ -60,7 +57,7 @@ pub fn due(file: Option<&[u8]>, input: &[u8]) -> String {
     let Some(file) = file.filter(|f| f.len() <= FILE) else {
         return bad;
     };
-    let Unpacked::Count(count) = unpack(file, &mut words) else {
+    let Ok(count) = unpack(file, &mut words) else {
         return bad;
     };
     words.truncate(count);
@@ -74,10 +71,7 @@ pub fn due(file: Option<&[u8]>, input: &[u8]) -> String {
         };
         let judged = match &index {
             Some(index) => judge_name(index, &name).map(|labels| join_labels(&labels)),
-            None => Err(Refusal {
-                number: 1,
-                place: 0,
-            }),
+            None => Err(Refusal { number: 1, place: 0 }),
         };
         match judged {
             Ok(answer) if answer.len() > ANSWER => out += "no 15 0\n",
@@ -122,16 +116,9 @@ impl Drop for Folder {
 /// What the proved program writes in a folder, its input coming in pieces.
 pub fn run_in(folder: &Path, pieces: &[&[u8]], pause: Option<Duration>) -> String {
     let program = Path::new(env!("CARGO_MANIFEST_DIR")).join("../../target/bin/counter");
-    assert!(
-        program.exists(),
-        "target/bin/counter is missing: run `rt check counter` first"
-    );
-    let mut child = Command::new(program)
-        .current_dir(folder)
-        .stdin(Stdio::piped())
-        .stdout(Stdio::piped())
-        .spawn()
-        .unwrap();
+    assert!(program.exists(), "target/bin/counter is missing: run `rt check counter` first");
+    let mut child =
+        Command::new(program).current_dir(folder).stdin(Stdio::piped()).stdout(Stdio::piped()).spawn().unwrap();
     let mut input = child.stdin.take().unwrap();
     let mut output = child.stdout.take().unwrap();
     let mut wrote = String::new();
@@ -168,18 +155,12 @@ pub fn run(file: Option<&[u8]>, input: &[u8]) -> String {
     let wrote = run_pieces(file, &[input], None);
     let due = due(file, input);
     if wrote != due {
-        let at = wrote
-            .lines()
-            .zip(due.lines())
-            .take_while(|(a, b)| a == b)
-            .count();
+        let at = wrote.lines().zip(due.lines()).take_while(|(a, b)| a == b).count();
         panic!(
             "line {at} of the output: {:?} in the place of {:?}, for {:?}",
             wrote.lines().nth(at),
             due.lines().nth(at),
-            lines(input)
-                .get(at)
-                .map(|l| String::from_utf8_lossy(l).into_owned())
+            lines(input).get(at).map(|l| String::from_utf8_lossy(l).into_owned())
         );
     }
     wrote

@@ -105,11 +105,7 @@ fn unreadable_lines() {
     for line in lines {
         for end in ["", "\n", "\n61\n"] {
             let input = format!("61\n\n{line}{end}");
-            assert_eq!(
-                run(Some(&file), input.as_bytes()),
-                "ok 61\nok\nbad\n",
-                "{input:?}"
-            );
+            assert_eq!(run(Some(&file), input.as_bytes()), "ok 61\nok\nbad\n", "{input:?}");
         }
     }
     assert_eq!(run(Some(&file), &[0x36, 0x31, 0xFF, 0x0A]), "bad\n");
@@ -127,22 +123,10 @@ fn long_lines() {
     let most = |last: &str| "61 ".repeat(2_730) + last;
     assert_eq!(most("61").len(), LINE);
     assert_eq!(run(Some(&file), most("61").as_bytes()), "no 7 0\nend 1\n");
-    assert_eq!(
-        run(Some(&file), (most("61") + "\n61\n").as_bytes()),
-        "no 7 0\nok 61\nend 2\n"
-    );
+    assert_eq!(run(Some(&file), (most("61") + "\n61\n").as_bytes()), "no 7 0\nok 61\nend 2\n");
     assert_eq!(run(Some(&file), most("610").as_bytes()), "bad\n");
-    assert_eq!(
-        run(Some(&file), (most("610") + "\n61\n").as_bytes()),
-        "bad\n"
-    );
-    assert_eq!(
-        run(
-            Some(&file),
-            ("61\n".to_string() + &most("610") + "\n61\n").as_bytes()
-        ),
-        "ok 61\nbad\n"
-    );
+    assert_eq!(run(Some(&file), (most("610") + "\n61\n").as_bytes()), "bad\n");
+    assert_eq!(run(Some(&file), ("61\n".to_string() + &most("610") + "\n61\n").as_bytes()), "ok 61\nbad\n");
     // The line has no end at all.
     assert_eq!(run(Some(&file), &vec![b'6'; 1 << 20]), "bad\n");
     // As many numbers as a line can hold, and the longest name that is read.
@@ -152,14 +136,8 @@ fn long_lines() {
     run(Some(&file), ignored.trim_end().as_bytes());
     // The longest answer.
     let worked = |n: usize| vec!["61"; n].join(" ");
-    assert_eq!(
-        run(Some(&file), worked(1_024).as_bytes()),
-        format!("ok {}\nend 1\n", worked(1_024))
-    );
-    assert_eq!(
-        run(Some(&file), worked(1_025).as_bytes()),
-        "no 7 0\nend 1\n"
-    );
+    assert_eq!(run(Some(&file), worked(1_024).as_bytes()), format!("ok {}\nend 1\n", worked(1_024)));
+    assert_eq!(run(Some(&file), worked(1_025).as_bytes()), "no 7 0\nend 1\n");
 }
 
 #[test]
@@ -216,11 +194,7 @@ fn two_pieces() {
     let due = due(Some(&file), input);
     for cut in 0..=input.len() {
         let (front, back) = input.split_at(cut);
-        assert_eq!(
-            run_pieces(Some(&file), &[front, back], Some(Duration::from_millis(3))),
-            due,
-            "cut at {cut}"
-        );
+        assert_eq!(run_pieces(Some(&file), &[front, back], Some(Duration::from_millis(3))), due, "cut at {cut}");
     }
 }
 
@@ -229,14 +203,7 @@ fn many_lines() {
     let file = small();
     let mut input = String::new();
     for i in 0..100_000 {
-        input += [
-            "5F 24 41\n",
-            "61 2E 2E 62\n",
-            "\n",
-            "0000061 62 63\n",
-            "FFFFFFFF\n",
-            "61 5F\n",
-        ][i % 6];
+        input += ["5F 24 41\n", "61 2E 2E 62\n", "\n", "0000061 62 63\n", "FFFFFFFF\n", "61 5F\n"][i % 6];
     }
     assert!(run(Some(&file), input.as_bytes()).ends_with("end 100000\n"));
     // Lines of every length across the ends of the pieces that are read.
@@ -289,7 +256,7 @@ fn random_tables_and_names() {
 fn the_stored_table() {
     let file = stored();
     let mut words = vec![0; FILE];
-    plain::unpack(&file, &mut words);
+    plain::unpack(&file, &mut words).expect("a table file");
     words.truncate((file.len() - 5) / 4);
     let b = parse(&words).unwrap().to_builder();
     let mut rng = Rng::new(8);

@@ -2,6 +2,10 @@
 //! the stack that they use. Not a test.
 //! `cargo run --release --offline -p engine --example bench`
 
+#[allow(dead_code)]
+#[path = "../tests/painted/mod.rs"]
+mod painted;
+
 use engine::normal_forms::{nfc, nfd};
 use gen::worst;
 use std::hint::black_box;
@@ -49,12 +53,12 @@ fn compare(what: &str, names: &[Vec<u32>], table: &[u32], times: u32) {
     let per = names.len() as f64;
     let proved = seconds(times, || {
         for n in names {
-            black_box(engine::name(n, table, &mut answer, &mut work));
+            black_box(engine::name(n, table, 0, &mut answer, &mut work));
         }
     }) / per;
     let plain = seconds(times, || {
         for n in names {
-            black_box(plain::name(n, table, &mut answer, &mut work));
+            let _ = black_box(plain::name(n, table, &mut answer, &mut work));
         }
     }) / per;
     println!(
@@ -71,7 +75,7 @@ fn times(full: &[u32], small: &[u32], names: &[Vec<u32>], worst: &[(&str, Vec<u3
     compare("twelve real-looking names, full-size table", names, full, 20);
     compare("twelve real-looking names, names.tab", names, small, 100);
     for (what, name) in worst {
-        let refusal = engine::name(name, full, &mut [0; ROOM], &mut [0; WORK]).number;
+        let refusal = engine::name(name, full, 0, &mut [0; ROOM], &mut [0; WORK]).number;
         let what = format!("{what} (refusal {refusal}), full-size table");
         compare(&what, std::slice::from_ref(name), full, 3);
     }
@@ -82,47 +86,18 @@ fn times(full: &[u32], small: &[u32], names: &[Vec<u32>], worst: &[(&str, Vec<u3
         let plain = seconds(3, || {
             black_box(plain::soundness(table));
         });
-        println!("soundness, {what}: proved {:.1} ms, plain {:.1} ms, ratio {:.0}", proved * 1e3, plain * 1e3, proved / plain);
+        println!(
+            "soundness, {what}: proved {:.1} ms, plain {:.1} ms, ratio {:.0}",
+            proved * 1e3,
+            plain * 1e3,
+            proved / plain
+        );
     }
 }
 
-/// What fills the stack before a call, and how many words of it there are.
-const PAINT: u64 = 0x5041_494E_5441_4C4C;
-const PAINTED: usize = 1 << 17;
-
-/// The bytes of stack that a job uses. It runs on an area of ours that is full
-/// of paint, and the lowest word that is no longer paint is as far as it came.
-/// So this is exact to a word for what is written; words that a call only sets
-/// aside below that one are not seen. The frames of the job itself and of the
-/// Rust wrapper are counted, some hundred bytes: those of an empty job are
-/// printed too.
-fn stack<F: FnMut()>(mut job: F) -> usize {
-    extern "C" fn run<F: FnMut()>(job: *mut F) {
-        // SAFETY: it is the job below, which nothing else uses meanwhile.
-        unsafe { (*job)() }
-    }
-    let call: extern "C" fn(*mut F) = run::<F>;
-    let mut area = vec![PAINT; PAINTED];
-    let top = area.as_mut_ptr_range().end as usize & !15;
-    // SAFETY: the area is ours and far larger than what a call uses, which is
-    // seen below; its end is aligned as a stack has to be before a call; `run`
-    // does not unwind; and the old stack is back before anything else uses it.
-    unsafe {
-        std::arch::asm!(
-            "mov r12, rsp",
-            "mov rsp, {top}",
-            "call {call}",
-            "mov rsp, r12",
-            top = in(reg) top,
-            call = in(reg) call,
-            in("rdi") &mut job,
-            out("r12") _,
-            clobber_abi("C"),
-        );
-    }
-    let deepest = area.iter().position(|&word| word != PAINT).expect("a call uses its stack");
-    assert!(deepest > PAINTED / 2, "the area is too small");
-    top - (area.as_ptr() as usize + 8 * deepest)
+/// The bytes of stack that a job uses; those of an empty job are printed too.
+fn stack(job: impl FnMut()) -> usize {
+    painted::run(job).used
 }
 
 /// The stack of a call that is lent a text, a table and both buffers: the most
@@ -149,8 +124,8 @@ fn stacks(full: &[u32], names: &[Vec<u32>], worst: &[(&str, Vec<u32>)]) {
     texts.push((&[worst::DEEP_TEXT; 4], &deep));
     texts.push((&confused, &wide));
     println!("stack, an empty job: {} bytes", stack(|| ()));
-    lent("name", engine::name, &texts);
-    lent("label", engine::label, &texts);
+    lent("name", |n, t, a, w| engine::name(n, t, 0, a, w), &texts);
+    lent("label", |n, t, a, w| engine::label(n, t, 0, a, w), &texts);
     lent("nfd", nfd, &texts);
     lent("nfc", nfc, &texts);
     let chain = worst::chains(1).to_words();

@@ -4,9 +4,15 @@
 use std::process::ExitCode;
 
 fn main() -> ExitCode {
-    let name: Result<Vec<u32>, _> = std::env::args().skip(1).map(|a| u32::from_str_radix(&a, 16)).collect();
+    let mut words: Vec<String> = std::env::args().skip(1).collect();
+    let restrict = words.first().is_some_and(|a| a == "--restrict");
+    let setting = u32::from(restrict);
+    if restrict {
+        words.remove(0);
+    }
+    let name: Result<Vec<u32>, _> = words.iter().map(|a| u32::from_str_radix(a, 16)).collect();
     let Some(name) = name.ok().filter(|n| !n.is_empty()) else {
-        eprintln!("usage: normalise HEX HEX ..");
+        eprintln!("usage: normalise [--restrict] HEX HEX ..");
         return ExitCode::from(2);
     };
     let path = concat!(env!("CARGO_MANIFEST_DIR"), "/../../data/names.tab");
@@ -17,7 +23,7 @@ fn main() -> ExitCode {
     let table = &words[..unpacked.count];
     let mut answer = [0; 1_024];
     let mut work = [0; 2_048];
-    let r = engine::name(&name, table, &mut answer, &mut work);
+    let r = engine::name(&name, table, setting, &mut answer, &mut work);
     if r.number != 0 {
         println!("no {} {}", r.number, r.place);
         return ExitCode::FAILURE;
@@ -26,7 +32,9 @@ fn main() -> ExitCode {
     println!("ok {}", form.join(" "));
     for label in answer[..r.length].split(|&c| c == 0x2E).filter(|l| !l.is_empty()) {
         let mut part = [0; 1_024];
-        let kind = engine::label(label, table, &mut part, &mut work).kind.expect("a label of an answer is accepted");
+        let kind = engine::label(label, table, setting, &mut part, &mut work)
+            .kind()
+            .expect("a label of an answer is accepted");
         println!("   {kind:?}");
     }
     ExitCode::SUCCESS

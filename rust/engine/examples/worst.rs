@@ -1,52 +1,149 @@
-//! Times one call on each of the worst tables: the name call for refusals 13
-//! and 14, then the soundness check. Not a test.
-//! `cargo run --release --offline -p engine --example worst`
+//! Times the calls on the worst tables: the name call, NFD and NFC on longer
+//! and longer texts, then the soundness check on tables in order and in random
+//! order. Not a test. docs/BOUNDS.md has the walks that they are made for.
+//! `cargo run --release --offline -p engine --example worst [SECONDS [WORDS]]`
+//!
+//! Each job runs in a process of its own, which is ended when it has used the
+//! processor for so many seconds, 60 if they are not given; with WORDS only
+//! those whose names have all of them.
+//! A text is doubled as long as the next one should end in time, up to the
+//! longest within the limits; what that one should take is then told from the
+//! last, in proportion, which is too little only for the ordering of NFD.
 
+use engine::normal_forms::{nfc, nfd};
 use engine::Soundness;
-use gen::worst::{self, Hard, DEEP, LONG};
+use gen::worst::texts::{Call, Long, TEXTS};
+use gen::worst::{in_random_order, Hard, DEEP, LONG};
 use plain::TableBuilder;
-use std::time::Instant;
+use std::io::Read;
+use std::process::{Command, Stdio};
+use std::time::Duration;
 
-fn time(what: &str, name: &[u32], table: TableBuilder) {
-    let table = table.to_words();
-    let (mut answer, mut work) = (vec![0; 1_024], vec![0; 2_048]);
-    let start = Instant::now();
-    let r = engine::name(name, &table, &mut answer, &mut work);
-    println!(
-        "{what}: {} words, {} codepoints, refusal {}, {:.2} s",
-        table.len(),
-        name.len(),
-        r.number,
-        start.elapsed().as_secs_f64()
-    );
+/// What is timed.
+enum Job {
+    Text(&'static Long),
+    Check(&'static Hard, &'static str, fn(TableBuilder) -> TableBuilder),
 }
 
-fn names() {
-    let four = [worst::DEEP_TEXT; 4];
-    time("13, class 0", &four, worst::deep_text(vec![], 0));
-    time("13, a long NSM section, class 0", &four, worst::deep_text(worst::long_nsm(), 0));
-    time("13, a long NSM section, class 230", &four, worst::deep_text(worst::long_nsm(), 230));
-    for count in [16, 1_024] {
-        time("14, a whole of 60,000", &worst::confused(count), worst::wide_whole());
+impl Job {
+    fn name(&self) -> String {
+        match self {
+            Job::Text(long) if long.call == Call::Name => format!("name, {}", long.what),
+            Job::Text(long) => long.what.to_string(),
+            Job::Check(hard, order, _) => format!("soundness, {}{order}", hard.name),
+        }
+    }
+
+    fn run(&self, limit: f64) {
+        match self {
+            Job::Text(long) => texts(long, limit),
+            Job::Check(hard, _, arrange) => check(hard, *arrange),
+        }
+    }
+}
+
+fn jobs() -> Vec<Job> {
+    let checks = LONG.iter().chain(&DEEP).flat_map(|hard| {
+        let same = Job::Check(hard, "", |table| table);
+        [same, Job::Check(hard, ", in random order", in_random_order)]
+    });
+    TEXTS.iter().map(Job::Text).chain(checks).collect()
+}
+
+/// Seconds that the first thread of a process has used the processor, so that
+/// other work on the machine counts little.
+fn used(process: &str) -> f64 {
+    let stat = std::fs::read_to_string(format!("/proc/{process}/schedstat")).unwrap_or_default();
+    let nanoseconds: u64 = stat.split_whitespace().next().and_then(|w| w.parse().ok()).unwrap_or(0);
+    nanoseconds as f64 / 1e9
+}
+
+fn timed<R>(job: impl FnOnce() -> R) -> (R, f64) {
+    let before = used("self");
+    let answer = job();
+    (answer, used("self") - before)
+}
+
+/// The number that the call answers.
+fn call(long: &Long, text: &[u32], table: &[u32], answer: &mut [u32], work: &mut [u32]) -> u32 {
+    match long.call {
+        Call::Name => engine::name(text, table, 0, answer, work).number,
+        Call::Nfd => nfd(text, table, answer, work).number,
+        Call::Nfc => nfc(text, table, answer, work).number,
+    }
+}
+
+/// Longer and longer texts.
+fn texts(long: &Long, limit: f64) {
+    let table = (long.table)().to_words();
+    let mut count = long.first;
+    loop {
+        let text = (long.text)(count);
+        let room = if long.call == Call::Name { 4_096 } else { 256 * count };
+        let (mut answer, mut work) = (vec![0; room], vec![0; room.max(8_192)]);
+        let (number, time) = timed(|| call(long, &text, &table, &mut answer, &mut work));
+        if count == long.first {
+            assert_eq!(number, long.number, "{}", long.what);
+        }
+        let whole = time * long.most as f64 / count as f64;
+        if count == long.most || 4.0 * time > limit {
+            let told = if count == long.most {
+                String::new()
+            } else {
+                format!(", in proportion {whole:.0} s on {}", long.most)
+            };
+            println!("{} words, {count} codepoints, number {number}: {time:.2} s{told}", table.len());
+            return;
+        }
+        count = (2 * count).min(long.most);
     }
 }
 
 /// One soundness check by the proved call and by the plain version.
-fn check(hard: &Hard) {
-    let words = (hard.table)().to_words();
-    let start = Instant::now();
-    let plain = plain::soundness(&words);
-    let plain_time = start.elapsed().as_secs_f64();
-    let start = Instant::now();
-    let answer = engine::soundness(&words);
-    let time = start.elapsed().as_secs_f64();
+fn check(hard: &Hard, arrange: fn(TableBuilder) -> TableBuilder) {
+    let words = arrange((hard.table)()).to_words();
+    let (plain, plain_time) = timed(|| plain::soundness(&words));
+    let (answer, time) = timed(|| engine::soundness(&words));
     let due = if hard.answer == 8 { Soundness::Sound } else { Soundness::Broken(hard.answer) };
     assert_eq!(answer, due, "{}; the plain version: {plain:?}", hard.name);
-    println!("{}: {} words, {answer:?}, proved {time:.2} s, plain {plain_time:.2} s", hard.name, words.len());
+    println!("{} words, {answer:?}: {time:.2} s, plain {plain_time:.2} s", words.len());
+}
+
+/// What the job says that has this number, in a process of its own, or that it
+/// took too long.
+fn bounded(number: usize, limit: u64) -> String {
+    let this = std::env::current_exe().expect("this program");
+    let words = ["--job".to_string(), number.to_string(), limit.to_string()];
+    let mut child = Command::new(this).args(words).stdout(Stdio::piped()).spawn().expect("a process");
+    let process = child.id().to_string();
+    loop {
+        if child.try_wait().expect("its status").is_some() {
+            let mut said = String::new();
+            child.stdout.take().expect("its output").read_to_string(&mut said).expect("text");
+            return said.trim().to_string();
+        }
+        if used(&process) > limit as f64 {
+            child.kill().expect("it runs");
+            child.wait().expect("its status");
+            return format!("over {limit} s");
+        }
+        std::thread::sleep(Duration::from_millis(20));
+    }
 }
 
 fn main() {
-    names();
-    println!("soundness:");
-    LONG.iter().chain(&DEEP).for_each(check);
+    let words: Vec<String> = std::env::args().skip(1).collect();
+    let number = |at: usize| words.get(at).and_then(|w| w.parse::<u64>().ok());
+    if words.first().is_some_and(|w| w == "--job") {
+        let (job, limit) = (number(1).expect("a job"), number(2).expect("seconds"));
+        return jobs()[job as usize].run(limit as f64);
+    }
+    let limit = number(0).unwrap_or(60);
+    let wanted = words.get(1..).unwrap_or_default();
+    for (i, job) in jobs().iter().enumerate() {
+        let name = job.name();
+        if wanted.iter().all(|w| name.contains(w.as_str())) {
+            println!("{name}: {}", bounded(i, limit));
+        }
+    }
 }

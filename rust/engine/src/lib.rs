@@ -1,15 +1,23 @@
 //! Safe calls of the proved library. That the declarations of `raw` fit the
 //! archives is all that is assumed here: everything behind them is proved, for
-//! every input. `Unpacked`, `Name` and `normal_forms::Form` are what the
-//! exports answer, field for field.
+//! every input. What a call answers has the fields that include/wanlopheng.h
+//! declares; `answer` gives the same as a `Result`.
+
+#![no_std]
 
 pub mod normal_forms;
 mod raw;
 
-/// The Rust program of docs/USING.md, run by the tests.
-#[cfg(doctest)]
-#[doc = include_str!("../../../docs/USING.md")]
-struct Guide;
+pub use answers::{Kind, Refusal, Soundness};
+pub use raw::{Checked, Label};
+
+/// What was found, or the refusal of this number where it is not 0.
+fn unless<T>(number: u32, place: usize, found: T) -> Result<T, Refusal> {
+    match number {
+        0 => Ok(found),
+        _ => Err(Refusal::new(number, place)),
+    }
+}
 
 /// What unpacking answers. `number` is 0, or 20, 21 or 22 for a refusal;
 /// beside a refusal `count` is 0.
@@ -18,6 +26,13 @@ struct Guide;
 pub struct Unpacked {
     pub number: u32,
     pub count: usize,
+}
+
+impl Unpacked {
+    /// The number of words, or the refusal.
+    pub fn answer(self) -> Result<usize, Refusal> {
+        unless(self.number, 0, self.count)
+    }
 }
 
 /// Unpacks a table file. Words past the table are zero; after a refusal all
@@ -42,54 +57,47 @@ pub struct Name {
     pub labels: usize,
 }
 
-/// What a label consists of.
-#[derive(Clone, Copy, Debug, PartialEq, Eq)]
-pub enum Kind {
-    Emoji,
-    Ascii,
-    Group { number: usize, restricted: bool },
+impl Name {
+    /// Length and labels, or the refusal.
+    pub fn answer(self) -> Result<answers::Name, Refusal> {
+        unless(self.number, self.place, answers::Name { length: self.length, labels: self.labels })
+    }
 }
 
-/// What the label call answers. `number` is 0, or the number of the refusal;
-/// beside a refusal `length` is 0 and there is no kind.
-#[derive(Clone, Copy, Debug, PartialEq, Eq)]
-pub struct Label {
-    pub number: u32,
-    pub place: usize,
-    pub length: usize,
-    pub kind: Option<Kind>,
+impl Label {
+    /// The kind; `None` beside a refusal.
+    pub fn kind(self) -> Option<Kind> {
+        match self.kind {
+            1 => Some(Kind::Emoji),
+            2 => Some(Kind::Ascii),
+            3 => Some(Kind::Group { number: self.group, restricted: self.restricted != 0 }),
+            _ => None,
+        }
+    }
+
+    /// Length and kind, or the refusal.
+    pub fn answer(self) -> Result<answers::Label, Refusal> {
+        unless(self.number, self.place, self.length)
+            .map(|length| answers::Label { length, kind: self.kind().expect("an accepted label has a kind") })
+    }
 }
 
 /// Normalises a name. After success `answer` holds the normal form and then
-/// zeros, after a refusal zeros; `work` holds zeros either way.
-pub fn name(input: &[u32], table: &[u32], answer: &mut [u32], work: &mut [u32]) -> Name {
-    raw::name(input, table, answer, work)
+/// zeros, after a refusal zeros; `work` holds zeros either way. With a setting
+/// other than 0, labels of restricted groups are refused as 17.
+pub fn name(input: &[u32], table: &[u32], setting: u32, answer: &mut [u32], work: &mut [u32]) -> Name {
+    raw::name(input, table, setting, answer, work)
 }
 
-/// Normalises one label; the buffers as for a name.
-pub fn label(input: &[u32], table: &[u32], answer: &mut [u32], work: &mut [u32]) -> Label {
-    let raw::Label { number, place, length, kind, group, restricted } = raw::label(input, table, answer, work);
-    let kind = match kind {
-        1 => Some(Kind::Emoji),
-        2 => Some(Kind::Ascii),
-        3 => Some(Kind::Group { number: group, restricted: restricted != 0 }),
-        _ => None,
-    };
-    Label { number, place, length, kind }
-}
-
-/// What the soundness check answers.
-#[derive(Clone, Copy, Debug, PartialEq, Eq)]
-pub enum Soundness {
-    Sound,
-    /// The lowest broken rule, 0 for a layout fault.
-    Broken(u32),
+/// Normalises one label; the setting and the buffers as for a name.
+pub fn label(input: &[u32], table: &[u32], setting: u32, answer: &mut [u32], work: &mut [u32]) -> Label {
+    raw::label(input, table, setting, answer, work)
 }
 
 /// Checks the words of a table for soundness.
 pub fn soundness(words: &[u32]) -> Soundness {
     match raw::soundness(words) {
-        8 => Soundness::Sound,
-        rule => Soundness::Broken(rule),
+        Checked { sound: 0, rule } => Soundness::Broken(rule),
+        _ => Soundness::Sound,
     }
 }

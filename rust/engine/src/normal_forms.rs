@@ -3,7 +3,7 @@
 use crate::raw;
 
 /// What a call answers, as include/wanlopheng.h declares it. `number` is 0, or
-/// 1, 2, 3 or 15 for a refusal; beside a refusal `length` is 0.
+/// 1, 50, 51 or 52 for a refusal; beside a refusal `length` is 0.
 #[repr(C)]
 #[derive(Clone, Copy, Debug, PartialEq, Eq)]
 pub struct Form {

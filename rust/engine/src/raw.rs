@@ -4,7 +4,11 @@
 use crate::normal_forms::Form;
 use crate::{Name, Unpacked};
 
+/// What the label call answers. `number` is 0, or the number of the refusal,
+/// with zeros beside it; `kind` is 1 for emoji, 2 for ASCII, 3 for a group,
+/// which alone has `group`, its number from 0, and `restricted`, 0 or 1.
 #[repr(C)]
+#[derive(Clone, Copy, Debug, PartialEq, Eq)]
 pub struct Label {
     pub number: u32,
     pub place: usize,
@@ -14,16 +18,26 @@ pub struct Label {
     pub restricted: u32,
 }
 
+/// What the soundness check answers: `sound` is 1 or 0, `rule` the lowest
+/// broken rule, 0 for a layout fault and where the table is sound.
+#[repr(C)]
+#[derive(Clone, Copy, Debug, PartialEq, Eq)]
+pub struct Checked {
+    pub sound: u32,
+    pub rule: u32,
+}
+
 /// Declares an export that is lent an input, a table, an answer buffer and a
-/// work area, and the safe call of it.
+/// work area, with or without a setting, and the safe call of it.
 macro_rules! lent {
-    ($export:ident, $call:ident -> $answer:ty) => {
+    ($export:ident, $call:ident($($setting:ident)?) -> $answer:ty) => {
         extern "C" {
             fn $export(
                 input: *const u32,
                 input_length: usize,
                 words: *const u32,
                 words_length: usize,
+                $($setting: u32,)?
                 answer: *mut u32,
                 answer_length: usize,
                 work: *mut u32,
@@ -31,7 +45,7 @@ macro_rules! lent {
             ) -> $answer;
         }
 
-        pub fn $call(input: &[u32], words: &[u32], answer: &mut [u32], work: &mut [u32]) -> $answer {
+        pub fn $call(input: &[u32], words: &[u32], $($setting: u32,)? answer: &mut [u32], work: &mut [u32]) -> $answer {
             // SAFETY: the four slices are lent for the call, each with its own length.
             unsafe {
                 $export(
@@ -39,6 +53,7 @@ macro_rules! lent {
                     input.len(),
                     words.as_ptr(),
                     words.len(),
+                    $($setting,)?
                     answer.as_mut_ptr(),
                     answer.len(),
                     work.as_mut_ptr(),
@@ -49,14 +64,14 @@ macro_rules! lent {
     };
 }
 
-lent!(wanlopheng_name, name -> Name);
-lent!(wanlopheng_label, label -> Label);
-lent!(wanlopheng_nfd, nfd -> Form);
-lent!(wanlopheng_nfc, nfc -> Form);
+lent!(wanlopheng_name, name(setting) -> Name);
+lent!(wanlopheng_label, label(setting) -> Label);
+lent!(wanlopheng_nfd, nfd() -> Form);
+lent!(wanlopheng_nfc, nfc() -> Form);
 
 extern "C" {
     fn wanlopheng_unpack(file: *const u8, file_length: usize, answer: *mut u32, answer_length: usize) -> Unpacked;
-    fn wanlopheng_soundness(words: *const u32, words_length: usize) -> u32;
+    fn wanlopheng_soundness(words: *const u32, words_length: usize) -> Checked;
     fn wanlopheng_layout_fault(words: *const u32, words_length: usize) -> u32;
 }
 
@@ -65,7 +80,7 @@ pub fn unpack(file: &[u8], answer: &mut [u32]) -> Unpacked {
     unsafe { wanlopheng_unpack(file.as_ptr(), file.len(), answer.as_mut_ptr(), answer.len()) }
 }
 
-pub fn soundness(words: &[u32]) -> u32 {
+pub fn soundness(words: &[u32]) -> Checked {
     // SAFETY: the slice is lent for the call, with its length.
     unsafe { wanlopheng_soundness(words.as_ptr(), words.len()) }
 }

@@ -3,6 +3,7 @@
 mod proved;
 
 use compare::{check_again, check_joining, compare, Engine, Plain, Settings};
+use engine::Soundness;
 use gen::worst::DEEP;
 use proved::Proved;
 
@@ -40,7 +41,7 @@ fn cases_on_both_tables() {
 #[test]
 fn both_tables_are_sound() {
     for made in [standin::full(), standin::names()] {
-        assert_eq!(engine::soundness(&made.words), engine::Soundness::Sound);
+        assert_eq!(engine::soundness(&made.words), Soundness::Sound);
     }
 }
 
@@ -51,7 +52,7 @@ fn errors_met_in_the_field() {
     let words = gen::small_table().to_words();
     let (mut answer, mut work) = ([7; 9], [7; 2_048]);
     let mut call = |name: &[u32]| {
-        let r = engine::name(name, &words, &mut answer, &mut work);
+        let r = engine::name(name, &words, 0, &mut answer, &mut work);
         assert!(work.iter().all(|&w| w == 0));
         (r.number, r.place, answer)
     };
@@ -80,6 +81,7 @@ fn errors_met_in_the_field() {
 fn soundness_of_deep_tables() {
     standin::shards::on_all_processors(DEEP.len(), |i| {
         let hard = &DEEP[i];
-        assert_eq!(Proved.soundness(&(hard.table)().to_words()).0, hard.answer, "{}", hard.name);
+        let due = if hard.answer == 8 { Soundness::Sound } else { Soundness::Broken(hard.answer) };
+        assert_eq!(Proved.soundness(&(hard.table)().to_words()), due, "{}", hard.name);
     });
 }

@@ -19,8 +19,8 @@ static int forms(void) {
     answer[1] = answer[2] = work[1] = 7;
     if (other(wanlopheng_nfc(text, 1, table, 20, answer, 3, work, 2), 0, 1)) return 13;
     if (answer[0] != 0xE0 || answer[1] != 0 || answer[2] != 0 || work[0] != 0 || work[1] != 0) return 14;
-    if (other(wanlopheng_nfd(text, 1, table, 20, answer, 1, work, 2), 15, 0) || answer[0] != 0) return 15;
-    if (other(wanlopheng_nfc(text, 1, table, 20, answer, 1, work, 1), 2, 0)) return 16;
+    if (other(wanlopheng_nfd(text, 1, table, 20, answer, 1, work, 2), 52, 0) || answer[0] != 0) return 15;
+    if (other(wanlopheng_nfc(text, 1, table, 20, answer, 1, work, 1), 51, 0)) return 16;
     if (other(wanlopheng_nfc(text, 1, table, 19, answer, 3, work, 2), 1, 0)) return 17;
     return 0;
 }
@@ -29,19 +29,39 @@ static int forms(void) {
 static int calls(void) {
     const uint32_t table[] = {2, 0x61, 0x61, 0, 0, 0, 0, 3, 0x41, 1, 0x61, 0, 0, 1, 0, 0, 4, 1, 2, 0x61, 0x61, 0};
     const uint32_t name[] = {0x41, 0x2E, 0x61, 0x41};
-    uint32_t answer[6] = {7, 7, 7, 7, 7, 7}, work[2048];
+    uint32_t answer[6] = {7, 7, 7, 7, 7, 7}, work[WANLOPHENG_WORK_WORDS];
     for (size_t i = 0; i < 2048; i++) work[i] = 7;
-    struct wanlopheng_name r = wanlopheng_name(name, 4, table, 22, answer, 6, work, 2048);
+    struct wanlopheng_name r = wanlopheng_name(name, 4, table, 22, 0, answer, 6, work, 2048);
     if (r.number != 0 || r.place != 0 || r.length != 4 || r.labels != 2) return 21;
     if (answer[0] != 0x61 || answer[1] != 0x2E || answer[2] != 0x61 || answer[3] != 0x61 || answer[4] || answer[5]) return 22;
     for (size_t i = 0; i < 2048; i++) if (work[i] != 0) return 23;
-    r = wanlopheng_name(name, 4, table, 22, answer, 3, work, 2048);
-    if (r.number != 15 || r.place != 0 || r.length != 0 || r.labels != 0 || answer[0] || answer[1] || answer[2]) return 24;
-    struct wanlopheng_label l = wanlopheng_label(name, 1, table, 22, answer, 6, work, 2048);
-    if (l.number != 0 || l.length != 1 || l.kind != 2 || l.group != 0 || l.restricted != 0 || answer[0] != 0x61) return 25;
-    l = wanlopheng_label(name, 4, table, 22, answer, 6, work, 2048);
+    r = wanlopheng_name(name, 4, table, 22, 0, answer, 3, work, 2048);
+    if (r.number != WANLOPHENG_ANSWER_TOO_SMALL || r.place != 0 || r.length != 0 || r.labels != 0 || answer[0] || answer[1] || answer[2]) return 24;
+    struct wanlopheng_label l = wanlopheng_label(name, 1, table, 22, 0, answer, 6, work, 2048);
+    if (l.number != 0 || l.length != 1 || l.kind != WANLOPHENG_ASCII || l.group != 0 || l.restricted != 0 || answer[0] != 0x61) return 25;
+    l = wanlopheng_label(name, 4, table, 22, 0, answer, 6, work, 2048);
     if (l.number != 5 || l.place != 1 || l.length != 0 || l.kind != 0 || answer[0] != 0) return 26;
-    if (wanlopheng_soundness(table, 22) != 8 || wanlopheng_soundness(table, 21) != 0) return 27;
+    struct wanlopheng_soundness sound = wanlopheng_soundness(table, 22), fault = wanlopheng_soundness(table, 21);
+    if (sound.sound != 1 || sound.rule != 0 || fault.sound != 0 || fault.rule != 0) return 27;
+    return 0;
+}
+
+/* A label of a restricted group whose number is neither 0 nor 1, so that no two fields of the answer are equal; and its last
+ * codepoint refused. */
+static int fields(void) {
+    const uint32_t table[] = {2, 0x13A0, 0x13A1, 0, 0, 0, 0, 0, 0, 0, 1, 0, 0, 12, 0, 0, 0, 0, 0, 0, 0, 0, 1, 2, 0x13A0, 0x13A1, 0};
+    const size_t words = sizeof table / sizeof table[0];
+    const uint32_t label[] = {0x13A0, 0x13A1, 0x62};
+    uint32_t answer[2] = {7, 7}, work[2048] = {7};
+    struct wanlopheng_label l = wanlopheng_label(label, 2, table, words, 0, answer, 2, work, 2048);
+    if (l.number != 0 || l.place != 0 || l.length != 2 || l.kind != WANLOPHENG_GROUP || l.group != 4 || l.restricted != 1) return 31;
+    if (answer[0] != 0x13A0 || answer[1] != 0x13A1 || work[0] != 0) return 32;
+    l = wanlopheng_label(label, 3, table, words, 0, answer, 2, work, 2048);
+    if (l.number != 5 || l.place != 2 || l.length != 0 || l.kind != 0 || l.group != 0 || l.restricted != 0) return 33;
+    l = wanlopheng_label(label, 2, table, words, 2, answer, 2, work, 2048);
+    if (l.number != 17 || l.place != 0 || l.length != 0 || l.kind != 0 || answer[0] != 0) return 35;
+    struct wanlopheng_name r = wanlopheng_name(label, 3, table, words, 0, answer, 2, work, 2048);
+    if (r.number != 5 || r.place != 2 || r.length != 0 || r.labels != 0) return 34;
     return 0;
 }
 
@@ -59,5 +79,6 @@ int main(void) {
     if (wanlopheng_layout_fault(table, 13) != 0) return 7;
     if (wanlopheng_layout_fault(table, 12) != 1) return 8;
     int failed = calls();
+    if (failed == 0) failed = fields();
     return failed != 0 ? failed : forms();
 }

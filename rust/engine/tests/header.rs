@@ -1,6 +1,10 @@
-//! include/wanlopheng.h, compiled as C and linked to the proved libraries; and
-//! the C program of docs/USING.md, as it stands there.
+//! include/wanlopheng.h, compiled as C and linked to the proved libraries; its
+//! structs beside those of the wrapper; and the C program of docs/USING.md, as
+//! it stands there.
 
+use engine::normal_forms::Form;
+use engine::{Checked, Label, Name, Unpacked};
+use std::mem::{offset_of, size_of};
 use std::path::{Path, PathBuf};
 use std::process::{Command, Output};
 
@@ -30,6 +34,46 @@ fn run(source: &Path, name: &str) -> Output {
 fn c_calls_the_library_through_its_header() {
     let source = Path::new(env!("CARGO_MANIFEST_DIR")).join("tests/header.c");
     assert_eq!(run(&source, "header").status.code(), Some(0), "the place that differs");
+}
+
+/// The size of the field that is read so.
+fn size_of_field<S, F>(_: fn(&S) -> &F) -> usize {
+    size_of::<F>()
+}
+
+/// The lines that structs.c writes for a struct, by the wrapper's.
+macro_rules! lines {
+    ($name:literal, $struct:ty: $($field:ident),+) => {
+        vec![
+            format!("{} {}", $name, size_of::<$struct>()),
+            $(format!(
+                "{}.{} {} {}",
+                $name,
+                stringify!($field),
+                offset_of!($struct, $field),
+                size_of_field(|s: &$struct| &s.$field)
+            ),)+
+        ]
+    };
+}
+
+#[test]
+fn structs_of_c_and_of_the_wrapper() {
+    let due = [
+        lines!("wanlopheng_unpack", Unpacked: number, count),
+        lines!("wanlopheng_name", Name: number, place, length, labels),
+        lines!("wanlopheng_label", Label: number, place, length, kind, group, restricted),
+        lines!("wanlopheng_soundness", Checked: sound, rule),
+        lines!("wanlopheng_form", Form: number, length),
+    ];
+    let ran = run(&Path::new(env!("CARGO_MANIFEST_DIR")).join("tests/structs.c"), "structs");
+    let written = String::from_utf8(ran.stdout).expect("text");
+    assert_eq!(written.lines().collect::<Vec<_>>(), due.concat());
+
+    // No struct of the header is left out.
+    let header = std::fs::read_to_string(root().join("include/wanlopheng.h")).expect("the header");
+    let declared = header.lines().filter(|line| line.starts_with("struct ") && line.ends_with('{'));
+    assert_eq!(declared.count(), due.len());
 }
 
 #[test]

@@ -7,9 +7,7 @@ use plain::{parse, TableBuilder};
 
 /// Twelve empty sections, exclusions with its one record.
 fn empty() -> Vec<Vec<u32>> {
-    (0..12)
-        .map(|i| if i == 8 { vec![0] } else { vec![] })
-        .collect()
+    (0..12).map(|i| if i == 8 { vec![0] } else { vec![] }).collect()
 }
 
 /// The sections above, with this one in its place.
@@ -22,12 +20,7 @@ fn with(place: usize, section: &[u32]) -> Vec<u32> {
 /// The same answer as the plain version gives, which is returned.
 fn fault(words: &[u32]) -> bool {
     let expected = parse(words).is_none();
-    assert_eq!(
-        layout_fault(words),
-        expected,
-        "{:?}",
-        &words[..words.len().min(40)]
-    );
+    assert_eq!(layout_fault(words), expected, "{:?}", &words[..words.len().min(40)]);
     expected
 }
 
@@ -135,11 +128,7 @@ fn damaged_tables_as_the_plain_version() {
     let mut seen = [0; 2];
     let small: TableBuilder = small_table();
     for turn in 0..20_000 {
-        let mut words = if turn % 10 == 0 {
-            gen::table(&mut rng).words
-        } else {
-            small.to_words()
-        };
+        let mut words = if turn % 10 == 0 { gen::table(&mut rng).words } else { small.to_words() };
         for _ in 0..rng.below(3) {
             if !words.is_empty() {
                 damage(&mut rng, &mut words);
@@ -147,8 +136,5 @@ fn damaged_tables_as_the_plain_version() {
         }
         seen[usize::from(fault(&words))] += 1;
     }
-    assert!(
-        seen.iter().all(|&n| n > 1000),
-        "both answers are met often: {seen:?}"
-    );
+    assert!(seen.iter().all(|&n| n > 1000), "both answers are met often: {seen:?}");
 }

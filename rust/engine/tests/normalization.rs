@@ -35,15 +35,11 @@ fn run(call: Call, text: &[u32], words: &[u32], room: usize, work: usize) -> (Fo
 
 /// What the call has to answer, by the plain version: `decomposed` is the
 /// length of the full decomposition.
-fn expected(
-    form: &[u32],
-    decomposed: usize,
-    room: usize,
-    work: usize,
-) -> (Form, Vec<u32>, Vec<u32>) {
+fn expected(form: &[u32], decomposed: usize, room: usize, work: usize) -> (Form, Vec<u32>, Vec<u32>) {
     let number = match () {
-        _ if decomposed > work => 2,
-        _ if decomposed > room => 15,
+        _ if decomposed > plain::limits::WORKED => 50,
+        _ if decomposed > work => 51,
+        _ if decomposed > room => 52,
         _ => 0,
     };
     let mut answer = if number == 0 { form.to_vec() } else { vec![] };
@@ -57,14 +53,8 @@ fn compare(text: &[u32], words: &[u32], room: usize, work: usize) -> u32 {
     let table = plain::parse(words);
     let Some(table) = table else {
         for call in [nfd as Call, nfc] {
-            let refused = Form {
-                number: 1,
-                length: 0,
-            };
-            assert_eq!(
-                run(call, text, words, room, work),
-                (refused, vec![0; room], vec![0; work])
-            );
+            let refused = Form { number: 1, length: 0 };
+            assert_eq!(run(call, text, words, room, work), (refused, vec![0; room], vec![0; work]));
         }
         return 1;
     };
@@ -72,34 +62,16 @@ fn compare(text: &[u32], words: &[u32], room: usize, work: usize) -> u32 {
     let decomposed = plain::text::four_rounds(&index, text).len();
     let (d, c) = (plain::nfd(&index, text), plain::nfc(&index, text));
     let due = expected(&d, decomposed, room, work);
-    assert_eq!(
-        run(nfd, text, words, room, work),
-        due,
-        "NFD of {text:X?}, {room}, {work}"
-    );
+    assert_eq!(run(nfd, text, words, room, work), due, "NFD of {text:X?}, {room}, {work}");
     let due = expected(&c, decomposed, room, work);
-    assert_eq!(
-        run(nfc, text, words, room, work),
-        due,
-        "NFC of {text:X?}, {room}, {work}"
-    );
+    assert_eq!(run(nfc, text, words, room, work), due, "NFC of {text:X?}, {room}, {work}");
     due.0.number
 }
 
 /// What texts over a table are made of.
 fn vocabulary(b: &TableBuilder) -> Vec<u32> {
     let mut all = vec![0x41, 0x1100, 0x1112, 0x1161, 0x1175, 0x11A7, 0x11A8, 0x11C2];
-    all.extend([
-        0xAC00,
-        0xAC01,
-        0xAC1C,
-        0xD788,
-        0xD7A3,
-        0xD7A4,
-        0xD800,
-        0x110000,
-        u32::MAX,
-    ]);
+    all.extend([0xAC00, 0xAC01, 0xAC1C, 0xD788, 0xD7A3, 0xD7A4, 0xD800, 0x110000, u32::MAX]);
     for (head, items) in &b.decompositions {
         all.push(*head);
         all.extend(items);
@@ -126,7 +98,7 @@ fn text(rng: &mut Rng, of: &[u32], b: &TableBuilder) -> Vec<u32> {
 #[test]
 fn random_texts_as_the_plain_version() {
     let mut rng = Rng::new(0x666F_726D_73);
-    let mut seen = [0; 16];
+    let mut seen = [0; 53];
     for _ in 0..2_000 {
         let made = gen::table(&mut rng);
         let of = vocabulary(&made.builder);
@@ -139,7 +111,7 @@ fn random_texts_as_the_plain_version() {
         }
     }
     println!("random texts, by the refusal number: {seen:?}");
-    for number in [0, 1, 2, 15] {
+    for number in [0, 1, 51, 52] {
         assert!(seen[number] > 1_000, "{number} is met often: {seen:?}");
     }
 }
@@ -156,7 +128,7 @@ fn buffers_of_every_size() {
         &[0x1F82, 0x1F82, 0x315],
         &[0x300, 0x41, 0x30A, 0x212B, 0x958, 0x323, 0x307],
     ];
-    let mut seen = [0; 16];
+    let mut seen = [0; 53];
     for text in texts {
         for room in 0..24 {
             for work in 0..24 {
@@ -164,32 +136,41 @@ fn buffers_of_every_size() {
             }
         }
     }
-    assert!(
-        [0, 2, 15].iter().all(|&number| seen[number] > 50),
-        "{seen:?}"
-    );
+    assert!([0, 51, 52].iter().all(|&number| seen[number] > 50), "{seen:?}");
 }
 
 /// One codepoint becomes 256 in four rounds, and no more in a fifth.
 #[test]
 fn the_most_that_four_rounds_make() {
-    let b = TableBuilder {
-        decompositions: vec![(0x41, vec![0x41; 4])],
-        ..TableBuilder::default()
-    };
+    let b = TableBuilder { decompositions: vec![(0x41, vec![0x41; 4])], ..TableBuilder::default() };
     let words = b.to_words();
     for text in [&[0x41][..], &[0x41; 3], &[0x42, 0x41, 0x42]] {
-        let length = 256 * text.iter().filter(|&&c| c == 0x41).count()
-            + text.iter().filter(|&&c| c != 0x41).count();
+        let length = 256 * text.iter().filter(|&&c| c == 0x41).count() + text.iter().filter(|&&c| c != 0x41).count();
         for (room, work, number) in [
             (length, length, 0),
             (length + 9, length + 1, 0),
-            (length - 1, length, 15),
-            (length, length - 1, 2),
-            (length - 1, length - 1, 2),
-            (0, length, 15),
+            (length - 1, length, 52),
+            (length, length - 1, 51),
+            (length - 1, length - 1, 51),
+            (0, length, 52),
         ] {
             assert_eq!(compare(text, &words, room, work), number);
+        }
+    }
+}
+
+/// The worked limit: a full decomposition of 1,024 codepoints passes, one of
+/// 1,025 is refused, whatever the buffers are and however long the text is.
+#[test]
+fn the_worked_limit() {
+    let b = TableBuilder { decompositions: vec![(0x41, vec![0x41; 4])], ..TableBuilder::default() };
+    let words = b.to_words();
+    let most = plain::limits::WORKED;
+    assert_eq!(compare(&[0x41; 4], &words, most, most), 0);
+    assert_eq!(compare(&vec![0x42; most], &words, most, most), 0);
+    for text in [vec![0x41, 0x41, 0x41, 0x41, 0x42], vec![0x42; most + 1], vec![0x42; 100_000], vec![0x41; 9]] {
+        for (room, work) in [(100_000, 100_000), (0, 100_000), (100_000, 0), (0, 0)] {
+            assert_eq!(compare(&text, &words, room, work), 50);
         }
     }
 }

@@ -15,11 +15,7 @@ fn run(file: &[u8], room: usize) -> (Unpacked, Vec<u32>) {
 /// The file is refused with this number, whatever the room.
 fn refused(number: u32, file: &[u8]) {
     for room in [0, 1, 2, 5, 40] {
-        assert_eq!(
-            run(file, room),
-            (Unpacked { number, count: 0 }, vec![0; room]),
-            "{file:?}, room {room}"
-        );
+        assert_eq!(run(file, room), (Unpacked { number, count: 0 }, vec![0; room]), "{file:?}, room {room}");
     }
 }
 
@@ -27,17 +23,7 @@ fn refused(number: u32, file: &[u8]) {
 fn given(words: &[u32], file: &[u8], room: usize) {
     let mut answer = words.to_vec();
     answer.resize(room, 0);
-    assert_eq!(
-        run(file, room),
-        (
-            Unpacked {
-                number: 0,
-                count: words.len()
-            },
-            answer
-        ),
-        "{file:?}, room {room}"
-    );
+    assert_eq!(run(file, room), (Unpacked { number: 0, count: words.len() }, answer), "{file:?}, room {room}");
 }
 
 /// A file with this version and this count, and these bytes behind them.
@@ -111,16 +97,7 @@ fn the_first_byte_of_a_word_is_the_highest() {
 fn a_buffer_too_small_by_one() {
     for words in [1, 2, 30] {
         let file = plain::pack(&vec![5; words]);
-        assert_eq!(
-            run(&file, words - 1),
-            (
-                Unpacked {
-                    number: 22,
-                    count: 0
-                },
-                vec![0; words - 1]
-            )
-        );
+        assert_eq!(run(&file, words - 1), (Unpacked { number: 22, count: 0 }, vec![0; words - 1]));
     }
 }
 
@@ -143,21 +120,11 @@ fn random_files_as_the_plain_version() {
         let (file, room) = gen::file(&mut rng, &words);
         let mut answer: Vec<u32> = (0..room).map(mark).collect();
         let expected = match plain::unpack(&file, &mut answer) {
-            plain::Unpacked::Count(count) => Unpacked { number: 0, count },
-            plain::Unpacked::Refused(number) => Unpacked { number, count: 0 },
+            Ok(count) => Unpacked { number: 0, count },
+            Err(refusal) => Unpacked { number: refusal.number, count: 0 },
         };
-        assert_eq!(
-            run(&file, room),
-            (expected, answer),
-            "{file:?}, room {room}"
-        );
-        seen[[0, 20, 21, 22]
-            .iter()
-            .position(|&n| n == expected.number)
-            .unwrap()] += 1;
+        assert_eq!(run(&file, room), (expected, answer), "{file:?}, room {room}");
+        seen[[0, 20, 21, 22].iter().position(|&n| n == expected.number).unwrap()] += 1;
     }
-    assert!(
-        seen.iter().all(|&n| n > 1000),
-        "each answer is met often: {seen:?}"
-    );
+    assert!(seen.iter().all(|&n| n > 1000), "each answer is met often: {seen:?}");
 }

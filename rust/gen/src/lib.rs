@@ -1,11 +1,15 @@
 //! Seeded generators of tables sound and unsound, of names that use what a
 //! table has, and of table files. The same seed gives the same things.
 
+mod damage;
+mod draft;
 pub mod files;
 pub mod names;
+mod pools;
 pub mod rng;
 pub mod small;
 pub mod tables;
+mod unsound;
 pub mod worst;
 
 pub use files::file;

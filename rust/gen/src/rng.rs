@@ -15,7 +15,7 @@ impl Rng {
         };
         Rng([next(), next(), next(), next()])
     }
-    pub fn next(&mut self) -> u64 {
+    pub fn long(&mut self) -> u64 {
         let s = &mut self.0;
         let result = s[1].wrapping_mul(5).rotate_left(7).wrapping_mul(9);
         let t = s[1] << 17;
@@ -28,11 +28,11 @@ impl Rng {
         result
     }
     pub fn word(&mut self) -> u32 {
-        (self.next() >> 32) as u32
+        (self.long() >> 32) as u32
     }
     /// A number under `n`, which is not 0.
     pub fn below(&mut self, n: usize) -> usize {
-        (self.next() % n as u64) as usize
+        (self.long() % n as u64) as usize
     }
     /// A number from `low` to `high`, both included.
     pub fn between(&mut self, low: usize, high: usize) -> usize {
@@ -40,7 +40,7 @@ impl Rng {
     }
     /// A codepoint from `low` to `high`, both included.
     pub fn code(&mut self, low: u32, high: u32) -> u32 {
-        low + (self.next() % (u64::from(high) - u64::from(low) + 1)) as u32
+        low + (self.long() % (u64::from(high) - u64::from(low) + 1)) as u32
     }
     /// True in `n` of 100 cases.
     pub fn percent(&mut self, n: usize) -> bool {
@@ -49,6 +49,11 @@ impl Rng {
     /// One of these, which are not none.
     pub fn pick<'a, T>(&mut self, of: &'a [T]) -> &'a T {
         &of[self.below(of.len())]
+    }
+    /// One of these to be changed, likewise.
+    pub fn pick_mut<'a, T>(&mut self, of: &'a mut [T]) -> &'a mut T {
+        let at = self.below(of.len());
+        &mut of[at]
     }
     pub fn shuffle<T>(&mut self, of: &mut [T]) {
         for i in (1..of.len()).rev() {

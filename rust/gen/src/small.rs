@@ -3,13 +3,13 @@
 
 use plain::TableBuilder;
 
-pub const LATIN: u32 = 0;
-pub const GREEK: u32 = 1;
-pub const CYRILLIC: u32 = 2;
-pub const ARABIC: u32 = 3;
-pub const EGYPTIAN: u32 = 4;
-pub const WHITELISTED: u32 = 5;
-pub const KOREAN: u32 = 6;
+pub const LATIN: usize = 0;
+pub const GREEK: usize = 1;
+pub const CYRILLIC: usize = 2;
+pub const ARABIC: usize = 3;
+pub const EGYPTIAN: usize = 4;
+pub const WHITELISTED: usize = 5;
+pub const KOREAN: usize = 6;
 
 pub fn small_table() -> TableBuilder {
     // Digits, hyphen, low line and fenced characters are common.
@@ -32,11 +32,7 @@ pub fn small_table() -> TableBuilder {
         marks: vec![(0x300, 0x303), (0x610, 0x614), one(0x655)],
         nsm: vec![(0x300, 0x303), (0x610, 0x614), one(0x655)],
         mapped,
-        decompositions: vec![
-            (0xE0, vec![0x61, 0x300]),
-            (0x1EBD, vec![0x65, 0x303]),
-            (0x625, vec![0x627, 0x655]),
-        ],
+        decompositions: vec![(0xE0, vec![0x61, 0x300]), (0x1EBD, vec![0x65, 0x303]), (0x625, vec![0x627, 0x655])],
         emoji: vec![
             vec![0x1F4A9, 0xFE0F],
             vec![0x1F468, 0xFE0F],
@@ -58,11 +54,7 @@ pub fn small_table() -> TableBuilder {
             (2, vec![(0x561, 0x586), (0x300, 0x303)]),
             (0, vec![(0xAC00, 0xD7A3)]),
         ],
-        wholes: vec![
-            (vec![0x78], vec![0x445, 0x4B3]),
-            (vec![], vec![0x442, 0x3C4]),
-            (vec![0xE6], vec![0x4D5]),
-        ],
+        wholes: vec![(vec![0x78], vec![0x445, 0x4B3]), (vec![], vec![0x442, 0x3C4]), (vec![0xE6], vec![0x4D5])],
         ..TableBuilder::default()
     };
     b.valid = b.groups.iter().flat_map(|g| g.1.clone()).collect();

@@ -1,6 +1,9 @@
 //! Tables that make one job long: each fills the 131,072 words with what that
 //! job reads most often.
 
+pub mod texts;
+
+use crate::Rng;
 use plain::limits::TABLE_WORDS;
 use plain::TableBuilder;
 
@@ -19,7 +22,7 @@ pub struct Hard {
 }
 
 /// Long sections: what is asked of each entry is asked of every other.
-pub const LONG: [Hard; 17] = [
+pub const LONG: [Hard; 19] = [
     Hard { name: "wide ranges", table: wide_ranges, answer: 1 },
     Hard { name: "wide classes", table: wide_classes, answer: 1 },
     Hard { name: "many ignored pairs", table: many_ignored, answer: 8 },
@@ -28,10 +31,12 @@ pub const LONG: [Hard; 17] = [
     Hard { name: "many pairs of one group", table: many_group_pairs, answer: 8 },
     Hard { name: "single codepoints, valid and of a group", table: single_pairs, answer: 8 },
     Hard { name: "single codepoints, of 256 groups", table: many_groups, answer: 8 },
+    Hard { name: "single codepoints of a group before a pair of all", table: covered_singles, answer: 8 },
     Hard { name: "many mappings", table: many_mappings, answer: 8 },
     Hard { name: "emoji of one codepoint", table: single_emoji, answer: 8 },
     Hard { name: "emoji after a valid codepoint", table: emoji_after_valid, answer: 8 },
     Hard { name: "long emoji that start alike", table: long_emoji, answer: 8 },
+    Hard { name: "long emoji that start alike and go on valid", table: long_emoji_valid, answer: 8 },
     Hard { name: "composition pairs and exclusions", table: pairs_and_exclusions, answer: 8 },
     Hard { name: "composition pairs and classes", table: pairs_and_classes, answer: 8 },
     Hard { name: "heads that all grow", table: growing_heads, answer: 6 },
@@ -89,6 +94,31 @@ pub fn wide_whole() -> TableBuilder {
 /// Its first `count` confused characters.
 pub fn confused(count: u32) -> Vec<u32> {
     (FIRST..FIRST + count).collect()
+}
+
+/// The same entries in random order, always the same.
+pub fn shuffled<T>(mut entries: Vec<T>) -> Vec<T> {
+    Rng::new(40).shuffle(&mut entries);
+    entries
+}
+
+/// The same table, the entries of each section in random order: each
+/// comparison's branch is then a guess.
+pub fn in_random_order(table: TableBuilder) -> TableBuilder {
+    TableBuilder {
+        valid: shuffled(table.valid),
+        ignored: shuffled(table.ignored),
+        fenced: shuffled(table.fenced),
+        marks: shuffled(table.marks),
+        nsm: shuffled(table.nsm),
+        mapped: shuffled(table.mapped),
+        decompositions: shuffled(table.decompositions),
+        emoji: shuffled(table.emoji),
+        exclusions: shuffled(table.exclusions),
+        classes: shuffled(table.classes),
+        groups: table.groups.into_iter().map(|(flags, pairs)| (flags, shuffled(pairs))).collect(),
+        wholes: shuffled(table.wholes),
+    }
 }
 
 /// How many records of so many words fit beside `other` words, the counts of
@@ -158,6 +188,18 @@ pub fn many_groups() -> TableBuilder {
     TableBuilder { valid: pairs, groups, ..TableBuilder::default() }
 }
 
+/// Codepoints two apart of one group, and a pair of all of them last: each end
+/// has to be asked, and is found last.
+pub fn covered_singles() -> TableBuilder {
+    let count = fit(2, 6);
+    let all = (FIRST, FIRST + 2 * count);
+    TableBuilder {
+        valid: vec![all],
+        groups: vec![(0, [singles(FIRST, count, 2), vec![all]].concat())],
+        ..TableBuilder::default()
+    }
+}
+
 /// Mappings of 32 items, each the last one of a long valid section.
 pub fn many_mappings() -> TableBuilder {
     let valid = 20_000;
@@ -190,6 +232,15 @@ pub fn long_emoji() -> TableBuilder {
     let start: Vec<u32> = (0..31).map(|i| FIRST + i).collect();
     let emoji = (0..fit(33, 0)).map(|i| [&start[..], &[FIRST + 31 + i]].concat()).collect();
     TableBuilder { emoji, ..TableBuilder::default() }
+}
+
+/// The same, of which all but the first and the last are valid, so that rule 5
+/// asks of every start whether it is a sequence.
+pub fn long_emoji_valid() -> TableBuilder {
+    let valid = vec![(FIRST + 1, FIRST + 30)];
+    let mut table = long_emoji();
+    table.emoji.truncate(fit(33, 6) as usize);
+    TableBuilder { valid: valid.clone(), groups: vec![(0, valid)], ..table }
 }
 
 /// So many two-item decompositions, all different.
@@ -362,14 +413,15 @@ mod tests {
     #[test]
     fn each_table_has_its_answer_by_the_plain_version() {
         for hard in LONG.iter().chain(&DEEP) {
-            let words = (hard.table)().to_words();
-            let answer = match plain::soundness(&words) {
-                plain::Soundness::Sound => 8,
-                plain::Soundness::Broken(rule) => rule,
-            };
-            println!("{}: {} words", hard.name, words.len());
-            assert!((60_000..=TABLE_WORDS).contains(&words.len()), "{}", hard.name);
-            assert_eq!(answer, hard.answer, "{}", hard.name);
+            for table in [(hard.table)(), in_random_order((hard.table)())] {
+                let words = table.to_words();
+                let answer = match plain::soundness(&words) {
+                    plain::Soundness::Sound => 8,
+                    plain::Soundness::Broken(rule) => rule,
+                };
+                assert!((60_000..=TABLE_WORDS).contains(&words.len()), "{}: {} words", hard.name, words.len());
+                assert_eq!(answer, hard.answer, "{}", hard.name);
+            }
         }
     }
 }

@@ -51,6 +51,9 @@ const DEPTH: usize = 64;
 /// Reads one value and nothing after it.
 pub fn read(text: &str) -> Result<Value, String> {
     let mut reader = Reader { bytes: text.as_bytes(), at: 0 };
+    if text.starts_with('\u{FEFF}') {
+        return reader.fault("a byte order mark, which JSON does not have");
+    }
     let value = reader.value(0)?;
     reader.blanks();
     if reader.at < reader.bytes.len() {
@@ -247,8 +250,22 @@ mod tests {
 
     #[test]
     fn refuses_what_is_no_json() {
-        for bad in ["", "[1,]", "[1 2]", "{\"a\" 1}", "{a:1}", "\"a", "[", "1 2", "tru", "\"\\x\"", "\"\\u12G4\"", "--1",
-            "{\"a\":1,\"a\":2}", "\"\u{1}\""] {
+        for bad in [
+            "",
+            "[1,]",
+            "[1 2]",
+            "{\"a\" 1}",
+            "{a:1}",
+            "\"a",
+            "[",
+            "1 2",
+            "tru",
+            "\"\\x\"",
+            "\"\\u12G4\"",
+            "--1",
+            "{\"a\":1,\"a\":2}",
+            "\"\u{1}\"",
+        ] {
             assert!(read(bad).is_err(), "{bad}");
         }
         assert!(read(&"[".repeat(1000)).is_err());

@@ -4,6 +4,7 @@
 pub mod json;
 pub mod published;
 pub mod reduce;
+pub mod write;
 
 pub use published::{Group, Nf, Spec, Whole};
 pub use reduce::Reduction;
@@ -51,7 +52,7 @@ pub fn full_decomposition(decomp: &HashMap<u32, &[u32]>, c: u32) -> Vec<u32> {
         if (0xAC00..=0xD7A3).contains(&c) {
             let s = c - 0xAC00;
             out.extend([0x1100 + s / 588, 0x1161 + s % 588 / 28]);
-            if s % 28 > 0 {
+            if !s.is_multiple_of(28) {
                 out.push(0x11A7 + s % 28);
             }
             return;

@@ -29,6 +29,8 @@ pub struct Whole {
 /// groups; `escape` and `nfc_check` have no part in a table.
 #[derive(Clone, Debug, PartialEq, Eq)]
 pub struct Spec {
+    /// The version of Unicode, where the file names it.
+    pub unicode: Option<String>,
     pub emoji: Vec<Vec<u32>>,
     pub mapped: Vec<(u32, Vec<u32>)>,
     pub ignored: Vec<u32>,
@@ -45,6 +47,15 @@ pub struct Nf {
     pub decomp: Vec<(u32, Vec<u32>)>,
     /// By combining class, ascending; class 0 is not among them.
     pub ranks: Vec<Vec<u32>>,
+}
+
+/// A file's value, which has to be a map.
+fn top(text: &str) -> Result<Value, String> {
+    match json::read(text)? {
+        Value::List(_) => Err("line 1: a map is expected, and this is a list".into()),
+        v @ Value::Map(_) => Ok(v),
+        _ => Err("line 1: a map is expected".into()),
+    }
 }
 
 fn key<'v>(v: &'v Value, name: &str) -> Result<&'v Value, String> {
@@ -80,6 +91,17 @@ fn record(v: &Value, most: usize) -> Result<(u32, Vec<u32>), String> {
     Ok((head, items))
 }
 
+/// No head stands twice: the second mapping would never be used.
+fn heads_once(records: Vec<(u32, Vec<u32>)>, what: &str) -> Result<Vec<(u32, Vec<u32>)>, String> {
+    let mut rows = HashMap::new();
+    for (row, (head, _)) in records.iter().enumerate() {
+        if let Some(first) = rows.insert(*head, row) {
+            return Err(format!("{what}, row {row}: {head:X} stands in row {first} already"));
+        }
+    }
+    Ok(records)
+}
+
 /// A codepoint, or a row [codepoint, name].
 fn fenced(v: &Value) -> Result<u32, String> {
     match v.list() {
@@ -107,20 +129,18 @@ fn group(v: &Value) -> Result<Group, String> {
 }
 
 fn whole(v: &Value) -> Result<Whole, String> {
-    Ok(Whole {
-        valid: codepoints(key(v, "valid")?, "valid")?,
-        confused: codepoints(key(v, "confused")?, "confused")?,
-    })
+    Ok(Whole { valid: codepoints(key(v, "valid")?, "valid")?, confused: codepoints(key(v, "confused")?, "confused")? })
 }
 
 impl Spec {
     pub fn read(text: &str) -> Result<Spec, String> {
-        let v = json::read(text)?;
+        let v = top(text)?;
         let max = key(&v, "nsm_max")?.number();
         if max != Some(4) {
             return Err("nsm_max is not 4, the limit of the rules".into());
         }
         Ok(Spec {
+            unicode: v.get("unicode").and_then(Value::text).map(str::to_string),
             emoji: rows(key(&v, "emoji")?, "emoji", |r| {
                 let items = codepoints(r, "sequence")?;
                 match items.len() {
@@ -128,7 +148,7 @@ impl Spec {
                     n => Err(format!("{n} codepoints; a table takes 1 to 32")),
                 }
             })?,
-            mapped: rows(key(&v, "mapped")?, "mapped", |r| record(r, 32))?,
+            mapped: heads_once(rows(key(&v, "mapped")?, "mapped", |r| record(r, 32))?, "mapped")?,
             ignored: codepoints(key(&v, "ignored")?, "ignored")?,
             fenced: rows(key(&v, "fenced")?, "fenced", fenced)?,
             groups: rows(key(&v, "groups")?, "groups", group)?,
@@ -148,7 +168,7 @@ impl Nf {
     /// Decompositions are taken as they stand. The published ones are single
     /// steps, of two items at most; composition pairs come from these.
     pub fn read(text: &str) -> Result<Nf, String> {
-        let v = json::read(text)?;
+        let v = top(text)?;
         let ranks = rows(key(&v, "ranks")?, "ranks", |r| codepoints(r, "rank"))?;
         if ranks.len() > 255 {
             return Err(format!("{} ranks; a table takes 255", ranks.len()));
@@ -199,6 +219,13 @@ mod tests {
         assert!(with("[[65,[97]]]", "[[65,[]]]").contains("row 0"));
         assert!(with("\"ignored\":[173],", "").contains("ignored"));
         assert!(with("[173]", "[-1]").contains("codepoint"));
+        assert!(with("[[65,[97]]]", "[[65,[97]],[66,[98]],[65,[98]]]").contains("mapped, row 2: 41 stands in row 0"));
+        assert!(Spec::read(&format!("[{SPEC}]"))
+            .unwrap_err()
+            .contains("line 1: a map is expected, and this is a list"));
+        assert!(Nf::read("[]").unwrap_err().contains("a list"));
+        assert!(Nf::read("7").unwrap_err().contains("a map is expected"));
+        assert!(Spec::read(&format!("\u{FEFF}{SPEC}")).unwrap_err().contains("line 1: a byte order mark"));
         let nf = r#"{"exclusions":[],"decomp":[[192,[65,768,1,2,3]]],"ranks":[]}"#;
         assert!(Nf::read(nf).unwrap_err().contains("1 to 4"));
     }

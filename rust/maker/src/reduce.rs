@@ -43,15 +43,17 @@ fn hex(text: &str) -> Result<u32, String> {
 }
 
 fn range(text: &str) -> Result<(u32, u32), String> {
-    match text.split_once("..") {
-        Some((first, last)) => Ok((hex(first)?, hex(last)?)),
-        None => hex(text).map(|c| (c, c)),
+    let (first, last) = text.split_once("..").unwrap_or((text, text));
+    let (first, last) = (hex(first)?, hex(last)?);
+    if first > last {
+        return Err(format!("{text}: the first is over the last"));
     }
+    Ok((first, last))
 }
 
 fn emoji(text: &str) -> Result<Emoji, String> {
-    if let Some((first, last)) = text.split_once("..") {
-        Ok(Emoji::Range(hex(first)?, hex(last)?))
+    if text.contains("..") {
+        range(text).map(|(first, last)| Emoji::Range(first, last))
     } else {
         text.split('-').map(hex).collect::<Result<Vec<u32>, String>>().map(Emoji::Sequence)
     }
@@ -66,26 +68,28 @@ impl Reduction {
         let mut options = options.iter();
         while let Some(option) = options.next() {
             let value = options.next().ok_or_else(|| format!("{option} needs a value"))?;
-            let parts = value.split(',');
-            match option.as_str() {
-                "--groups" => r.groups.get_or_insert_with(Vec::new).extend(parts.map(str::to_string)),
-                "--emoji" => {
-                    let chosen = r.emoji.get_or_insert_with(Vec::new);
-                    match value.parse() {
-                        Ok(count) => chosen.push(Emoji::First(count)),
-                        Err(_) => {
-                            for part in parts {
-                                chosen.push(emoji(part)?);
-                            }
-                        }
-                    }
-                }
-                "--drop" => r.drop.extend(parts.map(range).collect::<Result<Ranges, String>>()?),
-                "--unmap" => r.unmap.extend(parts.map(range).collect::<Result<Ranges, String>>()?),
-                _ => return Err(format!("no option {option}")),
-            }
+            r.choose(option, value).map_err(|fault| format!("{option}: {fault}"))?;
         }
         Ok(r)
+    }
+
+    /// One option and its value.
+    fn choose(&mut self, option: &str, value: &str) -> Result<(), String> {
+        let parts = value.split(',');
+        match option {
+            "--groups" => self.groups.get_or_insert_with(Vec::new).extend(parts.map(str::to_string)),
+            "--emoji" => {
+                let chosen = match value.parse() {
+                    Ok(count) => vec![Emoji::First(count)],
+                    Err(_) => parts.map(emoji).collect::<Result<_, _>>()?,
+                };
+                self.emoji.get_or_insert_with(Vec::new).extend(chosen);
+            }
+            "--drop" => self.drop.extend(parts.map(range).collect::<Result<Ranges, _>>()?),
+            "--unmap" => self.unmap.extend(parts.map(range).collect::<Result<Ranges, _>>()?),
+            _ => return Err("no such option; --help lists them".into()),
+        }
+        Ok(())
     }
 
     /// Cuts both files.
@@ -182,6 +186,10 @@ mod tests {
         assert_eq!(options("--emoji 300").unwrap().emoji, Some(vec![Emoji::First(300)]));
         assert!(options("--emoji").is_err());
         assert!(options("--drop 12x").is_err());
-        assert!(options("--other 1").is_err());
+        assert!(options("--other 1").unwrap_err().contains("--other: no such option"));
+        for option in ["--drop", "--unmap", "--emoji"] {
+            let fault = options(&format!("{option} 41..5A,7A..61")).unwrap_err();
+            assert_eq!(fault, format!("{option}: 7A..61: the first is over the last"));
+        }
     }
 }

@@ -108,3 +108,116 @@ fn refuses_what_it_cannot_read() {
     assert_eq!(maketable(&[]).status.code(), Some(2));
     assert_eq!(maketable(&["a", "b", "c", "--groups"]).status.code(), Some(2));
 }
+
+/// Each fault of a file is told with the file and the place.
+#[test]
+fn faults_have_their_place() {
+    let good = small_spec("[65, [97]]");
+    let many: Vec<String> = (0..50_000).map(|i| format!("[{}, [97]]", 0x20000 + i)).collect();
+    let specs = [
+        (format!("\u{FEFF}{good}"), "spec.json: line 1: a byte order mark"),
+        (format!("[{good}]"), "spec.json: line 1: a map is expected, and this is a list"),
+        (small_spec("[65, [97]], [66, [98]], [65, [99]]"), "spec.json: mapped, row 2: 41 stands in row 0 already"),
+        (small_spec("[65, [97]], [66, []]"), "spec.json: mapped, row 1: 42 has 0 items"),
+        (small_spec(&many.join(",")), "more than a table may have; the largest section is mapped, with 150000"),
+        (good.replace("\"ignored\": [173],", ""), "spec.json: ignored is missing"),
+        (good.replace("[173]", "[173, -1]"), "spec.json: ignored: a codepoint is expected"),
+    ];
+    for (i, (spec, place)) in specs.iter().enumerate() {
+        let (run, out) = run_small(&format!("fault-{i}"), spec);
+        let said = String::from_utf8(run.stderr).unwrap();
+        assert_eq!(run.status.code(), Some(2), "{said}");
+        assert!(said.starts_with("maketable: ") && said.contains(place), "{said}, not {place}");
+        assert!(!out.exists(), "{place}");
+    }
+}
+
+#[test]
+fn faults_of_the_command_line() {
+    let refused = |words: &[&str], fault: &str| {
+        let run = maketable(words);
+        let said = String::from_utf8(run.stderr).unwrap();
+        assert!(run.status.code() == Some(2) && said.contains(fault), "{words:?}: {said}");
+    };
+    refused(&[], "usage: maketable");
+    refused(&["spec", "nf"], "usage: maketable");
+    refused(&["--nf", "spec", "nf", "out"], "usage: maketable");
+    refused(&["--other", "1", "spec", "nf", "out"], "--other: no such option; --help lists them");
+    refused(&["--drop", "2200..2190", "spec", "nf", "out"], "--drop: 2200..2190: the first is over the last");
+    refused(&["--unmap", "12x", "spec", "nf", "out"], "--unmap: 12x is no hex number");
+    refused(&["no-such-file", "no-such-file", "out"], "no-such-file: ");
+}
+
+#[test]
+fn help_names_every_option() {
+    let run = maketable(&["--help"]);
+    let said = String::from_utf8(run.stdout).unwrap();
+    assert_eq!(run.status.code(), Some(0));
+    let guide = std::fs::read_to_string(data("../docs/USING.md")).unwrap();
+    for option in ["--groups", "--emoji", "--drop", "--unmap", "--unsound", "--nf", "--help", "@FILE"] {
+        assert!(said.contains(option) && guide.contains(option), "{option}");
+    }
+}
+
+/// The bytes of a good table, at a place where worse is tried.
+fn good_table(name: &str) -> (PathBuf, Vec<u8>) {
+    let (run, out) = run_small(name, &small_spec("[65, [97]]"));
+    assert_eq!(run.status.code(), Some(0));
+    let bytes = std::fs::read(&out).unwrap();
+    (out, bytes)
+}
+
+/// What stands beside this file under a name that starts with its name.
+fn left_beside(out: &Path) -> usize {
+    let name = out.file_name().unwrap().to_str().unwrap();
+    let folder = std::fs::read_dir(out.parent().unwrap()).unwrap();
+    folder.filter(|e| e.as_ref().unwrap().file_name().to_str().unwrap().starts_with(name)).count() - 1
+}
+
+#[test]
+fn an_unsound_table_is_written_only_with_the_flag() {
+    let (out, good) = good_table("kept");
+    let (run, _) = run_small("kept", &small_spec("[65, [97]], [66, [33]]"));
+    assert_eq!(run.status.code(), Some(1));
+    assert!(String::from_utf8(run.stdout).unwrap().contains("is not written (--unsound would)"));
+    assert_eq!(std::fs::read(&out).unwrap(), good);
+
+    let files = [temporary("kept-spec.json"), temporary("kept-nf.json")];
+    let run = maketable(&["--unsound", path(&files[0]), path(&files[1]), path(&out)]);
+    assert_eq!(run.status.code(), Some(1));
+    assert_eq!(std::fs::read(&out).unwrap().len(), good.len() + 12, "one mapping more");
+    assert_eq!(left_beside(&out), 0);
+}
+
+/// A file that cannot grow stands for a disk that is full.
+#[test]
+fn a_full_disk_leaves_a_good_table() {
+    let (out, good) = good_table("full");
+    let files = [temporary("full-spec.json"), temporary("full-nf.json")];
+    let run = Command::new("sh")
+        .args(["-c", "trap '' XFSZ; ulimit -f 0; exec \"$@\"", "sh", env!("CARGO_BIN_EXE_maketable")])
+        .args([&files[0], &files[1], &out])
+        .output()
+        .expect("sh runs");
+    let said = String::from_utf8(run.stderr).unwrap();
+    assert!(run.status.code() == Some(2) && said.contains("full.tab: File too large"), "{said}");
+    assert_eq!(std::fs::read(&out).unwrap(), good);
+    assert_eq!(left_beside(&out), 0);
+}
+
+#[test]
+fn a_closed_pipe_leaves_a_whole_table() {
+    let (out, good) = good_table("pipe");
+    std::fs::write(&out, "an older table").unwrap();
+    let files = [temporary("pipe-spec.json"), temporary("pipe-nf.json")];
+    let (reader, writer) = std::io::pipe().unwrap();
+    drop(reader);
+    let run = Command::new(env!("CARGO_BIN_EXE_maketable"))
+        .args([&files[0], &files[1], &out])
+        .stdout(writer)
+        .output()
+        .expect("maketable runs");
+    let said = String::from_utf8(run.stderr).unwrap();
+    assert!(run.status.code() == Some(2) && said.contains("standard output: "), "{said}");
+    assert_eq!(std::fs::read(&out).unwrap(), good);
+}

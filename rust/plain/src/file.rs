@@ -1,12 +1,7 @@
 //! 01, "The table": a version byte 1, a count of words, the words, all
 //! big-endian, and nothing after.
 
-#[derive(Clone, Copy, Debug, PartialEq, Eq)]
-pub enum Unpacked {
-    Count(usize),
-    /// 20, 21 or 22.
-    Refused(u32),
-}
+use answers::Refusal;
 
 /// The words of a file, or 20, 21 or 22, asked in that order. 20 is asked of
 /// any file that has a byte.
@@ -32,18 +27,14 @@ fn words_of(file: &[u8], room: usize) -> Result<Vec<u32>, u32> {
     Ok(body.chunks_exact(4).map(word).collect())
 }
 
-/// Unpacks a table file. Words past the table are zero; after a refusal all
+/// Unpacks a table file: the number of words. Words past the table are zero; after a refusal all
 /// are.
-pub fn unpack(file: &[u8], answer: &mut [u32]) -> Unpacked {
+pub fn unpack(file: &[u8], answer: &mut [u32]) -> Result<usize, Refusal> {
     let words = words_of(file, answer.len());
     answer.fill(0);
-    match words {
-        Ok(words) => {
-            answer[..words.len()].copy_from_slice(&words);
-            Unpacked::Count(words.len())
-        }
-        Err(number) => Unpacked::Refused(number),
-    }
+    let words = words.map_err(|number| Refusal::new(number, 0))?;
+    answer[..words.len()].copy_from_slice(&words);
+    Ok(words.len())
 }
 
 /// The file of these words.

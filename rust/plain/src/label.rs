@@ -4,14 +4,8 @@ use crate::limits;
 use crate::lookup::Lookup;
 use crate::text::{append_four_rounds, compose, nfd, order};
 use crate::tokens::{strip, tokens, Token};
+use answers::Kind;
 use std::collections::BTreeSet;
-
-#[derive(Clone, Copy, Debug, PartialEq, Eq, Hash)]
-pub enum Kind {
-    Emoji,
-    Ascii,
-    Group { number: u32, restricted: bool },
-}
 
 /// A token as it goes into the answer.
 #[derive(Clone, Debug, PartialEq, Eq)]
@@ -150,7 +144,7 @@ pub fn kind_of(t: &impl Lookup, tokens: &[Finished]) -> Result<Kind, u32> {
     if confusable(t, &text) {
         return Err(14);
     }
-    Ok(Kind::Group { number: group as u32, restricted: flags & 1 != 0 })
+    Ok(Kind::Group { number: group, restricted: flags & 1 != 0 })
 }
 
 /// 8: a low line after a character that isn't one.

@@ -8,14 +8,8 @@ use crate::table::{layout, Table};
 use crate::text::{four_rounds, hangul_composite, is_jamo, is_syllable, one_round};
 use crate::tokens::strip;
 use crate::{is_scalar, FE0F, STOP};
+use answers::Soundness;
 use std::collections::{HashMap, HashSet};
-
-#[derive(Clone, Copy, Debug, PartialEq, Eq)]
-pub enum Soundness {
-    Sound,
-    /// 0 is a layout fault, 1 to 7 the lowest broken rule.
-    Broken(u32),
-}
 
 /// Syllables and jamo.
 const HANGUL: [(u32, u32); 4] = [(0x1100, 0x1112), (0x1161, 0x1175), (0x11A8, 0x11C2), (0xAC00, 0xD7A3)];

@@ -28,9 +28,7 @@ impl<'a> Triples<'a> {
     }
     /// The class of the first triple that covers `c`.
     pub fn find(&self, c: u32) -> Option<u32> {
-        self.iter()
-            .find(|&(first, last, _)| first <= c && c <= last)
-            .map(|(_, _, class)| class)
+        self.iter().find(|&(first, last, _)| first <= c && c <= last).map(|(_, _, class)| class)
     }
     pub fn words(&self) -> &'a [u32] {
         self.0
@@ -137,7 +135,7 @@ impl<'a> Cursor<'a> {
         Ok(Cursor { words: self.words, at, end: self.at, section })
     }
     fn pairs(&mut self, count: u32) -> Result<Pairs<'a>, LayoutFault> {
-        if count % 2 != 0 {
+        if !count.is_multiple_of(2) {
             return Err(self.fault("an odd number of words in pairs"));
         }
         let pairs = Pairs(self.take(count)?);
@@ -152,7 +150,7 @@ impl<'a> Cursor<'a> {
     }
     fn triples(mut self) -> Result<Triples<'a>, LayoutFault> {
         let count = (self.end - self.at) as u32;
-        if count % 3 != 0 {
+        if !count.is_multiple_of(3) {
             return Err(self.fault("triples of another length than three"));
         }
         let triples = Triples(self.take(count)?);

@@ -1,10 +1,11 @@
 //! Every codepoint, and random names of real characters, on all processors.
 
-use crate::desk::{Desk, Kind, Name, Refusal};
+use crate::desk::{Desk, Given};
 use crate::shards::on_all_processors;
 use crate::Made;
 use compare::Engine;
 use gen::Rng;
+use plain::{Kind, Refusal};
 use std::collections::BTreeMap;
 
 /// An engine that all processors use.
@@ -18,18 +19,18 @@ pub struct Counts {
     pub emoji: usize,
     pub ascii: usize,
     /// Labels of each group.
-    pub groups: BTreeMap<u32, usize>,
+    pub groups: BTreeMap<usize, usize>,
     pub refused: BTreeMap<u32, usize>,
 }
 
 impl Counts {
-    fn add(&mut self, name: &[u32], result: &Result<Name, Refusal>, kinds: &[Kind]) {
+    fn add(&mut self, name: &[u32], result: &Given<usize>, kinds: &[Kind]) {
         match result {
-            Ok(n) => {
+            Ok((answer, _)) => {
                 self.accepted += 1;
-                self.changed += usize::from(n.answer != name);
+                self.changed += usize::from(answer != name);
             }
-            Err((number, _)) => *self.refused.entry(*number).or_default() += 1,
+            Err(refusal) => *self.refused.entry(refusal.number).or_default() += 1,
         }
         for kind in kinds {
             match kind {
@@ -76,16 +77,16 @@ fn one(desk: &mut Desk, reference: &mut Option<Desk>, name: &[u32], counts: &mut
     // A name without a stop is one label: both calls agree but for the empty one.
     if !name.is_empty() && !name.contains(&plain::STOP) {
         match (&result, &label) {
-            (Ok(n), Ok(l)) => assert_eq!((&n.answer, n.labels), (&l.answer, 1), "{name:X?}"),
+            (Ok((a, labels)), Ok((b, _))) => assert_eq!((a, *labels), (b, 1), "{name:X?}"),
             (Err(a), Err(b)) => assert_eq!(a, b, "{name:X?}"),
             _ => panic!("the calls disagree on {name:X?}: {result:?}, {label:?}"),
         }
     }
     let kinds = match (&result, &label) {
         (Err(_), _) => Vec::new(),
-        (Ok(first), Ok(label)) => {
-            desk.keeps(name, first, &[label.kind]);
-            vec![label.kind]
+        (Ok(first), Ok((_, kind))) => {
+            desk.keeps(name, first, &[*kind]);
+            vec![*kind]
         }
         (Ok(first), Err(_)) => desk.again(name, first),
     };
@@ -109,10 +110,10 @@ pub fn codepoints(
         for c in (first..first + PART).filter(|&c| asked(c)) {
             one(&mut desk, &mut reference, &[c], &mut counts);
             if !plain::is_scalar(c) {
-                assert_eq!(desk.name(&[c]), Err((4, 0)));
+                assert_eq!(desk.name(&[c]), Err(Refusal::new(4, 0)));
             } else if c == plain::STOP {
-                assert_eq!(desk.name(&[c]), Err((6, 0)));
-                assert_eq!(desk.label(&[c]), Err((5, 0)));
+                assert_eq!(desk.name(&[c]), Err(Refusal::new(6, 0)));
+                assert_eq!(desk.label(&[c]), Err(Refusal::new(5, 0)));
             }
         }
         counts

@@ -1,16 +1,16 @@
 //! The cases of "Names at the counter" and the examples of ENSIP-15.
 
-use crate::desk::{Desk, Refusal};
+use crate::desk::{kind_name, Desk};
 use compare::Engine;
 use maker::Spec;
+use plain::Refusal;
 
 /// What a name has to give.
 #[derive(Clone, Debug)]
 pub enum Due {
     /// The answer, and the kind of each label: `Emoji`, `ASCII` or a group.
     Answer(Vec<u32>, Vec<&'static str>),
-    /// A refusal and its place.
-    Refused(u32, u32),
+    Refused(Refusal),
     /// Any refusal.
     SomeRefusal,
 }
@@ -35,8 +35,8 @@ fn same(name: &str, kinds: &[&'static str]) -> Case {
     gives(name, name, kinds)
 }
 
-fn refused(name: &str, number: u32, place: u32) -> Case {
-    Case { name: hex(name), room: crate::desk::ROOM, due: Due::Refused(number, place) }
+fn refused(name: &str, number: u32, place: usize) -> Case {
+    Case { name: hex(name), room: crate::desk::ROOM, due: Due::Refused(Refusal::new(number, place)) }
 }
 
 /// "Names at the counter" of the scope document, but for the last, which is
@@ -60,7 +60,7 @@ pub fn counter() -> Vec<Case> {
         same("", &[]),
         refused("2E", 6, 0),
         refused("61 2E 2E 62", 6, 1),
-        Case { name: hex("61"), room: 0, due: Due::Refused(15, 0) },
+        Case { name: hex("61"), room: 0, due: Due::Refused(Refusal::new(15, 0)) },
         same(&times(1024, "61"), &["ASCII"]),
         refused(&times(1025, "61"), 7, 0),
         refused(&times(341, "2E3B"), 9, 0),
@@ -201,15 +201,15 @@ pub fn fault(desk: &mut Desk, spec: &Spec, case: &Case) -> Option<String> {
     let result = desk.name_in(&case.name, case.room);
     let due: Result<&[u32], Refusal> = match &case.due {
         Due::Answer(answer, _) => Ok(answer),
-        Due::Refused(number, place) => Err((*number, *place)),
+        Due::Refused(refusal) => Err(*refusal),
         Due::SomeRefusal if result.is_err() => return None,
         Due::SomeRefusal => return Some(format!("{:X?} gives {result:X?}", case.name)),
     };
-    if result.as_ref().map(|n| n.answer.as_slice()) != due.as_ref().map(|a| *a) {
+    if result.as_ref().map(|(answer, _)| answer.as_slice()) != due.as_ref().map(|a| *a) {
         return Some(format!("{:X?} gives {result:X?}, not {due:X?}", case.name));
     }
     if let (Ok(name), Due::Answer(_, kinds)) = (&result, &case.due) {
-        let given: Vec<String> = desk.again(&case.name, name).into_iter().map(|k| k.name(spec)).collect();
+        let given: Vec<String> = desk.again(&case.name, name).into_iter().map(|k| kind_name(k, spec)).collect();
         if given != *kinds {
             return Some(format!("{:X?} has kinds {given:?}, not {kinds:?}", case.name));
         }

@@ -1,44 +1,23 @@
 //! One engine over one table, with the buffers watched.
 
-use compare::{engine, Engine, LabelFlat, NameFlat};
+use compare::Engine;
 use maker::Spec;
+use plain::{Kind, Refusal};
 
-/// A refusal number and its place.
-pub type Refusal = (u32, u32);
+/// What a call gave: the normal form and the other value, or a refusal.
+pub type Given<T> = Result<(Vec<u32>, T), Refusal>;
 
-/// A label's kind, its group by number.
-#[derive(Clone, Copy, Debug, PartialEq, Eq, Hash)]
-pub enum Kind {
-    Emoji,
-    Ascii,
-    Group { number: u32, restricted: bool },
-}
-
-impl Kind {
-    /// `Emoji`, `ASCII` or the name of the group, as ENSIP-15 has them.
-    pub fn name(self, spec: &Spec) -> String {
-        match self {
-            Kind::Emoji => "Emoji".into(),
-            Kind::Ascii => "ASCII".into(),
-            Kind::Group { number, restricted } => {
-                let group = &spec.groups[number as usize];
-                assert_eq!(group.restricted, restricted, "{}", group.name);
-                group.name.clone()
-            }
+/// `Emoji`, `ASCII` or the name of the group, as ENSIP-15 has them.
+pub fn kind_name(kind: Kind, spec: &Spec) -> String {
+    match kind {
+        Kind::Emoji => "Emoji".into(),
+        Kind::Ascii => "ASCII".into(),
+        Kind::Group { number, restricted } => {
+            let group = &spec.groups[number];
+            assert_eq!(group.restricted, restricted, "{}", group.name);
+            group.name.clone()
         }
     }
-}
-
-#[derive(Clone, Debug, PartialEq, Eq)]
-pub struct Name {
-    pub answer: Vec<u32>,
-    pub labels: u32,
-}
-
-#[derive(Clone, Debug, PartialEq, Eq)]
-pub struct Label {
-    pub answer: Vec<u32>,
-    pub kind: Kind,
 }
 
 /// More than any answer needs.
@@ -64,47 +43,34 @@ impl<'a> Desk<'a> {
         self.work.fill(0x6C6F_6674);
     }
 
-    /// The answer; nothing else may be left in either buffer.
-    fn taken(&self, length: u32, what: &[u32]) -> Vec<u32> {
-        let (answer, rest) = self.answer.split_at(length as usize);
+    /// The normal form of this length, 0 after a refusal; nothing else may be
+    /// left in either buffer.
+    fn taken(&self, length: usize, what: &[u32]) -> Vec<u32> {
+        let (answer, rest) = self.answer.split_at(length);
         assert!(rest.iter().all(|&w| w == 0), "answer buffer after {what:X?}");
         assert!(self.work.iter().all(|&w| w == 0), "work area after {what:X?}");
         answer.to_vec()
     }
 
-    pub fn name(&mut self, name: &[u32]) -> Result<Name, Refusal> {
+    /// The normal form and the number of labels.
+    pub fn name(&mut self, name: &[u32]) -> Given<usize> {
         self.name_in(name, ROOM)
     }
 
     /// The name call with an answer buffer of so many words.
-    pub fn name_in(&mut self, name: &[u32], room: usize) -> Result<Name, Refusal> {
+    pub fn name_in(&mut self, name: &[u32], room: usize) -> Given<usize> {
         self.soil(room);
-        let NameFlat { refusal, place, length, labels } =
-            self.engine.name(name, self.table, &mut self.answer, &mut self.work);
-        let answer = self.taken(length, name);
-        if refusal == 0 {
-            return Ok(Name { answer, labels });
-        }
-        assert_eq!((length, labels), (0, 0), "beside refusal {refusal} of {name:X?}");
-        Err((refusal, place))
+        let given = self.engine.name(name, self.table, &mut self.answer, &mut self.work);
+        let answer = self.taken(given.map_or(0, |n| n.length), name);
+        given.map(|n| (answer, n.labels))
     }
 
-    pub fn label(&mut self, label: &[u32]) -> Result<Label, Refusal> {
+    /// The normal form and the kind.
+    pub fn label(&mut self, label: &[u32]) -> Given<Kind> {
         self.soil(ROOM);
-        let flat = self.engine.label(label, self.table, &mut self.answer, &mut self.work);
-        let LabelFlat { refusal, place, length, kind, group, restricted } = flat;
-        let answer = self.taken(length, label);
-        if refusal == 0 {
-            let kind = match kind {
-                engine::EMOJI => Kind::Emoji,
-                engine::ASCII => Kind::Ascii,
-                engine::GROUP => Kind::Group { number: group, restricted: restricted == 1 },
-                _ => panic!("no kind {kind} for {label:X?}"),
-            };
-            return Ok(Label { answer, kind });
-        }
-        assert_eq!((length, kind, group, restricted), (0, 0, 0, 0), "beside refusal {refusal} of {label:X?}");
-        Err((refusal, place))
+        let given = self.engine.label(label, self.table, &mut self.answer, &mut self.work);
+        let answer = self.taken(given.map_or(0, |l| l.length), label);
+        given.map(|l| (answer, l.kind))
     }
 
     /// The kinds of an accepted name's labels, in order. The label call has to
@@ -117,12 +83,12 @@ impl<'a> Desk<'a> {
         let mut kinds = Vec::new();
         let mut joined = Vec::new();
         for (i, part) in name.split(|&c| c == plain::STOP).enumerate() {
-            let label = self.label(part).unwrap_or_else(|r| panic!("label {i} of {name:X?}: {r:?}"));
+            let (form, kind) = self.label(part).unwrap_or_else(|r| panic!("label {i} of {name:X?}: {r}"));
             if i > 0 {
                 joined.push(plain::STOP);
             }
-            joined.extend(&label.answer);
-            kinds.push(label.kind);
+            joined.extend(form);
+            kinds.push(kind);
         }
         assert_eq!(joined, answer, "the labels' answers of {name:X?}");
         kinds
@@ -130,15 +96,16 @@ impl<'a> Desk<'a> {
 
     /// An accepted name's answer, handed in again, is the same, with as many
     /// labels, of these kinds.
-    pub fn keeps(&mut self, name: &[u32], first: &Name, kinds: &[Kind]) {
-        assert_eq!(kinds.len(), first.labels as usize, "labels of {name:X?}");
-        assert_eq!(self.name(&first.answer).as_ref(), Ok(first), "again: {name:X?}");
-        assert_eq!(self.kinds(&first.answer, &first.answer), kinds, "kinds again: {name:X?}");
+    pub fn keeps(&mut self, name: &[u32], first: &(Vec<u32>, usize), kinds: &[Kind]) {
+        let (answer, labels) = first;
+        assert_eq!(kinds.len(), *labels, "labels of {name:X?}");
+        assert_eq!(self.name(answer).as_ref(), Ok(first), "again: {name:X?}");
+        assert_eq!(self.kinds(answer, answer), kinds, "kinds again: {name:X?}");
     }
 
     /// The same with the kinds of the name's own labels, which are answered.
-    pub fn again(&mut self, name: &[u32], first: &Name) -> Vec<Kind> {
-        let kinds = self.kinds(name, &first.answer);
+    pub fn again(&mut self, name: &[u32], first: &(Vec<u32>, usize)) -> Vec<Kind> {
+        let kinds = self.kinds(name, &first.0);
         self.keeps(name, first, &kinds);
         kinds
     }

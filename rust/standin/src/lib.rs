@@ -16,7 +16,7 @@ pub mod prepared;
 pub mod shards;
 pub mod validation;
 
-pub use desk::{Desk, Kind};
+pub use desk::Desk;
 pub use prepared::Prepared;
 
 use maker::{Nf, Reduction, Spec};

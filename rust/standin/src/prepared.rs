@@ -1,9 +1,9 @@
 //! The plain version over a table that is read once, for many names. It
 //! refuses to look at another table.
 
-use compare::plain_engine::{enough_work, indexed_label, indexed_name};
-use compare::{Engine, LabelFlat, NameFlat, SoundnessFlat, UnpackFlat};
-use plain::{Index, Refusal};
+use compare::Engine;
+use plain::calls::{check_work, label_by, name_by};
+use plain::{Index, Label, Name, Refusal, Soundness};
 
 pub struct Prepared<'t> {
     words: &'t [u32],
@@ -18,24 +18,24 @@ impl<'t> Prepared<'t> {
 
     fn index(&self, table: &[u32], work: &[u32]) -> Result<&Index<'t>, Refusal> {
         assert!(std::ptr::eq(self.words, table), "another table");
-        enough_work(work).map(|()| &self.index)
+        check_work(work).map(|()| &self.index)
     }
 }
 
 impl Engine for Prepared<'_> {
-    fn name(&self, name: &[u32], table: &[u32], answer: &mut [u32], work: &mut [u32]) -> NameFlat {
-        indexed_name(self.index(table, work), name, answer, work)
+    fn name(&self, name: &[u32], table: &[u32], answer: &mut [u32], work: &mut [u32]) -> Result<Name, Refusal> {
+        name_by(self.index(table, work), 0, name, answer, work)
     }
 
-    fn label(&self, label: &[u32], table: &[u32], answer: &mut [u32], work: &mut [u32]) -> LabelFlat {
-        indexed_label(self.index(table, work), label, answer, work)
+    fn label(&self, label: &[u32], table: &[u32], answer: &mut [u32], work: &mut [u32]) -> Result<Label, Refusal> {
+        label_by(self.index(table, work), 0, label, answer, work)
     }
 
-    fn soundness(&self, table: &[u32]) -> SoundnessFlat {
+    fn soundness(&self, table: &[u32]) -> Soundness {
         compare::Plain.soundness(table)
     }
 
-    fn unpack(&self, file: &[u8], answer: &mut [u32]) -> UnpackFlat {
+    fn unpack(&self, file: &[u8], answer: &mut [u32]) -> Result<usize, Refusal> {
         compare::Plain.unpack(file, answer)
     }
 }

@@ -38,7 +38,7 @@ pub fn run(desk: &mut Desk, text: &str) -> Result<Outcome, String> {
         };
         let result = desk.name(&name);
         let right = match &result {
-            Ok(n) => !error && n.answer == norm,
+            Ok((answer, _)) => !error && *answer == norm,
             Err(_) => error,
         };
         if right {

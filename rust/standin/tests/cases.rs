@@ -29,8 +29,8 @@ fn two_equal_nsm_on_a_small_table() {
     let words = b.to_words();
     assert_eq!(plain::soundness_report(&words), None);
     let mut desk = Desk::new(&compare::Plain, &words);
-    assert_eq!(desk.name(&[0x78, 0x300, 0x300]), Err((13, 0)));
-    assert_eq!(desk.name(&[0x78, 0x300]).unwrap().answer, [0x78, 0x300]);
+    assert_eq!(desk.name(&[0x78, 0x300, 0x300]), Err(plain::Refusal::new(13, 0)));
+    assert_eq!(desk.name(&[0x78, 0x300]).unwrap().0, [0x78, 0x300]);
 }
 
 #[test]
@@ -90,7 +90,8 @@ fn statements_of_ensip_15() {
     }
     // No character maps to the stop; ASCII is what ENSIP-15 leaves of it.
     assert!(spec.mapped.iter().all(|(_, to)| !to.contains(&0x2E)));
-    let ascii: String = maker::valid(spec, &made.nf).into_iter().filter_map(char::from_u32).filter(char::is_ascii).collect();
+    let ascii: String =
+        maker::valid(spec, &made.nf).into_iter().filter_map(char::from_u32).filter(char::is_ascii).collect();
     assert_eq!(ascii, "$-0123456789_abcdefghijklmnopqrstuvwxyz");
 
     let whole = |c: u32| spec.wholes.iter().find(|w| w.confused.contains(&c)).unwrap_or_else(|| panic!("{c:X}"));

@@ -10,7 +10,7 @@ fn check(made: &Made, file: &str, most: usize) -> plain::TableBuilder {
     assert!(plain::pack(&made.words) == committed, "data/{file} is not what the files make; run maketable");
 
     let mut words = vec![7; made.words.len() + 3];
-    assert_eq!(plain::unpack(&committed, &mut words), plain::Unpacked::Count(made.words.len()));
+    assert_eq!(plain::unpack(&committed, &mut words), Ok(made.words.len()));
     assert!(words[..made.words.len()] == made.words[..] && words[made.words.len()..] == [0; 3]);
 
     assert_eq!(plain::soundness_report(&made.words), None, "data/{file}");

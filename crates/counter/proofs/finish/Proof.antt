@@ -1,5 +1,5 @@
--- `finish`: the parts that are lent are in their buffers. Assumes nothing.
-use mathlib.Core.Path.{sym}
+-- `finish`: what is held is in its buffer, and so is what is written. Assumes nothing.
+use mathlib.Core.Path.{sym, _∙_}
 use lib.Seq.{length-take-le}
 use Rattle.lines.proofs.Pieces.{holding-within}
 use native.Mathlib.Omega.{arith}
@@ -7,23 +7,16 @@ use borrow.Author.Needs.{needs}
 use Rattle.counter.proofs.finish.Statement.{statement}
 use Rattle.counter.proofs.finish.Tie as tie
 
-slice-aggregate-serve : tie.Need-slice-aggregate-serve
-slice-aggregate-serve c = holding-within (c .before .before .before .before .pre .holding)
+slice-aggregate-write-ending : tie.Need-slice-aggregate-write-ending
+slice-aggregate-write-ending c = holding-within (c .before .before .before .pre .holding)
 
-serve-requires : tie.Need-serve-requires
-serve-requires c κs = search needs
+slice-aggregate-write-ending-2 : tie.Need-slice-aggregate-write-ending-2
+slice-aggregate-write-ending-2 c = search needs
 
-returns : tie.Need-returns
-returns c = search needs
-
-add-names : tie.Need-add-names
-add-names c = search needs
-
-slice-aggregate-write-end : tie.Need-slice-aggregate-write-end
-slice-aggregate-write-end c = search needs
-
-write-end-requires : tie.Need-write-end-requires
-write-end-requires c κs = search needs
+write-ending-requires : tie.Need-write-ending-requires
+write-ending-requires c κs =
+    let h = c .before .before .before .before .pre in
+    record { unended = h .holding .unended ∙ holding-within (h .holding); count = h .count; room = search needs }
 
 array-share-prefix-text : tie.Need-array-share-prefix-text
 array-share-prefix-text c = search needs
@@ -34,20 +27,17 @@ slice-aggregate-write-all c = sym (length-take-le _ _ (omega arith))
 write-all-requires : tie.Need-write-all-requires
 write-all-requires c κs = search needs
 
-returns-2 : tie.Need-returns-2
-returns-2 c = search needs
+returns : tie.Need-returns
+returns c = search needs
 
 pub finish-spec : {M : Type 1} → statement M
 finish-spec =
     tie.close
     (tie.spec
-    slice-aggregate-serve
-    serve-requires
-    returns
-    add-names
-    slice-aggregate-write-end
-    write-end-requires
+    slice-aggregate-write-ending
+    slice-aggregate-write-ending-2
+    write-ending-requires
     array-share-prefix-text
     slice-aggregate-write-all
     write-all-requires
-    returns-2)
+    returns)

@@ -1,5 +1,5 @@
--- `load`: the words that were unpacked are in their buffer. Assumes nothing.
-use Rattle.counter.proofs.Serving.{loaded}
+-- `load`: the words that were read are in their buffer. Assumes nothing.
+use Rattle.counter.proofs.Loading.{loaded}
 use borrow.Author.Needs.{needs}
 use Rattle.counter.proofs.load.Statement.{statement}
 use Rattle.counter.proofs.load.Tie as tie
@@ -22,23 +22,20 @@ read-full-requires c κs = search needs
 close-requires : tie.Need-close-requires
 close-requires c κs = search needs
 
-returns-2 : tie.Need-returns-2
-returns-2 c = search needs
-
 array-share-prefix-file : tie.Need-array-share-prefix-file
 array-share-prefix-file c = search needs
 
-slice-aggregate-unpack : tie.Need-slice-aggregate-unpack
-slice-aggregate-unpack c = search needs
+slice-aggregate-read-table : tie.Need-slice-aggregate-read-table
+slice-aggregate-read-table c = search needs
 
-unpack-requires : tie.Need-unpack-requires
-unpack-requires c κs = search needs
+read-table-requires : tie.Need-read-table-requires
+read-table-requires c κs = search needs
 
 same-length : tie.Need-same-length
 same-length c = search needs
 
-returns-3 : tie.Need-returns-3
-returns-3 c = loaded _ (c .before .before .unpack .ensures)
+returns-2 : tie.Need-returns-2
+returns-2 c = loaded (c .before .before .read-table .ensures)
 
 pub load-spec : {M : Type 1} → statement M
 load-spec =
@@ -50,9 +47,8 @@ load-spec =
     slice-aggregate-read-full
     read-full-requires
     close-requires
-    returns-2
     array-share-prefix-file
-    slice-aggregate-unpack
-    unpack-requires
+    slice-aggregate-read-table
+    read-table-requires
     same-length
-    returns-3)
+    returns-2)

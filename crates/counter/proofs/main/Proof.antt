@@ -1,7 +1,7 @@
+-- `main`: the table's words are in their buffer. Assumes nothing.
 use mathlib.Core.Path.{sym}
 use lib.Seq.{length-take-le}
--- `main`: the table's words are in their buffer. Assumes nothing.
-use Rattle.counter.proofs.Serving.{loaded-words}
+use Rattle.counter.proofs.Loading.{loaded-words}
 use native.Mathlib.Omega.{arith}
 use borrow.Author.Needs.{needs}
 use Rattle.counter.proofs.main.Statement.{statement}
@@ -23,10 +23,13 @@ returns : tie.Need-returns
 returns c = search needs
 
 array-share-prefix-words : tie.Need-array-share-prefix-words
-array-share-prefix-words c = omega (arith, loaded-words _ _ _ (c .before .loaded .given .1) (c .before .before .before .before .load .ensures))
+array-share-prefix-words c =
+    omega (arith, loaded-words _ _ _ (c .before .loaded .given .1) (c .before .before .before .before .load .ensures))
 
 slice-aggregate-run : tie.Need-slice-aggregate-run
-slice-aggregate-run c = sym (length-take-le _ _ (omega (arith, loaded-words _ _ _ (c .before .before .loaded .given .1) (c .before .before .before .before .before .load .ensures))))
+slice-aggregate-run c =
+    let l = c .before .before .before .before .before .load .ensures in
+    sym (length-take-le _ _ (omega (arith, loaded-words _ _ _ (c .before .before .loaded .given .1) l)))
 
 run-requires : tie.Need-run-requires
 run-requires c κs = search needs

@@ -1,6 +1,6 @@
--- `read_piece`: at most 4,096 bytes came, so at most so many names. Assumes nothing.
+-- `read_piece`: at most as many bytes came as io's buffer has. Assumes nothing.
 use lib.ListN.{length-take}
-use Rattle.counter.proofs.Serving.{goes-more}
+use Rattle.counter.proofs.Serving.{takes-read}
 use native.Mathlib.Omega.{arith}
 use borrow.Author.Needs.{needs}
 use Rattle.counter.proofs.read_piece.Statement.{statement}
@@ -49,7 +49,7 @@ same-length-2 : tie.Need-same-length-2
 same-length-2 c = search needs
 
 returns-3 : tie.Need-returns-3
-returns-3 c = goes-more (c .before .before .take-piece .last .1 .1 .0) _ _ (c .before .before .take-piece .result) (c .before .before .take-piece .ensures) (simp length-take (omega arith))
+returns-3 c = takes-read (c .before .before .take-piece .ensures) (simp length-take (omega arith))
 
 pub read-piece-spec : {M : Type 1} → statement M
 read-piece-spec =

@@ -1,16 +1,17 @@
--- `run`: each turn adds at most 4,096 names, so their count fits. Assumes nothing.
+-- `run`: each turn adds no more names than a piece has bytes, so their count fits. Assumes nothing.
 use Prim.Native.Nat.{_+_, _*_, _^_, _≤_}
 use mathlib.Core.Path.{refl, sym}
 use Rattle.lines.specs.Promise.{Holding}
 use Rattle.lines.proofs.Pieces.{holding-none}
-use Rattle.counter.proofs.Serving.{goes-on}
+use Rattle.counter.specs.Promise.{mostPiece}
+use Rattle.counter.proofs.Serving.{reads-on, read-few}
 use native.Mathlib.Omega.{arith}
 use borrow.Author.Needs.{needs}
 use Rattle.counter.proofs.run.Statement.{statement}
 use Rattle.counter.proofs.run.Tie as tie
 
 abbrev Inv-loop : tie.InvT-loop
-Inv-loop table line₀ state₀ turns₀ line state turns = Holding line (state .held) × (state .names + 4096 * turns ≤ 2 ^ 62)
+Inv-loop table line₀ state₀ turns₀ line state turns = Holding line (state .held) × (state .names + mostPiece * turns ≤ 2 ^ 62)
 
 abbrev μ-loop : tie.MeasureT-loop
 μ-loop table line₀ state₀ turns₀ line state turns = turns
@@ -40,7 +41,10 @@ loop-less : tie.Need-loop-less Inv-loop μ-loop
 loop-less c = search needs
 
 loop-again : tie.Need-loop-again Inv-loop μ-loop
-loop-again c = let g = goes-on _ _ _ _ (c .before .step .given .1) (c .before .before .before .before .read-piece .ensures) in (g .holding, omega (arith, g .count, c .before .before .before .before .before .before .before .loop .inv .1))
+loop-again c =
+    let l = c .before .before .before .before .before .before .before .loop in
+    let g = reads-on _ _ _ _ _ (c .before .step .given .1) (c .before .before .before .before .read-piece .ensures) in
+    (g .moved .holding, omega (arith, read-few g, l .inv .1))
 
 returns-2 : tie.Need-returns-2 Inv-loop μ-loop
 returns-2 c = search needs

@@ -1,5 +1,7 @@
--- `serve`: the text that is written is in its buffer. Assumes nothing.
-use Rattle.counter.proofs.Serving.{replied-of, replied-length}
+-- `serve`: the text that is written is in its buffer, and the answer tells of the line. Assumes nothing.
+use mathlib.Core.Path.{sym, _∙_}
+use mathlib.Core.Bool.{false≢true}
+use lib.Seq.{length-take-le}
 use native.Mathlib.Omega.{arith}
 use borrow.Author.Needs.{needs}
 use Rattle.counter.proofs.serve.Statement.{statement}
@@ -11,29 +13,20 @@ slice-aggregate-write-reply c = search needs
 write-reply-requires : tie.Need-write-reply-requires
 write-reply-requires c κs = search needs
 
-enum-known-written : tie.Need-enum-known-written
-enum-known-written c = search needs
-
-enum-told : tie.Need-enum-told
-enum-told c = search needs
-
-bad-requires : tie.Need-bad-requires
-bad-requires c κs = search needs
-
-returns : tie.Need-returns
-returns c = search needs
-
 array-share-prefix-text : tie.Need-array-share-prefix-text
-array-share-prefix-text c = omega (arith, (replied-of _ _ _ _ _ (c .before .written .given .1) (c .before .before .before .before .write-reply .ensures)) .room)
+array-share-prefix-text c = search needs
 
 slice-aggregate-write-all : tie.Need-slice-aggregate-write-all
-slice-aggregate-write-all c = replied-length _ _ _ _ (replied-of _ _ _ _ _ (c .before .before .written .given .1) (c .before .before .before .before .before .write-reply .ensures))
+slice-aggregate-write-all c = sym (length-take-le _ _ (omega arith))
 
 write-all-requires : tie.Need-write-all-requires
 write-all-requires c κs = search needs
 
+returns : tie.Need-returns
+returns c = λ e. absurd (false≢true e)
+
 returns-2 : tie.Need-returns-2
-returns-2 c = search needs
+returns-2 c = λ e. sym (c .before .before .before .before .write-reply .ensures .readable) ∙ e
 
 pub serve-spec : {M : Type 1} → statement M
 serve-spec =
@@ -41,11 +34,8 @@ serve-spec =
     (tie.spec
     slice-aggregate-write-reply
     write-reply-requires
-    enum-known-written
-    enum-told
-    bad-requires
-    returns
     array-share-prefix-text
     slice-aggregate-write-all
     write-all-requires
+    returns
     returns-2)

@@ -1,20 +1,23 @@
 -- `take_piece`: each turn takes a line, or the rest of the piece. Assumes nothing.
 use Prim.Native.Nat.{_-_}
+use mathlib.Core.Path.{refl}
 use lib.ListN.{length}
-use Rattle.counter.proofs.Serving.{Serving, line-of, part-of, line-within, line-length, used-within, serving-line, serving-part}
+use borrow.Author.Tests.{not-false}
+use Rattle.counter.proofs.Serving.{Serving, serving-start, line-of, part-of, line-within, line-length, used-within}
+use Rattle.counter.proofs.Serving.{serving-line, serving-part, serving-end}
 use native.Mathlib.Omega.{arith}
 use borrow.Author.Needs.{needs}
 use Rattle.counter.proofs.take_piece.Statement.{statement}
 use Rattle.counter.proofs.take_piece.Tie as tie
 
 abbrev Inv-loop : tie.InvT-loop
-Inv-loop table piece line₀ held₀ names₀ at₀ line held names at = Serving piece line held names₀ names at
+Inv-loop table piece line₀ held₀ names₀ at₀ line held names at = Serving piece line₀ held₀ names₀ line held names at
 
 abbrev μ-loop : tie.MeasureT-loop
 μ-loop table piece line₀ held₀ names₀ at₀ line held names at = length piece - at
 
 loop-holds : tie.Need-loop-holds Inv-loop μ-loop
-loop-holds c = record { holding = c .before .before .before .pre .0 .holding; count = omega arith; inside = omega arith }
+loop-holds c = serving-start _ _ _ _ (c .before .before .before .pre .0 .holding)
 
 sub-take-line : tie.Need-sub-take-line Inv-loop μ-loop
 sub-take-line c = search needs
@@ -32,10 +35,12 @@ enum-known-taken : tie.Need-enum-known-taken Inv-loop μ-loop
 enum-known-taken c = search needs
 
 slice-reshare-prefix-serve : tie.Need-slice-reshare-prefix-serve Inv-loop μ-loop
-slice-reshare-prefix-serve c = line-within (line-of _ _ _ _ (c .before .before .before .before .before .take-line .ensures) _ _ (c .before .taken .given .1))
+slice-reshare-prefix-serve c =
+    line-within (line-of _ _ _ _ (c .before .before .before .before .before .take-line .ensures) _ _ (c .before .taken .given .1))
 
 slice-aggregate-serve : tie.Need-slice-aggregate-serve Inv-loop μ-loop
-slice-aggregate-serve c = line-length (line-of _ _ _ _ (c .before .before .before .before .before .before .take-line .ensures) _ _ (c .before .before .taken .given .1))
+slice-aggregate-serve c =
+    line-length (line-of _ _ _ _ (c .before .before .before .before .before .before .take-line .ensures) _ _ (c .before .before .taken .given .1))
 
 serve-requires : tie.Need-serve-requires Inv-loop μ-loop
 serve-requires c κs = search needs
@@ -44,19 +49,30 @@ same-length : tie.Need-same-length Inv-loop μ-loop
 same-length c = search needs
 
 returns : tie.Need-returns Inv-loop μ-loop
-returns c = search needs
+returns c = record { is = tt }
 
 add-names : tie.Need-add-names Inv-loop μ-loop
-add-names c = record { fits = omega (arith, c .before .before .before .before .before .before .before .before .before .before .before .before .loop .inv .count, c .before .before .before .before .before .before .before .before .before .before .before .before .loop .inv .inside) }
+add-names c =
+    let l = c .before .before .before .before .before .before .before .before .before .before .before .before .loop .inv in
+    record { fits = omega (arith, l .counted, l .few, l .inside) }
 
 add-at : tie.Need-add-at Inv-loop μ-loop
-add-at c = record { fits = omega (arith, used-within (c .before .before .before .before .before .before .before .before .before .before .before .before .loop .inv) (line-of _ _ _ _ (c .before .before .before .before .before .before .before .before .take-line .ensures) _ _ (c .before .before .before .before .taken .given .1))) }
+add-at c =
+    let s = c .before .before .before .before .before .before .before .before .before .before .before .before .loop .inv in
+    let l = line-of _ _ _ _ (c .before .before .before .before .before .before .before .before .take-line .ensures) _ _ (c .before .before .before .before .taken .given .1) in
+    record { fits = omega (arith, used-within s l) }
 
 loop-less : tie.Need-loop-less Inv-loop μ-loop
-loop-less c = omega (arith, (line-of _ _ _ _ (c .before .before .before .before .before .before .before .before .take-line .ensures) _ _ (c .before .before .before .before .taken .given .1)) .some, used-within (c .before .before .before .before .before .before .before .before .before .before .before .before .loop .inv) (line-of _ _ _ _ (c .before .before .before .before .before .before .before .before .take-line .ensures) _ _ (c .before .before .before .before .taken .given .1)))
+loop-less c =
+    let s = c .before .before .before .before .before .before .before .before .before .before .before .before .loop .inv in
+    let l = line-of _ _ _ _ (c .before .before .before .before .before .before .before .before .take-line .ensures) _ _ (c .before .before .before .before .taken .given .1) in
+    omega (arith, l .some, used-within s l)
 
 loop-again : tie.Need-loop-again Inv-loop μ-loop
-loop-again c = serving-line (c .before .before .before .before .before .before .before .before .before .before .before .before .loop .inv) (line-of _ _ _ _ (c .before .before .before .before .before .before .before .before .take-line .ensures) _ _ (c .before .before .before .before .taken .given .1))
+loop-again c =
+    let s = c .before .before .before .before .before .before .before .before .before .before .before .before .loop .inv in
+    let l = line-of _ _ _ _ (c .before .before .before .before .before .before .before .before .take-line .ensures) _ _ (c .before .before .before .before .taken .given .1) in
+    serving-line s l (c .before .serve .ensures (not-false _ (c .if1 .left)))
 
 enum-known-taken-2 : tie.Need-enum-known-taken-2 Inv-loop μ-loop
 enum-known-taken-2 c = search needs
@@ -65,7 +81,9 @@ loop-less-2 : tie.Need-loop-less-2 Inv-loop μ-loop
 loop-less-2 c = search needs
 
 loop-again-2 : tie.Need-loop-again-2 Inv-loop μ-loop
-loop-again-2 c = serving-part (c .before .before .before .before .before .before .before .before .before .loop .inv) (part-of _ _ _ _ (c .before .before .before .before .before .take-line .ensures) _ (c .before .taken2 .given .1))
+loop-again-2 c =
+    let p = part-of _ _ _ _ (c .before .before .before .before .before .take-line .ensures) _ (c .before .taken2 .given .1) in
+    serving-part (c .before .before .before .before .before .before .before .before .before .loop .inv) p
 
 enum-told : tie.Need-enum-told Inv-loop μ-loop
 enum-told c = search needs
@@ -77,13 +95,13 @@ same-length-2 : tie.Need-same-length-2 Inv-loop μ-loop
 same-length-2 c = search needs
 
 returns-2 : tie.Need-returns-2 Inv-loop μ-loop
-returns-2 c = search needs
+returns-2 c = record { is = tt }
 
 same-length-3 : tie.Need-same-length-3 Inv-loop μ-loop
 same-length-3 c = omega (arith, c .before .loop .inv .holding .room, c .before .before .before .before .before .pre .0 .holding .room)
 
 returns-3 : tie.Need-returns-3 Inv-loop μ-loop
-returns-3 c = record { holding = c .before .loop .inv .holding; count = omega (arith, c .before .loop .inv .count, c .before .loop .inv .inside) }
+returns-3 c = serving-end (c .before .loop .inv) _ refl refl (omega arith)
 
 pub take-piece-spec : {M : Type 1} → statement M
 take-piece-spec =

@@ -4,8 +4,8 @@ use Rattle.normal_forms.proofs.Answer.{arranged}
 use Rattle.normal_forms.proofs.arrange.Statement.{statement}
 use Rattle.normal_forms.proofs.arrange.Tie as tie
 
-classes-into-requires : tie.Need-classes-into-requires
-classes-into-requires c κs = search needs
+put-classes-requires : tie.Need-put-classes-requires
+put-classes-requires c κs = search needs
 
 order-requires : tie.Need-order-requires
 order-requires c κs = search needs
@@ -17,8 +17,8 @@ same-length-2 : tie.Need-same-length-2
 same-length-2 c = search needs
 
 returns : tie.Need-returns
-returns c = let o = c .before .before .before .before .order in arranged _ _ _ _ _ (c .before .before .before .before .before .before .before .before .before .classes-into .ensures) (o .ensures .0) (o .ensures .1)
+returns c = let o = c .before .before .before .before .order in arranged _ _ _ _ _ (c .before .before .before .before .before .before .before .before .before .put-classes .ensures) (o .ensures .0) (o .ensures .1)
 
 pub arrange-spec : {M : Type 1} → statement M
 arrange-spec =
-    tie.close (tie.spec classes-into-requires order-requires same-length same-length-2 returns)
+    tie.close (tie.spec put-classes-requires order-requires same-length same-length-2 returns)

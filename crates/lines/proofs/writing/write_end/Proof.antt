@@ -3,7 +3,7 @@ use Prim.Native.Nat.{_+_, _<_}
 use lib.ListN.{length}
 use denote.Ref.{now}
 use Rattle.lines.specs.Writing.{spaced, endLine}
-use Rattle.lines.proofs.Fronts.{written-same}
+use Rattle.buffers.proofs.Written.{written-same}
 use Rattle.lines.proofs.Lines.{decimal-most, room-behind, end-inside, end-room, whole-line}
 use native.Mathlib.Omega.{arith}
 use borrow.Author.Needs.{needs}

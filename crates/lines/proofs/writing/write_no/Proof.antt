@@ -4,7 +4,7 @@ use mathlib.Core.List.{_++_, _∷_, []}
 use lib.ListN.{length, length-append}
 use denote.Ref.{now}
 use Rattle.lines.specs.Writing.{spaced, noLine}
-use Rattle.lines.proofs.Fronts.{written-same}
+use Rattle.buffers.proofs.Written.{written-same}
 use Rattle.lines.proofs.Lines.{decimal-most, room-behind, both-pieces, end-inside, end-room, whole-line}
 use native.Mathlib.Omega.{arith}
 use borrow.Author.Needs.{needs}

@@ -4,7 +4,7 @@ use lib.ListN.{length}
 use denote.Ref.{now}
 use Rattle.lists.specs.Lists.{joinedMap}
 use Rattle.lines.specs.Writing.{spaced, okLine}
-use Rattle.lines.proofs.Fronts.{written-same, left-behind}
+use Rattle.buffers.proofs.Written.{written-same, left-behind}
 use Rattle.lines.proofs.Lines.{end-inside, end-room, whole-line}
 use native.Mathlib.Omega.{arith}
 use borrow.Author.Needs.{needs}

@@ -1,23 +1,18 @@
--- `name`: each return is one end of the name call. Assumes nothing.
+-- `name`: the two ends of the call. Assumes nothing.
 use borrow.Author.Needs.{needs}
-use Rattle.name.proofs.Answering.{name-ends-refused, name-ends-over, name-ends-accepted}
+use borrow.Author.Tests.{not-true, not-false}
+use Rattle.name.proofs.Answering.{name-kept, name-over}
 use Rattle.name.proofs.name_call.name.Statement.{statement}
 use Rattle.name.proofs.name_call.name.Tie as tie
 
 judge-name-requires : tie.Need-judge-name-requires
 judge-name-requires c κs = search needs
 
-clear-requires : tie.Need-clear-requires
-clear-requires c κs = search needs
+name-length-requires : tie.Need-name-length-requires
+name-length-requires c κs = search needs
 
-enum-known-judged : tie.Need-enum-known-judged
-enum-known-judged c = search needs
-
-enum-told : tie.Need-enum-told
-enum-told c = search needs
-
-clear-requires-2 : tie.Need-clear-requires-2
-clear-requires-2 c κs = search needs
+finish-requires : tie.Need-finish-requires
+finish-requires c κs = search needs
 
 same-length : tie.Need-same-length
 same-length c = search needs
@@ -26,10 +21,11 @@ same-length-2 : tie.Need-same-length-2
 same-length-2 c = search needs
 
 returns : tie.Need-returns
-returns c = name-ends-refused _ _ _ _ _ _ _ (c .before .before .before .before .before .before .before .before .clear .ensures) _ (c .before .before .before .before .before .before .before .before .before .before .before .before .before .before .judge-name .ensures) _ (c .before .before .before .before .enum-told .given .1) _ (c .before .before .clear2 .ensures)
-
-clear-requires-3 : tie.Need-clear-requires-3
-clear-requires-3 c κs = search needs
+returns c =
+    let end = c .before .before .before .before .before in
+    let length = end .before .before .before in
+    let judged = length .before .before .before .before .before in
+    name-over _ _ _ _ _ _ _ _ _ _ _ (end .finish .ensures) _ (judged .judge-name .ensures) (length .name-length .ensures) (not-true _ (c .if1 .taken))
 
 same-length-3 : tie.Need-same-length-3
 same-length-3 c = search needs
@@ -39,54 +35,21 @@ same-length-4 c = search needs
 
 returns-2 : tie.Need-returns-2
 returns-2 c =
-    name-ends-over _ _ _ _ _ _ _ (c .before .before .before .before .before .before .before .before .before .before .clear .ensures) _ (c .before .before .before .before .before .before .before .before .before .before .before .before .before .before .before .before .judge-name .ensures) _ _ (c .before .before .before .before .before .before .judged .given .1) (c .before .before .before .before .if1 .taken) _ (c .before .before .clear3 .ensures)
-
-mul-clear : tie.Need-mul-clear
-mul-clear c = search needs
-
-sub-clear : tie.Need-sub-clear
-sub-clear c = search needs
-
-part-clear-start : tie.Need-part-clear-start
-part-clear-start c = search needs
-
-part-clear-end : tie.Need-part-clear-end
-part-clear-end c = search needs
-
-clear-requires-4 : tie.Need-clear-requires-4
-clear-requires-4 c κs = search needs
-
-same-length-5 : tie.Need-same-length-5
-same-length-5 c = search needs
-
-same-length-6 : tie.Need-same-length-6
-same-length-6 c = search needs
-
-returns-3 : tie.Need-returns-3
-returns-3 c =
-    name-ends-accepted _ _ _ _ _ _ _ (c .before .before .before .before .before .before .before .before .before .before .clear .ensures) _ (c .before .before .before .before .before .before .before .before .before .before .before .before .before .before .before .before .judge-name .ensures) _ _ (c .before .before .before .before .before .before .judged .given .1) (c .before .before .before .before .if1 .left) _ (c .before .before .clear4 .ensures)
+    let end = c .before .before .before .before .before in
+    let length = end .before .before .before in
+    let judged = length .before .before .before .before .before in
+    name-kept _ _ _ _ _ _ _ _ _ _ _ (end .finish .ensures) _ (judged .judge-name .ensures) (length .name-length .ensures) (not-false _ (c .if1 .left))
 
 pub name-spec : {M : Type 1} → statement M
 name-spec =
     tie.close
     (tie.spec
     judge-name-requires
-    clear-requires
-    enum-known-judged
-    enum-told
-    clear-requires-2
+    name-length-requires
+    finish-requires
     same-length
     same-length-2
     returns
-    clear-requires-3
     same-length-3
     same-length-4
-    returns-2
-    mul-clear
-    sub-clear
-    part-clear-start
-    part-clear-end
-    clear-requires-4
-    same-length-5
-    same-length-6
-    returns-3)
+    returns-2)

@@ -28,8 +28,8 @@ returns-3 c = tokens-long _ _ _ _ _ (here (c .before .before .before .before)) (
 normalise-requires : tie.Need-normalise-requires
 normalise-requires c κs = search needs
 
-judge-cells-requires : tie.Need-judge-cells-requires
-judge-cells-requires c κs =
+judge-requires : tie.Need-judge-requires
+judge-requires c κs =
     let m = c .before .before .before .normalise .ensures in
     let p = c .before .before .before .before .before .before .before .before .before .before .before .before .before .pre in
     (p .0, (omega (arith, m .same, p .1 .0), omega (arith, m .few)))
@@ -46,7 +46,7 @@ same-length c = search needs
 returns-4 : tie.Need-returns-4
 returns-4 c =
     let s = c .before .before .before .before .before .before .before .before .before .before .before in
-    tokens-accepted _ _ _ _ _ (here (s .before .before .before .before)) (s .if4 .left) _ _ _ (c .before .before .before .before .before .before .before .before .before .normalise .ensures) _ (c .before .before .before .before .before .judge-cells .ensures) _ (c .before .judged .given .1)
+    tokens-accepted _ _ _ _ _ (here (s .before .before .before .before)) (s .if4 .left) _ _ _ (c .before .before .before .before .before .before .before .before .before .normalise .ensures) _ (c .before .before .before .before .before .judge .ensures) _ (c .before .judged .given .1)
 
 same-length-2 : tie.Need-same-length-2
 same-length-2 c = search needs
@@ -54,7 +54,7 @@ same-length-2 c = search needs
 returns-5 : tie.Need-returns-5
 returns-5 c =
     let s = c .before .before .before .before .before .before .before .before .before .before .before in
-    tokens-refused _ _ _ _ _ (here (s .before .before .before .before)) (s .if4 .left) _ _ _ (c .before .before .before .before .before .before .before .before .before .normalise .ensures) _ (c .before .before .before .before .before .judge-cells .ensures) _ (c .before .judged2 .given .1)
+    tokens-refused _ _ _ _ _ (here (s .before .before .before .before)) (s .if4 .left) _ _ _ (c .before .before .before .before .before .before .before .before .before .normalise .ensures) _ (c .before .before .before .before .before .judge .ensures) _ (c .before .judged2 .given .1)
 
 pub judge-tokens-spec : {M : Type 1} → statement M
 judge-tokens-spec =
@@ -65,7 +65,7 @@ judge-tokens-spec =
     add-if4
     returns-3
     normalise-requires
-    judge-cells-requires
+    judge-requires
     enum-known-judged
     enum-known-judged-2
     same-length

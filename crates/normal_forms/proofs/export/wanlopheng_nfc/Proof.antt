@@ -19,7 +19,7 @@ same-length-2 c = search needs
 returns : tie.Need-returns
 returns c =
     let u = c .before .before .before .before .before .nfc .ensures in
-    record { values = c .form-fields .ensures ∙ u .values; answer-is = u .answer-is; work-is = u .work-is }
+    record { values = c .form-fields .ensures ∙ u .values; answer = u .answer; cleared = u .cleared }
 
 pub wanlopheng-nfc-spec : {M : Type 1} → statement M
 wanlopheng-nfc-spec =

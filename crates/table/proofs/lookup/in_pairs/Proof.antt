@@ -2,11 +2,10 @@
 use Prim.Native.Nat.{_-_}
 use native.Mathlib.Omega.{arith}
 use borrow.Author.Needs.{needs}
-use borrow.Author.Tests.{leb-true, leb-false}
-use mathlib.Core.Logic.{⊎-elim}
+use mathlib.Core.Path.{sym, _∙_}
 use lib.ListN.{length}
 use Rattle.table.specs.Part.{inPairs}
-use Rattle.table.proofs.Lookups.{Walk, walk-start, pairs-hit, pairs-below, pairs-above, pairs-stop}
+use Rattle.table.proofs.Lookups.{Walk, walk-start, pairs-hit, pairs-on, pairs-stop}
 use Rattle.table.proofs.lookup.in_pairs.Statement.{statement}
 use Rattle.table.proofs.lookup.in_pairs.Tie as tie
 
@@ -22,25 +21,29 @@ loop-holds c = walk-start _ _
 sub-loop : tie.Need-sub-loop Inv-loop μ-loop
 sub-loop c = search needs
 
-mul-if1 : tie.Need-mul-if1 Inv-loop μ-loop
-mul-if1 c = search needs
+mul-between : tie.Need-mul-between Inv-loop μ-loop
+mul-between c = search needs
 
-shared-slice-read-if1 : tie.Need-shared-slice-read-if1 Inv-loop μ-loop
-shared-slice-read-if1 c = search needs
+shared-slice-read-between : tie.Need-shared-slice-read-between Inv-loop μ-loop
+shared-slice-read-between c = search needs
 
-add-if2 : tie.Need-add-if2 Inv-loop μ-loop
-add-if2 c = search needs
+add-between : tie.Need-add-between Inv-loop μ-loop
+add-between c = search needs
 
-mul-if2 : tie.Need-mul-if2 Inv-loop μ-loop
-mul-if2 c = search needs
+mul-between-2 : tie.Need-mul-between-2 Inv-loop μ-loop
+mul-between-2 c = search needs
 
-shared-slice-read-if2 : tie.Need-shared-slice-read-if2 Inv-loop μ-loop
-shared-slice-read-if2 c = search needs
+shared-slice-read-between-2 : tie.Need-shared-slice-read-between-2 Inv-loop μ-loop
+shared-slice-read-between-2 c = search needs
+
+between-requires : tie.Need-between-requires Inv-loop μ-loop
+between-requires c κs = search needs
 
 returns : tie.Need-returns Inv-loop μ-loop
 returns c =
-    let p = c .before .before .before .before .before in
-    pairs-hit _ _ (p .loop .i) (p .loop .inv) (omega arith) (c .before .before .if1 .taken) (leb-true _ _ (c .if2 .taken))
+    let b = c .before in
+    let p = b .before .before .before .before in
+    pairs-hit _ _ (p .loop .i) (p .loop .inv) (omega arith) (sym (c .if1 .taken) ∙ b .between .ensures)
 
 add-i : tie.Need-add-i Inv-loop μ-loop
 add-i c = search needs
@@ -50,11 +53,9 @@ loop-less c = search needs
 
 loop-again : tie.Need-loop-again Inv-loop μ-loop
 loop-again c =
-    let p = c .before .before .before in
-    ⊎-elim
-    (λ w. pairs-above _ _ (p .loop .i) (p .loop .inv) (omega arith) (w .0 .taken) (leb-false _ _ (w .2 .left)))
-    (λ w. pairs-below _ _ (p .loop .i) (p .loop .inv) (omega arith) (w .left))
-    (c .if1 .came)
+    let b = c .before in
+    let p = b .before .before .before .before in
+    pairs-on _ _ (p .loop .i) (p .loop .inv) (omega arith) (sym (c .if1 .left) ∙ b .between .ensures)
 
 returns-2 : tie.Need-returns-2 Inv-loop μ-loop
 returns-2 c = pairs-stop _ _ (c .before .loop .i) (c .before .loop .inv) (c .loop-test .left)
@@ -67,11 +68,12 @@ in-pairs-spec =
     μ-loop
     loop-holds
     sub-loop
-    mul-if1
-    shared-slice-read-if1
-    add-if2
-    mul-if2
-    shared-slice-read-if2
+    mul-between
+    shared-slice-read-between
+    add-between
+    mul-between-2
+    shared-slice-read-between-2
+    between-requires
     returns
     add-i
     loop-less

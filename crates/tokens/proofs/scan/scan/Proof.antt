@@ -45,14 +45,14 @@ add-at c =
     let s = c .before .before .before .before .before in
     let h = s .before .before .before .loop-test .taken in
     let l = s .before .before .before .before .loop .inv in
-    omega (arith, scan-taken _ _ _ _ _ _ l h _ _ (s .step .ensures) _ _ (c .before .went .given .1) .1)
+    omega (arith, scan-taken _ _ _ _ _ _ l h _ _ (s .step .ensures) _ _ _ (c .before .went .given .1) .1)
 
 loop-less : tie.Need-loop-less Inv-loop μ-loop
 loop-less c =
     let s = c .before .before .before .before .before in
     let h = s .before .before .before .loop-test .taken in
     let l = s .before .before .before .before .loop .inv in
-    let k = scan-taken _ _ _ _ _ _ l h _ _ (s .step .ensures) _ _ (c .before .went .given .1) in
+    let k = scan-taken _ _ _ _ _ _ l h _ _ (s .step .ensures) _ _ _ (c .before .went .given .1) in
     omega (arith, k .0, k .1)
 
 loop-again : tie.Need-loop-again Inv-loop μ-loop
@@ -60,7 +60,7 @@ loop-again c =
     let s = c .before .before .before .before .before in
     let h = s .before .before .before .loop-test .taken in
     let l = s .before .before .before .before .loop .inv in
-    scan-more _ _ _ _ _ _ l h _ _ (s .step .ensures) _ _ (c .before .went .given .1)
+    scan-more _ _ _ _ _ _ l h _ _ (s .step .ensures) _ _ _ (c .before .went .given .1)
 
 enum-told : tie.Need-enum-told Inv-loop μ-loop
 enum-told c = search needs

@@ -1,0 +1,49 @@
+-- `clear_bytes`: after i turns the first i bytes are 0, and the others as they were. Assumes nothing.
+use Prim.Native.Nat.{_-_}
+use lib.ListN.{length, replicate}
+use native.Mathlib.Omega.{arith}
+use borrow.Author.Needs.{needs}
+use Rattle.buffers.proofs.Front.{Front, front-start, front-fill, front-filled}
+use Rattle.buffers.proofs.clear_bytes.Statement.{statement}
+use Rattle.buffers.proofs.clear_bytes.Tie as tie
+
+abbrev Inv-loop : tie.InvT-loop
+Inv-loop out₀ i₀ out i = Front (replicate i 0) out₀ out i
+
+abbrev μ-loop : tie.MeasureT-loop
+μ-loop out₀ i₀ out i = length out₀ - i
+
+loop-holds : tie.Need-loop-holds Inv-loop μ-loop
+loop-holds c = front-start _
+
+slice-write-out : tie.Need-slice-write-out Inv-loop μ-loop
+slice-write-out c = search needs
+
+add-i : tie.Need-add-i Inv-loop μ-loop
+add-i c = search needs
+
+loop-less : tie.Need-loop-less Inv-loop μ-loop
+loop-less c = search needs
+
+loop-again : tie.Need-loop-again Inv-loop μ-loop
+loop-again c = front-fill 0 (c .before .loop .inv) (omega arith)
+
+same-length : tie.Need-same-length Inv-loop μ-loop
+same-length c = search needs
+
+returns : tie.Need-returns Inv-loop μ-loop
+returns c = front-filled 0 (c .before .loop .inv) (omega arith)
+
+pub clear-bytes-spec : {M : Type 1} → statement M
+clear-bytes-spec =
+    tie.close
+    (tie.spec
+    Inv-loop
+    μ-loop
+    loop-holds
+    slice-write-out
+    add-i
+    loop-less
+    loop-again
+    same-length
+    returns)

@@ -1,0 +1,11 @@
+-- What a function promises that writes at the front of a buffer and answers how much it wrote. Assumes nothing.
+use Prim.Native.Nat.{ℕ, _≤_}
+use mathlib.Core.Path.{_≡_}
+use mathlib.Core.List.{List, _++_}
+use lib.ListN.{length, drop}
+
+-- the r elements of `text` stand in front, and what stood behind them stays
+pub record Writes (text before after : List ℕ) (r : ℕ) : Type 0 where
+  pub holds : after ≡ text ++ drop r before
+  pub long : length text ≡ r
+  pub room : r ≤ length before

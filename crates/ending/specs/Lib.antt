@@ -1,0 +1,4 @@
+pub mod Ending
+pub mod Finish
+pub mod Ends
+pub mod Numbers

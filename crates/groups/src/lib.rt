@@ -1,0 +1,76 @@
+// Refusal 12: the first group that holds every character of a text, and how often the search for it asked.
+use table::Sections;
+use table::lookup::group_at;
+use table::lookup::in_pairs_of;
+ghost use mathlib.Core.Path.{_≡_};
+ghost use Prim.Native.Nat.{_≤_};
+ghost use lib.ListN.{length};
+ghost use Rattle.limits.specs.Limits.{mostInput};
+ghost use Rattle.table.specs.Laid.{Laid, theTable};
+ghost use Rattle.table.specs.GroupPart.{GroupsPart, groupsIn};
+ghost use Rattle.groups.specs.Groups.{searchOf};
+
+// The first group that holds a text: its number and its flags.
+pub enum GroupFound {
+    At {
+        number: usize,
+        restricted: bool,
+        whitelisted: bool,
+    },
+    Nothing,
+}
+
+// What the search answers: the group, and how often it was asked whether a group holds a character.
+pub struct GroupSearch {
+    pub found: GroupFound,
+    pub asked: usize,
+}
+
+// The first group of a section that holds every character. A group is left at the first character that it lacks.
+fn group_in(part: &[u32], text: &[u32]) -> GroupSearch
+    requires { ⌜ GroupsPart (now part) ⌝ }
+    requires { ⌜ length (now text) ≤ mostInput ⌝ }
+    ensures { λ r. ⌜ r ≡ searchOf (groupsIn (now (part .entry))) (now (text .entry)) ⌝ }
+{
+    let mut asked: usize = 0;
+    let mut next: usize = 0;
+    let mut at: usize = 0;
+    'groups: while at < part.len() {
+        let number = next;
+        let group = group_at(part, at);
+        next += 1;
+        at = group.next;
+        let mut i: usize = 0;
+        while i < text.len() {
+            asked += 1;
+            if !in_pairs_of(part, group.pairs, text[i]) {
+                continue 'groups;
+            }
+            i += 1;
+        }
+        return GroupSearch {
+            found: GroupFound::At {
+                number: number,
+                restricted: group.restricted,
+                whitelisted: group.whitelisted,
+            },
+            asked: asked,
+        };
+    }
+    GroupSearch {
+        found: GroupFound::Nothing,
+        asked: asked,
+    }
+}
+
+// The first group of a table that holds every character.
+pub fn group_of(words: &[u32], ix: Sections, text: &[u32]) -> GroupSearch
+    requires { ⌜ Laid (now words) ix ⌝ }
+    requires { ⌜ length (now text) ≤ mostInput ⌝ }
+    ensures { λ r. ⌜ r ≡ searchOf (theTable (now (words .entry)) .groups) (now (text .entry)) ⌝ }
+{
+    let s = ix.groups;
+    let from = s.from;
+    let to = s.to;
+    group_in(&words[from..to], text)
+}

@@ -1,0 +1,5 @@
+pub mod OutsideLaws
+pub mod FlagLaws
+pub mod RespellingLaws
+pub mod OrderLaws
+pub mod CoverLaws

@@ -1,0 +1,63 @@
+-- `lookalike::respellings` meets its contract, by the laws of a walk over the text. Assumes nothing.
+use Prim.Native.Nat.{_-_}
+use native.Mathlib.Omega.{arith}
+use mathlib.Core.Logic.{⊎-elim}
+use lib.ListN.{length}
+use Rattle.table.specs.Laid.{theTable}
+use Rattle.table.proofs.SectionLaws.{laid-reads}
+use Rattle.lookalike.proofs.RespellingLaws.{Spelt, spelt-start, spelt-size, spelt-on, spelt-stop, seen-now, seen-before}
+use borrow.Author.Needs.{needs}
+use Rattle.lookalike.proofs.respellings.Statement.{statement}
+use Rattle.lookalike.proofs.respellings.Tie as tie
+
+abbrev Inv-loop : tie.InvT-loop
+Inv-loop words ix text flags₀ seen₀ i₀ flags seen i = Spelt (theTable words) text flags seen i
+
+abbrev μ-loop : tie.MeasureT-loop
+μ-loop words ix text flags₀ seen₀ i₀ flags seen i = length text - i
+
+loop-holds : tie.Need-loop-holds Inv-loop μ-loop
+loop-holds c = rw (c .before .before .pre .1) (spelt-start _ _ (laid-reads _ _ (c .before .before .pre .0) .few))
+
+mul-narrow : tie.Need-mul-narrow Inv-loop μ-loop
+mul-narrow c = search needs
+
+shared-slice-read-narrow : tie.Need-shared-slice-read-narrow Inv-loop μ-loop
+shared-slice-read-narrow c = search needs
+
+narrow-requires : tie.Need-narrow-requires Inv-loop μ-loop
+narrow-requires c κs =
+    let l = c .before .before .before .before .before .before .pre .0 in
+    (l, spelt-size _ _ (laid-reads _ _ l .few) _ _ _ (c .before .before .before .loop .inv))
+
+add-i : tie.Need-add-i Inv-loop μ-loop
+add-i c = search needs
+
+loop-less : tie.Need-loop-less Inv-loop μ-loop
+loop-less c = search needs
+
+loop-again : tie.Need-loop-again Inv-loop μ-loop
+loop-again c =
+    let p = c .before .before .before .before .before .loop in
+    let r = c .before .narrow .result in
+    let few = laid-reads _ _ (c .before .before .before .before .before .before .before .before .pre .0) .few in
+    spelt-on _ _ few _ _ (p .i) (p .inv) (omega arith) _ _ _ (c .before .narrow .ensures)
+    (⊎-elim (λ w. seen-now (p .seen) r _ (w .0 .taken) (w .1)) (λ w. seen-before (p .seen) r _ (w .0 .left) (w .1)) (c .if1 .came))
+
+returns : tie.Need-returns Inv-loop μ-loop
+returns c = spelt-stop _ _ (laid-reads _ _ (c .before .before .before .before .pre .0) .few) _ _ (c .before .loop .i) (c .before .loop .inv) (c .loop-test .left)
+
+pub respellings-spec : {M : Type 1} → statement M
+respellings-spec =
+    tie.close
+    (tie.spec
+    Inv-loop
+    μ-loop
+    loop-holds
+    mul-narrow
+    shared-slice-read-narrow
+    narrow-requires
+    add-i
+    loop-less
+    loop-again
+    returns)

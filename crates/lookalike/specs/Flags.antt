@@ -1,0 +1,68 @@
+-- A flag for each group, as the look-alike test keeps them: 1 or 0, in mostGroups places. Assumes nothing.
+use Prim.Native.Nat.{ℕ, _-_}
+use mathlib.Core.Path.{_≡_}
+use mathlib.Core.Bool.{Bool, true, false, not, _&&_, _||_, cond}
+use mathlib.Core.List.{List, [], _∷_, _++_, map}
+use lib.ListN.{length, replicate}
+use lib.Dec.{eqb}
+use Rattle.lists.specs.Lists.{all, any}
+use Rattle.table.specs.Table.{Table, Group}
+use Rattle.table.specs.Layout.{mostGroups}
+use Rattle.table.specs.Lookup.{holds}
+use Rattle.lookalike.specs.Confusable.{isConfused, shareGroup, respells}
+
+abbrev pub bit : Bool → ℕ
+bit true = 1
+bit false = 0
+
+-- a group that holds nothing
+unfoldable pub noGroup : Group
+noGroup = record { restricted = false; whitelisted = false; ranges = [] }
+
+-- the groups, and behind them as many that hold nothing as make mostGroups
+unfoldable pub slots : List Group → List Group
+unfolding noGroup
+slots gs = gs ++ replicate (mostGroups - length gs) noGroup
+
+-- a flag for each
+unfoldable pub flagsFor : (Group → Bool) → List Group → List ℕ
+flagsFor f gs = map (λ g. bit (f g)) gs
+
+-- the flags of the groups that hold m are set
+unfoldable pub marked : ℕ → List Group → List ℕ → List ℕ
+marked m [] fs = fs
+marked m (g ∷ gs) [] = []
+marked m (g ∷ gs) (f ∷ fs) = cond (holds g m) 1 f ∷ marked m gs fs
+
+-- a flag is kept where the other list has one, and else cleared
+unfoldable pub kept : List ℕ → List ℕ → List ℕ
+kept [] os = []
+kept (f ∷ fs) [] = []
+kept (f ∷ fs) (o ∷ os) = cond (eqb o 0) 0 f ∷ kept fs os
+
+-- m is outside the extent of c, where m is a member of the whole of c
+unfoldable pub isOutside : Table → ℕ → ℕ → Bool
+isOutside t c m = not (eqb m c || shareGroup t c m)
+
+-- the group holds one of the members outside the extent of c
+abbrev pub heldOutside : Table → ℕ → List ℕ → Group → Bool
+heldOutside t c ms g = any (λ m. isOutside t c m && holds g m) ms
+
+-- the flags of the groups that hold a member outside the extent of c are set
+unfoldable pub markedOutside : Table → ℕ → List ℕ → List ℕ → List ℕ
+markedOutside t c [] fs = fs
+markedOutside t c (m ∷ ms) fs = markedOutside t c ms (cond (isOutside t c m) (marked m (t .groups) fs) fs)
+
+-- whether c is confused, and the flags kept of the groups that can spell it otherwise
+pub record Narrowed (t : Table) (c : ℕ) (fs gs : List ℕ) (r : Bool) : Type 0 where
+  pub confused : r ≡ isConfused t c
+  pub flags : gs ≡ kept fs (flagsFor (λ g. respells t g c) (slots (t .groups)))
+
+-- whether a text has a confused character, and the flags of the groups that can spell each of its characters otherwise
+pub record Respellings (t : Table) (s fs : List ℕ) (r : Bool) : Type 0 where
+  pub confused : r ≡ any (isConfused t) s
+  pub flags : fs ≡ flagsFor (λ g. all (respells t g) s) (slots (t .groups))
+
+-- a flag is set
+abbrev pub anySet : List ℕ → Bool
+anySet fs = any (λ f. not (eqb f 0)) fs

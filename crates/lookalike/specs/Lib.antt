@@ -1,0 +1,4 @@
+pub mod Confusable
+pub mod Flags
+pub mod Order
+pub mod Cover

@@ -1,0 +1,1 @@
+// What the numbers that the calls answer mean: theorems alone, in specs/.

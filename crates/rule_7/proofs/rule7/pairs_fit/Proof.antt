@@ -1,0 +1,73 @@
+-- `rule_7::rule7::pairs_fit` meets its contract, by the laws of a walk over records. Assumes nothing.
+use denote.Ref.{now}
+use Prim.Native.Nat.{_-_}
+use mathlib.Core.Path.{sym, _∙_}
+use borrow.Author.Tests.{not-true, not-false}
+use lib.ListN.{length}
+use Rattle.table.specs.Laid.{theTable}
+use Rattle.sound_parts.specs.Parts.{asHeaded}
+use Rattle.rule_7.specs.Pairs.{pairsFit}
+use Rattle.sound_parts.proofs.Walks.{Through, through-start, head-room, head-fits, head-less, heads-left, heads-stop, heads-pass, heads-last}
+use Rattle.rule_7.proofs.PairLaws.{pair-broken, pair-later, pairs-none}
+use borrow.Author.Needs.{needs}
+use native.Mathlib.Omega.{arith}
+use Rattle.rule_7.proofs.rule7.pairs_fit.Statement.{statement}
+use Rattle.rule_7.proofs.rule7.pairs_fit.Tie as tie
+
+abbrev Inv-loop : tie.InvT-loop
+Inv-loop words ix part i₀ i = Through (pairsFit (theTable words)) asHeaded part i
+
+abbrev μ-loop : tie.MeasureT-loop
+μ-loop words ix part i₀ i = length part - i
+
+loop-holds : tie.Need-loop-holds Inv-loop μ-loop
+loop-holds c = through-start _ _ _ (c .before .before .pre .1)
+
+add-counted : tie.Need-add-counted Inv-loop μ-loop
+add-counted c = search needs
+
+counted-requires : tie.Need-counted-requires Inv-loop μ-loop
+counted-requires c κs = head-room _ _ (c .before .loop .i) (c .before .loop .inv) (c .loop-test .taken)
+
+mul-pair-fits-of : tie.Need-mul-pair-fits-of Inv-loop μ-loop
+mul-pair-fits-of c = search needs
+
+shared-slice-read-pair-fits-of : tie.Need-shared-slice-read-pair-fits-of Inv-loop μ-loop
+shared-slice-read-pair-fits-of c = search needs
+
+pair-fits-of-requires : tie.Need-pair-fits-of-requires Inv-loop μ-loop
+pair-fits-of-requires c κs =
+    (c .before .before .before .before .before .before .pre .0, (head-fits _ _ (c .before .before .before .loop .i) (c .before .before .before .loop .inv) (c .before .before .loop-test .taken) (c .before .counted .result) (c .before .counted .ensures), heads-left _ _ (c .before .before .before .loop .i) (c .before .before .before .loop .inv) (c .before .before .loop-test .taken) (c .before .counted .result) (c .before .counted .ensures)))
+
+returns : tie.Need-returns Inv-loop μ-loop
+returns c =
+    pair-broken (theTable (now (c .before .before .before .before .before .before .before .before .args .words))) _ _ _ (sym (c .before .pair-fits-of .ensures) ∙ not-true _ (c .if1 .taken)) ∙ heads-stop _ _ (c .before .before .before .before .before .loop .i) (c .before .before .before .before .before .loop .inv) (c .before .before .before .before .loop-test .taken) (c .before .before .before .counted .result) (c .before .before .before .counted .ensures)
+
+loop-less : tie.Need-loop-less Inv-loop μ-loop
+loop-less c =
+    omega (arith, head-less _ _ (c .before .before .before .before .before .loop .i) (c .before .before .before .before .before .loop .inv) (c .before .before .before .before .loop-test .taken) (c .before .before .before .counted .result) (c .before .before .before .counted .ensures))
+
+loop-again : tie.Need-loop-again Inv-loop μ-loop
+loop-again c =
+    heads-pass _ _ (c .before .before .before .before .before .loop .i) (c .before .before .before .before .before .loop .inv) (c .before .before .before .before .loop-test .taken) (c .before .before .before .counted .result) (c .before .before .before .counted .ensures) (pair-later (theTable (now (c .before .before .before .before .before .before .before .before .args .words))) _ _ _ (sym (c .before .pair-fits-of .ensures) ∙ not-false _ (c .if1 .left)))
+
+returns-2 : tie.Need-returns-2 Inv-loop μ-loop
+returns-2 c =
+    pairs-none (theTable (now (c .before .before .before .before .args .words))) ∙ heads-last _ _ (c .before .loop .i) (c .before .loop .inv) (c .loop-test .left)
+
+pub pairs-fit-spec : {M : Type 1} → statement M
+pairs-fit-spec =
+    tie.close
+    (tie.spec
+    Inv-loop
+    μ-loop
+    loop-holds
+    add-counted
+    counted-requires
+    mul-pair-fits-of
+    shared-slice-read-pair-fits-of
+    pair-fits-of-requires
+    returns
+    loop-less
+    loop-again
+    returns-2)

@@ -1,0 +1,2 @@
+// Rule 7 of the soundness check.
+pub mod rule7;

@@ -1,0 +1,37 @@
+-- `rules_1_3::rule1::keeps_rule1` meets its contract: rule 1 is the three parts. Assumes nothing.
+use mathlib.Core.Path.{sym, _∙_}
+use borrow.Author.Tests.{not-true, not-false}
+use Rattle.sound_parts.proofs.ScalarLaws.{rule1-parts}
+use Rattle.rules_1_3.proofs.rule1.keeps_rule1.Statement.{statement}
+use Rattle.rules_1_3.proofs.rule1.keeps_rule1.Tie as tie
+
+scalar-ranges-requires : tie.Need-scalar-ranges-requires
+scalar-ranges-requires c κs = c .before .pre
+
+returns : tie.Need-returns
+returns c = rw (rule1-parts _, sym (c .before .scalar-ranges .ensures) ∙ not-true _ (c .if1 .taken))
+
+scalar-records-requires : tie.Need-scalar-records-requires
+scalar-records-requires c κs = c .before .before .before .pre
+
+returns-2 : tie.Need-returns-2
+returns-2 c =
+    rw (rule1-parts _, sym (c .before .before .before .scalar-ranges .ensures) ∙ not-false _ (c .before .before .if1 .left), sym (c .before .scalar-records .ensures) ∙ not-true _ (c .if2 .taken))
+
+scalar-others-requires : tie.Need-scalar-others-requires
+scalar-others-requires c κs = c .before .before .before .before .before .pre
+
+returns-3 : tie.Need-returns-3
+returns-3 c =
+    rw (rule1-parts _, sym (c .before .before .before .before .scalar-ranges .ensures) ∙ not-false _ (c .before .before .before .if1 .left), sym (c .before .before .scalar-records .ensures) ∙ not-false _ (c .before .if2 .left)) (c .scalar-others .ensures)
+
+pub keeps-rule1-spec : {M : Type 1} → statement M
+keeps-rule1-spec =
+    tie.close
+    (tie.spec
+    scalar-ranges-requires
+    returns
+    scalar-records-requires
+    returns-2
+    scalar-others-requires
+    returns-3)

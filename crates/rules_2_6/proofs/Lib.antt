@@ -1,0 +1,4 @@
+pub mod CoverLaws
+pub mod PointLaws
+pub mod HeadLaws
+pub mod WindowLaws

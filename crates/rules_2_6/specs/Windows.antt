@@ -1,0 +1,9 @@
+-- A test of every number below a bound. Assumes nothing.
+use Prim.Native.Nat.{ℕ, _<_}
+use mathlib.Core.Path.{_≡_}
+use mathlib.Core.Bool.{Bool, true, false}
+
+-- whether every number below the bound passes the test
+pub record Passes (p : ℕ → Bool) (bound : ℕ) (r : Bool) : Type 0 where
+  pub yes : r ≡ true → (c : ℕ) → c < bound → p c ≡ true
+  pub no : r ≡ false → ((c : ℕ) → c < bound → p c ≡ true) → ⊥

@@ -1,0 +1,1 @@
+// Closed tables for the rules of the soundness check.

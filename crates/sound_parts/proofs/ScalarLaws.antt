@@ -1,0 +1,39 @@
+-- Laws of scalar values and of the sections that name them. Assumes nothing.
+use Prim.Native.Nat.{ℕ}
+use mathlib.Core.Path.{_≡_, refl}
+use mathlib.Core.Bool.{Bool, true, false, not, _&&_}
+use mathlib.Core.List.{List, [], _∷_, _++_}
+use lib.Dec.{leb, ltb}
+use borrow.Author.Tests.{ltb-true, ltb-false, le-leb, lt-leb}
+use Rattle.lists.specs.Lists.{all}
+use Rattle.table.specs.Table.{ClassRange, Table}
+use Rattle.text.specs.Scalar.{isScalar}
+use Rattle.soundness.specs.Scalars.{scalarsBetween, scalarHeaded, rule1}
+use Rattle.sound_parts.specs.Parts.{rangesScalar, recordsScalar, othersScalar, scalarGroup, scalarWhole}
+
+-- above the surrogates, as one test or the other
+pub above-surrogates : (c : ℕ) → ltb 0xDFFF c ≡ not (leb c 0xDFFF)
+above-surrogates c = go (ltb 0xDFFF c) refl
+  where
+    go : (b : Bool) → ltb 0xDFFF c ≡ b → b ≡ not (leb c 0xDFFF)
+    go true e = rw (lt-leb c 0xDFFF (ltb-true _ _ e))
+    go false e = rw (le-leb c 0xDFFF (ltb-false _ _ e))
+
+regroup : (r m d e x c g w : Bool) → r && m && d && e && x && c && g && w ≡ r && (m && d && e && x) && (c && g && w)
+regroup false m d e x c g w = refl
+regroup true false d e x c g w = refl
+regroup true true false e x c g w = refl
+regroup true true true false x c g w = refl
+regroup true true true true false c g w = refl
+regroup true true true true true false g w = refl
+regroup true true true true true true false w = refl
+regroup true true true true true true true w = refl
+
+-- rule 1, section by section
+pub rule1-parts : (t : Table) → rule1 t ≡ rangesScalar t && recordsScalar t && othersScalar t
+unfolding rule1 rangesScalar recordsScalar othersScalar
+rule1-parts t =
+    regroup (rangesScalar t) (scalarHeaded (t .mapped)) (scalarHeaded (t .decompositions)) (all (all isScalar) (t .emoji)) (all isScalar (t .exclusions))
+    (all (λ (r : ClassRange). scalarsBetween (r .first) (r .last)) (t .classes))
+    (all scalarGroup (t .groups))
+    (all scalarWhole (t .wholes))

@@ -1,0 +1,288 @@
+-- Laws of what is reached after some rounds. Assumes nothing.
+use Prim.Native.Nat.{ℕ, zero, suc, _+_, _-_, _*_, _%_, _<_, _≤_}
+use native.Mathlib.Numerals.{add-one}
+use native.Mathlib.Omega.{arith}
+use mathlib.Core.Path.{_≡_, refl, sym, _∙_, ap, subst}
+use mathlib.Core.Bool.{Bool, true, false, _&&_, _||_, cond}
+use mathlib.Core.List.{List, [], _∷_, _++_, append-nil}
+use mathlib.Core.Logic.{_⊎_, inl, inr, ⊎-elim}
+use mathlib.Core.Option.{Option, none, some, Option·getD}
+use lib.ListN.{length, take, drop, replicate, length-replicate, length-drop, drop-of-length-le}
+use lib.Dec.{ltb}
+use borrow.Author.Tests.{ltb-true, ltb-false}
+use Rattle.lists.specs.Lists.{all, mem, joinedMap, isSome}
+use Rattle.lists.specs.Tests.{mem-both}
+use Rattle.table.specs.Table.{Headed, Group, Table}
+use Rattle.table.specs.Layout.{mostItems, inFront, countFits, headed, groups}
+use Rattle.table.proofs.Lookups.{onlyIf-some, inFront-some}
+use Rattle.table.proofs.Records.{count-fits}
+use Rattle.text.specs.Decomposition.{round, fourRounds}
+use Rattle.soundness.specs.Valid.{countedFrom, groupCharacters}
+use Rattle.table.specs.Part.{recordsIn}
+use Rattle.sound_parts.specs.Parts.{Holds, asHeaded}
+use Rattle.bit_sets.specs.Sets.{has, Put, SetOf, windowWords}
+use Rattle.bit_sets.proofs.PutLaws.{Putting, putting-start, putting-on, putting-done, put-empty, empty-has}
+use Rattle.sound_rounds.specs.Rounds.{headsOf, inGroups, headAt, replaces, after, chosenItems, keptAt, WindowOf, Holding, Chosen}
+use Rattle.sound_rounds.specs.Rounds.{startOf, starting, rowPlaces, rowsWords}
+use Rattle.sound_rounds.specs.Choices.{isPoint, inWindow, rowOf, FirstSet, choosesIn}
+use Rattle.sound_rounds.specs.Reached.{PartsOf, Aligned, RoundIn, Reached, RoundsChosen}
+use Rattle.sound_rounds.proofs.RoundLaws.{round-window}
+use Rattle.sound_rounds.proofs.ChoiceLaws.{RowBelow, row-other, row-past, below-start, below-on, below-done, choice-list}
+
+-- a set that was cleared and filled
+pub window-filled : (old blank new : List ℕ) (p : ℕ → Bool) → length old ≡ windowWords → blank ≡ replicate (length old) 0
+    → Put blank new p → WindowOf new p
+window-filled old blank new p l e w =
+    let n : length blank ≡ windowWords = ap length e ∙ length-replicate {A = ℕ} (length old) 0 ∙ l in
+    let r : length new ≡ windowWords = w .room ∙ n in
+    record { room = r; each = λ d h. put-empty (length old) blank new p e w .each d (rw r (omega arith)) }
+
+pub window-same : (set : List ℕ) (p q : ℕ → Bool) → ((d : ℕ) → d < 0x10000 → p d ≡ q d) → WindowOf set p → WindowOf set q
+window-same set p q e w = record { room = w .room; each = λ d h. w .each d h ∙ e d h }
+
+pub cleared-has : (s blank : List ℕ) → blank ≡ replicate (length s) 0 → (d : ℕ) → has blank d ≡ false
+cleared-has s blank e d = rw e (empty-has (length s) d)
+
+pub cleared-length : (s blank : List ℕ) (n : ℕ) → blank ≡ replicate (length s) 0 → length s ≡ n → length blank ≡ n
+cleared-length s blank n e l = ap length e ∙ length-replicate {A = ℕ} (length s) 0 ∙ l
+
+-- a record has at least three words
+three-each : (k most : ℕ) (ws : List ℕ) (rs : List Headed) → headed k most ws ≡ some rs → 3 * length rs ≤ length ws
+unfolding headed
+three-each zero most [] rs e = let z : rs ≡ [] = cc in rw z (omega arith)
+three-each zero most (w ∷ ws) rs e = absurd (let z : _≡_ {A = ℕ} 0 1 = cc in omega arith)
+three-each (suc k) most [] rs e = let z : rs ≡ [] = cc in rw z (omega arith)
+three-each (suc k) most (a ∷ []) rs e = absurd (let z : _≡_ {A = ℕ} 0 1 = cc in omega arith)
+three-each (suc k) most (a ∷ n ∷ ws) rs e =
+    let r : Headed = record { head = a; items = take n ws } in
+    let q = onlyIf-some (countFits most n ws) (inFront r (headed k most (drop n ws))) rs e in
+    let u = inFront-some r (headed k most (drop n ws)) rs (q .1) in
+    let f = count-fits most n ws (q .0) in
+    let l : 3 * length (u .0) ≤ length ws - n = simp length-drop at (three-each k most (drop n ws) (u .0) (u .1)) in
+    rw (u .2) (omega (arith, l, f .low, f .room))
+
+pub few-in : (part : List ℕ) → Holds asHeaded part → length part ≤ 131072 → length (recordsIn asHeaded part) ≤ rowPlaces
+unfolding recordsIn
+few-in part h l = go (headed (length part) mostItems part) refl h
+  where
+    go : (o : Option (List Headed)) → headed (length part) mostItems part ≡ o → isSome o ≡ true → length (Option·getD o []) ≤ rowPlaces
+    go none e i = omega arith
+    go (some xs) e i = omega (arith, three-each (length part) mostItems part xs e, l)
+
+-- where rounds start
+module _ (t : Table) (part gs : List ℕ) (p : PartsOf t part gs) where
+  pub start-is : (h : Bool) (c : ℕ) → starting h (recordsIn asHeaded part) (recordsIn groups gs) c ≡ mem c (startOf t h)
+  unfolding starting startOf
+  start-is true c = ap (λ (rs : List Headed). mem c (headsOf rs)) (p .heads-are)
+  start-is false c = ap (inGroups c) (p .groups-are) ∙ sym (p .characters c)
+
+  pub heads-held : (base : ℕ) (set : List ℕ) → WindowOf set (λ d. mem (base + d) (headsOf (recordsIn asHeaded part)))
+      → Holding base set (headsOf (t .decompositions))
+  heads-held base set w = window-same set _ _ (λ d h. ap (λ (rs : List Headed). mem (base + d) (headsOf rs)) (p .heads-are)) w
+
+  pub few-records : length (t .decompositions) ≤ rowPlaces
+  few-records = let k = few-in part (p .heads-hold) (p .short) in rw (← p .heads-are) k
+
+  -- the set where rounds start
+  pub start-held : (h : Bool) (base : ℕ) (set : List ℕ)
+      → WindowOf set (λ d. starting h (recordsIn asHeaded part) (recordsIn groups gs) (base + d)) → Holding base set (startOf t h)
+  start-held h base set w = window-same set _ _ (λ d k. start-is h (base + d)) w
+
+module _ (rs : List Headed) (gs : List Group) (base : ℕ) (set : List ℕ) where
+  pub start-heads : (h : Bool) → h ≡ true → WindowOf set (λ d. mem (base + d) (headsOf rs))
+      → WindowOf set (λ d. starting h rs gs (base + d))
+  unfolding starting
+  start-heads h e w = window-same set _ _ (λ d k. rw e) w
+
+  pub start-groups : (h : Bool) → h ≡ false → WindowOf set (λ d. inGroups (base + d) gs) → WindowOf set (λ d. starting h rs gs (base + d))
+  unfolding starting
+  start-groups h e w = window-same set _ _ (λ d k. rw e) w
+
+counted-suc : (a n : ℕ) → countedFrom a (suc n) ≡ a ∷ countedFrom (a + 1) n
+unfolding countedFrom
+counted-suc a n = rw add-one
+
+counted-none : (a : ℕ) → countedFrom a 0 ≡ []
+unfolding countedFrom
+counted-none a = refl
+
+-- the places of the sets of a round
+module _ (f : ℕ → List ℕ) (base : ℕ) (old cur : List ℕ) where
+  pub kept-next : (d : ℕ) → Putting (λ e. mem (base + e) (joinedMap f (countedFrom 0 0x10000)))
+      (λ e. mem (base + e) (joinedMap f (countedFrom d (0x10000 - d)))) old cur
+      → d < 0x10000 → (new : List ℕ) → Put cur new (λ e. mem (base + e) (f d))
+      → Putting (λ e. mem (base + e) (joinedMap f (countedFrom 0 0x10000)))
+      (λ e. mem (base + e) (joinedMap f (countedFrom (d + 1) (0x10000 - (d + 1))))) old new
+  kept-next d w h new p =
+      putting-on _ old _ cur w (λ e. mem (base + e) (f d)) (λ e. mem (base + e) (joinedMap f (countedFrom (d + 1) (0x10000 - (d + 1))))) new
+      (λ e k. ap (λ (l : List ℕ). mem (base + e) (joinedMap f l)) next ∙ mem-both (base + e) (f d)
+      (joinedMap f (countedFrom (d + 1) (0x10000 - (d + 1))))) p
+    where
+      next : countedFrom d (0x10000 - d) ≡ d ∷ countedFrom (d + 1) (0x10000 - (d + 1))
+      next = let k : 0x10000 - d ≡ suc (0x10000 - (d + 1)) = omega arith in ap (countedFrom d) k ∙ counted-suc d (0x10000 - (d + 1))
+
+  pub kept-done : (d : ℕ) → Putting (λ e. mem (base + e) (joinedMap f (countedFrom 0 0x10000)))
+      (λ e. mem (base + e) (joinedMap f (countedFrom d (0x10000 - d)))) old cur
+      → 0x10000 ≤ d → Put old cur (λ e. mem (base + e) (joinedMap f (countedFrom 0 0x10000)))
+  kept-done d w h = putting-done _ old _ cur w (λ e k. ap (λ (l : List ℕ). mem (base + e) (joinedMap f l)) none-left)
+    where
+      none-left : countedFrom d (0x10000 - d) ≡ []
+      none-left = let k : 0x10000 - d ≡ 0 = omega arith in ap (countedFrom d) k ∙ counted-none d
+
+-- a round in a window
+module _ (t : Table) (part gs : List ℕ) (q : PartsOf t part gs) (base k : ℕ) (rows heads set other blank kept filled set′ : List ℕ) where
+  pub round-in : Aligned base → Holding base heads (headsOf (t .decompositions)) → length set ≡ windowWords → length other ≡ windowWords
+      → blank ≡ replicate (length other) 0
+      → Put blank kept (λ e. mem (base + e) (joinedMap (keptAt t base set heads) (countedFrom 0 0x10000)))
+      → Put kept filled (λ d. mem (base + d) (chosenItems (λ i. has rows (k * rowPlaces + i)) 0 (recordsIn asHeaded part)))
+      → set′ ≡ filled ++ drop (length filled) set → RoundIn t base k rows set set′ filled
+  round-in a hh ls lo e u v c =
+      let n : length blank ≡ windowWords = cleared-length other blank windowWords e lo in
+      let r : length filled ≡ windowWords = v .room ∙ u .room ∙ n in
+      let z : set′ ≡ filled = c ∙ ap (λ (l : List ℕ). filled ++ l) (drop-of-length-le set {i = length filled} (omega arith))
+      ∙ append-nil filled in
+      record {
+        room = rw z r;
+        room-2 = r;
+        each = λ s w m. rw z (record { room = r; each = λ d h. whole s w m d h n });
+      }
+    where
+      items : ℕ → Bool
+      items c = mem c (chosenItems (λ i. has rows (k * rowPlaces + i)) 0 (t .decompositions))
+
+      ends : (a b : Bool) → a || (b || false) ≡ a || b
+      ends true b = refl
+      ends false true = refl
+      ends false false = refl
+
+      whole : (s : List ℕ) → Holding base set s → Chosen (t .decompositions) rows k s → (d : ℕ) → d < 0x10000
+          → length blank ≡ windowWords → has filled d ≡ mem (base + d) (round t s)
+      whole s w m d h n =
+          let x : mem (base + d) (chosenItems (λ i. has rows (k * rowPlaces + i)) 0 (recordsIn asHeaded part)) ≡ items (base + d)
+          = ap (λ (rs : List Headed). mem (base + d) (chosenItems (λ i. has rows (k * rowPlaces + i)) 0 rs)) (q .heads-are) in
+          let y : has kept d ≡ mem (base + d) (joinedMap (keptAt t base set heads) (countedFrom 0 0x10000)) || has blank d = u .each d
+          (rw n (omega arith)) in
+          v .each d (rw (u .room ∙ n) (omega arith))
+          ∙ rw (x, y, cleared-has other blank e d)
+          (ends (items (base + d)) (mem (base + d) (joinedMap (keptAt t base set heads) (countedFrom 0 0x10000))))
+          ∙ round-window t s base set heads (λ i. has rows (k * rowPlaces + i)) (a .even) (w .each) (hh .each) m d h
+
+-- the rounds of a window, one after another
+pub record Reaching (t : Table) (s : List ℕ) (k base : ℕ) (rows set other : List ℕ) : Type 0 where
+  pub room : length set ≡ windowWords
+  pub room-2 : length other ≡ windowWords
+  pub each : ((j : ℕ) → j < k → Chosen (t .decompositions) rows j (after j t s)) → Holding base set (after k t s)
+
+module _ (t : Table) (s : List ℕ) (base : ℕ) (rows : List ℕ) where
+  pub reach-start : (set other : List ℕ) → Holding base set s → length other ≡ windowWords → Reaching t s 0 base rows set other
+  unfolding after
+  reach-start set other w l = record { room = w .room; room-2 = l; each = λ m. w }
+
+  pub reach-on : (k : ℕ) (set other set′ other′ : List ℕ) → Reaching t s k base rows set other → RoundIn t base k rows set set′ other′
+      → Reaching t s (k + 1) base rows set′ other′
+  unfolding after
+  reach-on k set other set′ other′ w r =
+      rw add-one (record {
+        room = r .room;
+        room-2 = r .room-2;
+        each = λ m. r .each (after k t s) (w .each (λ j h. m j (omega arith))) (m k (omega arith));
+      })
+
+  pub reach-done : (j k : ℕ) (heads set other : List ℕ) → Reaching t s j base rows set other → j ≡ k
+      → Holding base heads (headsOf (t .decompositions))
+      → Reached t s k base rows heads set other
+  reach-done j k heads set other w e h =
+      record { headed = h; room = w .room; room-2 = w .room-2; each = rw (← e) (w .each) }
+
+-- The row k is chosen, window by window.
+pub record WindowsChosen (t : Table) (s : List ℕ) (k base : ℕ) (rows heads set other : List ℕ) : Type 0 where
+  pub room : length rows ≡ rowsWords
+  pub chosen : (j : ℕ) → j < k → Chosen (t .decompositions) rows j (after j t s)
+  pub row : RowBelow (t .decompositions) rows (k * rowPlaces) base (λ i. replaces (t .decompositions) i && mem
+      (headAt (t .decompositions) i) (after k t s))
+  pub blank : (e : ℕ) → (k + 1) * rowPlaces ≤ e → e < rowsWords * 32 → has rows e ≡ false
+  pub room-heads : length heads ≡ windowWords
+  pub room-set : length set ≡ windowWords
+  pub room-other : length other ≡ windowWords
+  pub even : base % 0x10000 ≡ 0
+
+module _ (t : Table) (part gs : List ℕ) (q : PartsOf t part gs) (s : List ℕ) (k : ℕ) (f : k < 4) where
+  pub windows-start : (rows heads set other : List ℕ) → RoundsChosen t s k rows heads set other
+      → WindowsChosen t s k 0 rows heads set other
+  windows-start rows heads set other w =
+      record {
+        room = w .room;
+        chosen = w .chosen;
+        row = below-start (t .decompositions) (k * rowPlaces) _ rows
+            (λ i h. w .blank (k * rowPlaces + i) (omega arith) (omega (arith, few-records t part gs q)));
+        blank = λ e h l. w .blank e (omega arith) l;
+        room-heads = w .room-heads;
+        room-set = w .room-set;
+        room-other = w .room-other;
+        even = refl;
+      }
+
+  module _ (base : ℕ) (first rows heads set other : List ℕ) (w : WindowsChosen t s k base rows heads set other)
+      (g : FirstSet (t .decompositions) first) where
+    pub windows-on : (heads′ set′ other′ rows′ : List ℕ) → length heads′ ≡ windowWords → Reached t s k base rows heads′ set′ other′
+        → Put rows rows′ (rowOf (k * rowPlaces) (recordsIn asHeaded part) (λ i. choosesIn base (headAt (recordsIn asHeaded part) i) i first
+        set′))
+        → WindowsChosen t s k (base + 0x10000) rows′ heads′ set′ other′
+    windows-on heads′ set′ other′ rows′ lh r u =
+        let ds : List Headed = t .decompositions in
+        let few = few-records t part gs q in
+        let p : ℕ → Bool = λ i. choosesIn base (headAt ds i) i first set′ in
+        let v : Put rows rows′ (rowOf (k * rowPlaces) ds p) = subst (λ (rs : List Headed). Put rows rows′
+        (rowOf (k * rowPlaces) rs (λ i. choosesIn base (headAt rs i) i first set′))) (q .heads-are) u in
+        let l : length rows * 32 ≡ rowsWords * 32 = ap (λ (n : ℕ). n * 32) (w .room) in
+        record {
+          room = u .room ∙ w .room;
+          chosen = λ j h i n.
+              v .each (j * rowPlaces + i) (omega (arith, n, few, h, l, f))
+              ∙ rw (row-other ds (k * rowPlaces) (j * rowPlaces + i) p (below j h i n few)) (w .chosen j h i n);
+          row = below-on ds (k * rowPlaces) _ rows rows′ base p (w .row) v (choice-list ds base first set′ (after k t s) g
+              (r .each (w .chosen))) (omega (arith, few, l, f));
+          blank = λ e h n.
+              v .each e (rw l n)
+              ∙ rw (row-past ds (k * rowPlaces) e p (omega (arith, few))) (w .blank e h n);
+          room-heads = lh;
+          room-set = r .room;
+          room-other = r .room-2;
+          even = omega (arith, w .even);
+        }
+      where
+        below : (j : ℕ) → j < k → (i : ℕ) → i < length (t .decompositions) → length (t .decompositions) ≤ rowPlaces
+            → j * rowPlaces + i < k * rowPlaces
+        below j h i n few = omega arith
+
+  pub windows-done : (base : ℕ) (rows heads set other : List ℕ) → WindowsChosen t s k base rows heads set other → 0x110000 ≤ base
+      → RoundsChosen t s (k + 1) rows heads set other
+  windows-done base rows heads set other w b =
+      record {
+        room = w .room;
+        chosen = λ j h. ⊎-elim (λ l. w .chosen j l) (λ e. rw e (below-done (t .decompositions) (k * rowPlaces) _ rows base (w .row) b
+            (q .points))) (last j h);
+        blank = w .blank;
+        room-heads = w .room-heads;
+        room-set = w .room-set;
+        room-other = w .room-other;
+      }
+    where
+      last : (j : ℕ) → j < k + 1 → (j < k) ⊎ (j ≡ k)
+      last j h = go (ltb j k) refl
+        where
+          go : (b : Bool) → ltb j k ≡ b → (j < k) ⊎ (j ≡ k)
+          go true e = inl (ltb-true j k e)
+          go false e = inr (omega (arith, ltb-false j k e))
+
+-- four rounds
+pub rounds-done : (t : Table) (s : List ℕ) (k : ℕ) (rows heads set other : List ℕ) → RoundsChosen t s k rows heads set other → k ≤ 4
+    → 4 ≤ k
+    → RoundsChosen t s 4 rows heads set other
+rounds-done t s k rows heads set other w h i =
+    let e : k ≡ 4 = omega arith in
+    subst (λ (n : ℕ). RoundsChosen t s n rows heads set other) e w
+
+pub after-four : (t : Table) (s : List ℕ) → after 4 t s ≡ fourRounds t s
+unfolding after fourRounds
+after-four t s = refl

@@ -1,0 +1,68 @@
+-- `sound_rounds::rounds::put_all_kept` meets its contract, place by place. Assumes nothing.
+use Prim.Native.Nat.{_+_, _-_}
+use mathlib.Core.Path.{_∙_}
+use Rattle.lists.specs.Lists.{mem, joinedMap}
+use Rattle.table.specs.Laid.{theTable}
+use Rattle.soundness.specs.Valid.{countedFrom}
+use Rattle.bit_sets.proofs.PutLaws.{Putting, putting-start}
+use Rattle.sound_rounds.specs.Rounds.{keptAt}
+use Rattle.sound_rounds.proofs.ReachLaws.{kept-next, kept-done}
+use borrow.Author.Needs.{needs}
+use Rattle.sound_rounds.proofs.rounds.put_all_kept.Statement.{statement}
+use Rattle.sound_rounds.proofs.rounds.put_all_kept.Tie as tie
+
+abbrev Inv-loop : tie.InvT-loop
+Inv-loop words ix heads from base to₀ d₀ to d =
+    Putting (λ e. mem (base + e) (joinedMap (keptAt (theTable words) base from heads) (countedFrom 0 0x10000)))
+    (λ e. mem (base + e) (joinedMap (keptAt (theTable words) base from heads) (countedFrom d (0x10000 - d)))) to₀ to
+
+abbrev μ-loop : tie.MeasureT-loop
+μ-loop words ix heads from base to₀ d₀ to d = 0x10000 - d
+
+loop-holds : tie.Need-loop-holds Inv-loop μ-loop
+loop-holds c = putting-start _ _
+
+put-kept-requires : tie.Need-put-kept-requires Inv-loop μ-loop
+put-kept-requires c κs =
+    let pre′ = c .before .before .before .before .before .before .before .pre in
+    let loop-test′ = c .before .loop-test in
+    let loop′ = c .before .before .loop in
+    (pre′ .0, (pre′ .1 .0, (pre′ .1 .1 .0, (pre′ .1 .1 .1 .0, (loop-test′ .taken, loop′ .inv .room ∙ pre′ .1 .1 .1 .1)))))
+
+add-d : tie.Need-add-d Inv-loop μ-loop
+add-d c = search needs
+
+loop-less : tie.Need-loop-less Inv-loop μ-loop
+loop-less c = search needs
+
+loop-again : tie.Need-loop-again Inv-loop μ-loop
+loop-again c =
+    let loop′ = c .before .before .before .before .before .loop in
+    let loop-test′ = c .before .before .before .before .loop-test in
+    let put-kept′ = c .before .before .put-kept in
+    kept-next _ _ _ _ (loop′ .d) (loop′ .inv) (loop-test′ .taken) _ (put-kept′ .ensures)
+
+same-length : tie.Need-same-length Inv-loop μ-loop
+same-length c =
+    let loop′ = c .before .loop in
+    loop′ .inv .room
+
+returns : tie.Need-returns Inv-loop μ-loop
+returns c =
+    let loop′ = c .before .loop in
+    let loop-test′ = c .loop-test in
+    kept-done _ _ _ _ (loop′ .d) (loop′ .inv) (loop-test′ .left)
+
+pub put-all-kept-spec : {M : Type 1} → statement M
+put-all-kept-spec =
+    tie.close
+    (tie.spec
+    Inv-loop
+    μ-loop
+    loop-holds
+    put-kept-requires
+    add-d
+    loop-less
+    loop-again
+    same-length
+    returns)

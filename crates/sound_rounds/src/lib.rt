@@ -1,0 +1,4 @@
+// Rounds of single replacement of many codepoints at once, window by window.
+pub mod choices;
+pub mod rounds;
+pub mod starts;

@@ -1,0 +1,266 @@
+//! What the calls leave on the stack, and how much of it they use: each call on
+//! a painted stack of its own, for accepted names of every kind and for every
+//! refusal that is given after text was read. The promises of the calls cannot
+//! speak of the stack, so it is measured. Registers are out of reach here.
+
+mod painted;
+
+use engine::normal_forms::{nfc, nfd};
+use gen::worst;
+use painted::{run, traces, Traces};
+use std::hint::black_box;
+
+const KB: usize = 1 << 10;
+
+/// What a call may leave of a text and use of the stack, on every path.
+struct Limits {
+    /// Words that are single codepoints, spilled by an expression.
+    words: usize,
+    /// Codepoints that stand in order: 1 is never two neighbours.
+    in_order: usize,
+    /// Bytes of stack.
+    stack: usize,
+}
+
+/// A call that is lent a text, a table and both buffers, and answers a number:
+/// what it has to keep to, and what it keeps to today.
+struct Call {
+    what: &'static str,
+    number: fn(&[u32], &[u32], &mut [u32], &mut [u32]) -> u32,
+    due: Limits,
+    today: Limits,
+}
+
+/// Local arrays hold the text of a label, and some paths leave it there.
+const NAME: Call = Call {
+    what: "name",
+    number: |n, t, a, w| engine::name(n, t, 0, a, w).number,
+    due: Limits { words: 16, in_order: 1, stack: 48 * KB },
+    today: Limits { words: 1_024, in_order: 1_024, stack: 152 * KB },
+};
+
+const LABEL: Call = Call {
+    what: "label",
+    number: |n, t, a, w| engine::label(n, t, 0, a, w).number,
+    due: Limits { words: 16, in_order: 1, stack: 48 * KB },
+    today: Limits { words: 1_024, in_order: 1_024, stack: 152 * KB },
+};
+
+/// The decomposition of one codepoint is handed on by value, at most four.
+const NFD: Call = Call {
+    what: "nfd",
+    number: |n, t, a, w| nfd(n, t, a, w).number,
+    due: Limits { words: 16, in_order: 1, stack: 4 * KB },
+    today: Limits { words: 16, in_order: 4, stack: 4 * KB },
+};
+
+const NFC: Call = Call {
+    what: "nfc",
+    number: |n, t, a, w| nfc(n, t, a, w).number,
+    due: Limits { words: 16, in_order: 1, stack: 4 * KB },
+    today: Limits { words: 16, in_order: 4, stack: 4 * KB },
+};
+
+/// Bytes of stack of the soundness check: due, and kept to today.
+const SOUNDNESS_DUE: usize = 64 * KB;
+const SOUNDNESS_TODAY: usize = 424 * KB;
+
+/// Bytes of stack of unpacking.
+const UNPACK: usize = KB;
+
+/// A name, the words of the answer buffer, and the number that is due from the
+/// name call.
+struct Case {
+    what: &'static str,
+    name: Vec<u32>,
+    room: usize,
+    number: u32,
+}
+
+/// Codepoints from here on, none twice.
+fn row(first: u32, count: u32) -> Vec<u32> {
+    (first..first + count).collect()
+}
+
+/// Lower-case letters; in 650 no pair of neighbours stands twice.
+fn letters(count: usize) -> Vec<u32> {
+    let steps = (1..26).flat_map(|step| [step; 26]);
+    let walk = steps.scan(0, |at, step| {
+        *at = (*at + step) % 26;
+        Some(0x61 + *at)
+    });
+    walk.take(count).collect()
+}
+
+fn cases() -> Vec<Case> {
+    let case = |what, number, name: &[&[u32]]| Case { what, name: name.concat(), room: 1_024, number };
+    let capitals: Vec<u32> = letters(40).iter().map(|c| c - 0x20).collect();
+    let cyrillic = [0x43C, 0x438, 0x440, 0x436, 0x44B, 0x448];
+    let family = [0x1F468, 0x200D, 0x2764, 0xFE0F, 0x200D, 0x1F468];
+    let stop = [0x2E];
+    vec![
+        case("ASCII, 14 codepoints", 0, &[&letters(14)]),
+        case("ASCII, 300 codepoints", 0, &[&letters(300)]),
+        case("ASCII, mapped", 0, &[&capitals]),
+        case("emoji", 0, &[&family.repeat(3)]),
+        case("emoji and text", 0, &[&[0xE9, 0xEB], &family, &[0xEE, 0xF6]]),
+        case("Latin, composed", 0, &[&letters(20), &[0x65, 0x301, 0x6F, 0x308]]),
+        case("Cyrillic", 0, &[&cyrillic]),
+        case("Cyrillic, confused", 0, &[&[0x442, 0x4D5]]),
+        case("Hangul", 0, &[&[0xD55C, 0xAD6D, 0xC5B4]]),
+        case("Han, 1,000 codepoints", 0, &[&row(0x4E00, 1_000)]),
+        case("restricted", 0, &[&row(0x13000, 12)]),
+        case("three labels", 0, &[&letters(30), &stop, &cyrillic, &stop, &row(0x4E00, 30)]),
+        case("4, behind text", 4, &[&row(0x4E00, 300), &[0xD800]]),
+        case("5, behind text", 5, &[&letters(200), &[0x40]]),
+        case("6, behind a label", 6, &[&cyrillic, &stop, &stop, &letters(9)]),
+        case("7", 7, &[&row(0x4E00, 1_030)]),
+        case("8", 8, &[&letters(200), &[0x5F]]),
+        case("9", 9, &[&[0x78, 0x6E, 0x2D, 0x2D], &letters(200)]),
+        case("10", 10, &[&letters(200), &[0x2019]]),
+        case("11, behind an emoji", 11, &[&cyrillic, &[0x1F4A9, 0x301], &cyrillic]),
+        case("12", 12, &[&letters(200), &[0x645, 0x635, 0x631]]),
+        case("13", 13, &[&[0x625, 0x610, 0x611, 0x612, 0x613, 0x614]]),
+        case("14, two codepoints", 14, &[&[0x30, 0x445]]),
+        case("14, 300 codepoints", 14, &[&[0x445, 0x430, 0x440, 0x435, 0x43E, 0x441].repeat(50)]),
+        Case { room: 100, ..case("15", 15, &[&letters(300)]) },
+    ]
+}
+
+/// What a call on a name leaves: the number that it answers, the bytes that it
+/// uses, and what stays of the name, of its normal form or of its NFD, which
+/// are worked with too.
+fn left_by(call: &Call, name: &[u32], room: usize, table: &[u32]) -> (u32, usize, Traces) {
+    let (mut answer, mut work) = (vec![0; room], vec![0; 16_384]);
+    let mut number = 0;
+    let left = run(|| number = black_box((call.number)(name, table, &mut answer, &mut work)));
+    let form = answer.split(|&c| c == 0).next().unwrap_or_default();
+    let mut decomposed = vec![0; 4_096];
+    let length = nfd(name, table, &mut decomposed, &mut work).length;
+    let stay = [name, form, &decomposed[..length]].map(|text| traces(&left, text));
+    let most = |of: fn(&Traces) -> usize| stay.iter().map(of).max().unwrap_or(0);
+    (number, left.used, Traces { words: most(|t| t.words), in_order: most(|t| t.in_order) })
+}
+
+/// Each case within these limits, on the full-size table; of the stack alone
+/// also tables made to reach far into 13 and 14.
+fn keeps(call: &Call, limits: &Limits) {
+    let full = standin::full().words;
+    let (mut over, mut most) = (Vec::new(), 0);
+    for Case { what, name, room, number: due } in cases() {
+        let (number, used, Traces { words, in_order }) = left_by(call, &name, room, &full);
+        if call.what == NAME.what {
+            assert_eq!(number, due, "{what}");
+        }
+        println!("{}, {what} ({number}): {words} words, {in_order} in order, {used} bytes", call.what);
+        if words > limits.words || in_order > limits.in_order {
+            over.push(what);
+        }
+        most = most.max(used);
+    }
+    let deep = worst::deep_text(vec![(worst::DEEP_TEXT, worst::DEEP_TEXT + 8)], 230).to_words();
+    let wide = worst::wide_whole().to_words();
+    most = most.max(left_by(call, &[worst::DEEP_TEXT; 4], 1_024, &deep).1);
+    most = most.max(left_by(call, &worst::confused(16), 1_024, &wide).1);
+    println!("{}: {most} bytes of stack", call.what);
+    assert!(over.is_empty(), "{}: text stays after {over:?}", call.what);
+    assert!(most <= limits.stack, "{}: {most} bytes of stack", call.what);
+}
+
+fn soundness_stack() -> usize {
+    let chain = worst::chains(1).to_words();
+    let deep = worst::deep_text(vec![], 0).to_words();
+    let tables = [standin::full().words, chain, deep, worst::wide_whole().to_words()];
+    let used = tables.iter().map(|table| {
+        let left = run(|| {
+            black_box(engine::soundness(table));
+        });
+        left.used
+    });
+    let most = used.max().unwrap_or(0);
+    println!("soundness: {most} bytes of stack");
+    most
+}
+
+/// The scan sees a text that stays, in words of 32 and of 64 bits, and only
+/// that.
+#[test]
+fn the_scan_sees_what_stays() {
+    #[inline(never)]
+    fn spill<const N: usize, W: Copy + From<u32>>(text: &[u32]) -> [W; N] {
+        let mut local = [W::from(0); N];
+        local.iter_mut().zip(text).for_each(|(w, c)| *w = W::from(*c));
+        local
+    }
+    let text = row(0x4E00, 40);
+    let narrow = run(|| {
+        black_box(spill::<40, u32>(&text));
+    });
+    let wide = run(|| {
+        black_box(spill::<40, u64>(&text));
+    });
+    let none = run(|| {
+        black_box(text.len());
+    });
+    assert_eq!(traces(&narrow, &text).in_order, 40);
+    assert_eq!(traces(&wide, &text).in_order, 40);
+    assert_eq!(traces(&none, &text), Traces::default());
+    assert_eq!(traces(&narrow, &row(0x5E00, 40)), Traces::default());
+}
+
+#[test]
+fn name_today() {
+    keeps(&NAME, &NAME.today);
+}
+
+#[test]
+fn label_today() {
+    keeps(&LABEL, &LABEL.today);
+}
+
+#[test]
+fn normal_forms_today() {
+    keeps(&NFD, &NFD.today);
+    keeps(&NFC, &NFC.today);
+}
+
+#[test]
+fn soundness_today() {
+    assert!(soundness_stack() <= SOUNDNESS_TODAY);
+}
+
+#[test]
+fn unpacking() {
+    let file = plain::pack(&standin::names().words);
+    let mut words = vec![0; 10_000];
+    let left = run(|| {
+        black_box(engine::unpack(&file, &mut words));
+    });
+    println!("unpack: {} bytes of stack", left.used);
+    assert!(left.used <= UNPACK);
+}
+
+#[test]
+#[ignore = "local arrays hold text that some paths leave; the look-alike test has large ones"]
+fn name_due() {
+    keeps(&NAME, &NAME.due);
+}
+
+#[test]
+#[ignore = "as for the name call"]
+fn label_due() {
+    keeps(&LABEL, &LABEL.due);
+}
+
+#[test]
+#[ignore = "the decomposition of one codepoint is handed on by value"]
+fn normal_forms_due() {
+    keeps(&NFD, &NFD.due);
+    keeps(&NFC, &NFC.due);
+}
+
+#[test]
+#[ignore = "sets of codepoints stand in local arrays"]
+fn soundness_due() {
+    assert!(soundness_stack() <= SOUNDNESS_DUE);
+}

@@ -1,0 +1,31 @@
+/* What header.rs compiles: for every struct of the header its size, and for every field its offset and size. */
+#include <stdio.h>
+#include "wanlopheng.h"
+
+#define STRUCT(s) printf(#s " %zu\n", sizeof(struct s))
+#define FIELD(s, f) printf(#s "." #f " %zu %zu\n", offsetof(struct s, f), sizeof(((struct s *)0)->f))
+
+int main(void) {
+    STRUCT(wanlopheng_unpack);
+    FIELD(wanlopheng_unpack, number);
+    FIELD(wanlopheng_unpack, count);
+    STRUCT(wanlopheng_name);
+    FIELD(wanlopheng_name, number);
+    FIELD(wanlopheng_name, place);
+    FIELD(wanlopheng_name, length);
+    FIELD(wanlopheng_name, labels);
+    STRUCT(wanlopheng_label);
+    FIELD(wanlopheng_label, number);
+    FIELD(wanlopheng_label, place);
+    FIELD(wanlopheng_label, length);
+    FIELD(wanlopheng_label, kind);
+    FIELD(wanlopheng_label, group);
+    FIELD(wanlopheng_label, restricted);
+    STRUCT(wanlopheng_soundness);
+    FIELD(wanlopheng_soundness, sound);
+    FIELD(wanlopheng_soundness, rule);
+    STRUCT(wanlopheng_form);
+    FIELD(wanlopheng_form, number);
+    FIELD(wanlopheng_form, length);
+    return 0;
+}

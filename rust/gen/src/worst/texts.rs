@@ -1,0 +1,346 @@
+//! Tables and texts that make one call long: what is walked through for each
+//! codepoint, or for each pair of them, fills the table. docs/BOUNDS.md has the
+//! walks that they are made for.
+
+use super::{fit, shuffled, singles, DEEP_TEXT, FIRST};
+use plain::limits::{INPUT, WORKED};
+use plain::TableBuilder;
+
+/// A call that is lent a text.
+#[derive(Clone, Copy, Debug, PartialEq, Eq)]
+pub enum Call {
+    Name,
+    Nfd,
+    Nfc,
+}
+
+/// A call that takes long: on `most` codepoints, or on fewer.
+pub struct Long {
+    pub what: &'static str,
+    pub call: Call,
+    pub table: fn() -> TableBuilder,
+    pub text: fn(usize) -> Vec<u32>,
+    /// Codepoints to start with.
+    pub first: usize,
+    /// Codepoints that make it longest within the limits.
+    pub most: usize,
+    /// What the call answers on the first.
+    pub number: u32,
+}
+
+/// NFD and NFC have no limit of their own: so many codepoints are tried.
+const FORM: usize = 1 << 16;
+
+/// One row of the list below.
+const fn long(
+    what: &'static str,
+    call: Call,
+    table: fn() -> TableBuilder,
+    text: fn(usize) -> Vec<u32>,
+    range: [usize; 2],
+    number: u32,
+) -> Long {
+    Long { what, call, table, text, first: range[0], most: range[1], number }
+}
+
+/// Where a row says "in random order", each comparison's branch is a guess.
+pub const TEXTS: [Long; 29] = [
+    long("scan: emoji of one codepoint", Call::Name, emoji_beside, letter_a, [16, INPUT], 0),
+    long("scan: long emoji that start alike", Call::Name, emoji_alike, letter_a, [16, INPUT], 0),
+    long("scan: valid behind others", Call::Name, valid_last, letter_a, [16, INPUT], 0),
+    long("scan: valid, in random order", Call::Name, valid_random, letter_a, [16, INPUT], 0),
+    long("scan: mapped behind others", Call::Name, mapped_last, capital_a, [16, INPUT], 0),
+    long("scan: ignored, in random order", Call::Name, ignored_random, joiners, [16, INPUT], 0),
+    long("scan: a valid codepoint that becomes 256", Call::Name, valid_deep, deep, [1, INPUT], 12),
+    long("scan: a mapping to 32 that become 256 each", Call::Name, mapped_deep, capital_a, [1, INPUT], 7),
+    long("classes, in random order", Call::Name, classes_random, letter_a, [16, WORKED], 0),
+    long("ordering: classes that fall", Call::Name, falling_classes, falling, [16, WORKED], 0),
+    long("composition: pairs whose head has a class", Call::Name, pairs_with_class, letter_a, [2, WORKED], 0),
+    long("the same, classes in random order", Call::Name, pairs_with_class_random, letter_a, [2, WORKED], 0),
+    long("composition: pairs whose head is excluded", Call::Name, pairs_excluded, letters_ab, [2, WORKED], 0),
+    long("the same, of two equal items", Call::Name, pairs_excluded_equal, letter_a, [2, WORKED], 0),
+    long("10: fenced, in random order", Call::Name, fenced_random, own, [16, WORKED], 0),
+    long("11: marks behind emoji, in random order", Call::Name, marks_random, own_parted, [16, WORKED], 0),
+    long("12: a group's pairs, in random order", Call::Name, group_random, own, [16, WORKED], 0),
+    long("13: 43,000 records, 256 of each codepoint", Call::Name, records_13, deep, [1, 4], 0),
+    long("13: NSM in random order", Call::Name, nsm_13, deep, [1, 4], 0),
+    long("13: classes in random order", Call::Name, classes_13, deep, [1, 4], 0),
+    long("14: many wholes", Call::Name, wholes_14, own, [16, WORKED], 0),
+    long("14: a whole of 65,536 in random order", Call::Name, whole_14, own, [1, WORKED], 0),
+    long("14: the same, pairs in order", Call::Name, whole_14_in_order, own, [1, WORKED], 0),
+    long("NFD: a codepoint that becomes 256", Call::Nfd, valid_deep, deep, [1, FORM], 0),
+    long("NFD: classes, in random order", Call::Nfd, classes_random, letter_a, [16, FORM], 0),
+    long("NFD: classes that fall", Call::Nfd, falling_classes, falling, [1_024, FORM], 0),
+    long("NFC: pairs whose head has a class", Call::Nfc, pairs_with_class, letter_a, [2, FORM], 0),
+    long("NFC: pairs whose head is excluded", Call::Nfc, pairs_excluded_equal, letter_a, [2, FORM], 0),
+    long("NFC: one codepoint that becomes 256 in such pairs", Call::Nfc, deep_pairs, deep, [1, FORM], 0),
+];
+
+// The texts.
+
+fn letter_a(count: usize) -> Vec<u32> {
+    vec![0x61; count]
+}
+
+fn capital_a(count: usize) -> Vec<u32> {
+    vec![0x41; count]
+}
+
+fn letters_ab(count: usize) -> Vec<u32> {
+    [0x61, 0x62].into_iter().cycle().take(count).collect()
+}
+
+/// 61 and ignored codepoints behind it.
+fn joiners(count: usize) -> Vec<u32> {
+    std::iter::once(0x61).chain(vec![0x34F; count - 1]).collect()
+}
+
+/// The first of those that decompose deeply.
+fn deep(count: usize) -> Vec<u32> {
+    vec![DEEP_TEXT; count]
+}
+
+/// The one character of a group.
+const OWN: u32 = 0x3042;
+
+fn own(count: usize) -> Vec<u32> {
+    vec![OWN; count]
+}
+
+const EMOJI: u32 = 0x1F4A9;
+
+/// The same, each behind an emoji.
+fn own_parted(count: usize) -> Vec<u32> {
+    [EMOJI, OWN].into_iter().cycle().take(count).collect()
+}
+
+/// Marks of the classes 254 down to 1, again and again: each passes all that
+/// follow it and are lower.
+fn falling(count: usize) -> Vec<u32> {
+    (0..count).map(|i| FIRST + (254 * i / count) as u32).collect()
+}
+
+// The tables.
+
+fn one(c: u32) -> (u32, u32) {
+    (c, c)
+}
+
+/// 61 and 62 are valid, which is enough for kind ASCII.
+fn ascii() -> TableBuilder {
+    TableBuilder { valid: vec![(0x61, 0x62)], ..TableBuilder::default() }
+}
+
+/// OWN is valid and alone in a whitelisted group.
+fn own_group() -> TableBuilder {
+    TableBuilder { valid: vec![one(OWN)], groups: vec![(2, vec![one(OWN)])], ..TableBuilder::default() }
+}
+
+/// Half of these codepoints are below c, which is below FIRST, the others above
+/// it, in random order: neither test of a pair can be foretold.
+fn around(c: u32, count: u32) -> Vec<u32> {
+    shuffled((0..count).map(|i| if i % 2 == 0 { i % c } else { FIRST + i }).collect())
+}
+
+/// Each of them as a pair.
+fn pairs_around(c: u32, count: u32) -> Vec<(u32, u32)> {
+    around(c, count).into_iter().map(one).collect()
+}
+
+/// Each of them as a triple of one class.
+fn classes_around(c: u32, count: u32) -> Vec<(u32, u32, u32)> {
+    around(c, count).into_iter().map(|d| (d, d, 230)).collect()
+}
+
+fn emoji_beside() -> TableBuilder {
+    let emoji = (0..fit(2, 4)).map(|i| vec![FIRST + i]).collect();
+    TableBuilder { emoji, ..ascii() }
+}
+
+fn emoji_alike() -> TableBuilder {
+    let emoji = (0..fit(33, 4)).map(|i| [&[0x61; 31][..], &[FIRST + i]].concat()).collect();
+    TableBuilder { emoji, ..ascii() }
+}
+
+fn valid_last() -> TableBuilder {
+    TableBuilder { valid: [singles(FIRST, fit(2, 4), 1), vec![one(0x61)]].concat(), ..TableBuilder::default() }
+}
+
+fn valid_random() -> TableBuilder {
+    TableBuilder { valid: [pairs_around(0x61, fit(2, 4)), vec![one(0x61)]].concat(), ..TableBuilder::default() }
+}
+
+/// So many records of three words, and these behind them.
+fn records_before(last: Vec<(u32, Vec<u32>)>, other: usize) -> Vec<(u32, Vec<u32>)> {
+    let words: usize = last.iter().map(|(_, items)| items.len() + 2).sum();
+    let others = (0..fit(3, words + other)).map(|i| (FIRST + i, vec![0x62]));
+    others.chain(last).collect()
+}
+
+fn mapped_last() -> TableBuilder {
+    TableBuilder { mapped: records_before(vec![(0x41, vec![0x61])], 4), ..ascii() }
+}
+
+fn ignored_random() -> TableBuilder {
+    TableBuilder { ignored: [pairs_around(0x34F, fit(2, 8)), vec![one(0x34F)]].concat(), ..ascii() }
+}
+
+/// Records by which DEEP_TEXT becomes 256 codepoints.
+fn becomes_256() -> Vec<(u32, Vec<u32>)> {
+    (0..4).map(|k| (DEEP_TEXT + k, vec![DEEP_TEXT + k + 1; 4])).collect()
+}
+
+fn valid_deep() -> TableBuilder {
+    TableBuilder {
+        valid: vec![one(DEEP_TEXT)],
+        decompositions: records_before(becomes_256(), 4),
+        ..TableBuilder::default()
+    }
+}
+
+fn mapped_deep() -> TableBuilder {
+    TableBuilder {
+        mapped: vec![(0x41, vec![DEEP_TEXT; 32])],
+        decompositions: records_before(becomes_256(), 40),
+        ..TableBuilder::default()
+    }
+}
+
+fn classes_random() -> TableBuilder {
+    TableBuilder { classes: classes_around(0x61, fit(3, 4)), ..ascii() }
+}
+
+fn falling_classes() -> TableBuilder {
+    let all = vec![(FIRST, FIRST + 253)];
+    TableBuilder {
+        valid: all.clone(),
+        classes: (0..254).map(|i| (FIRST + i, FIRST + i, 254 - i)).collect(),
+        groups: vec![(2, all)],
+        ..TableBuilder::default()
+    }
+}
+
+/// The head of every record below.
+const HEAD: u32 = 0x3000;
+
+/// So many records of HEAD with these items.
+fn same_pairs(count: usize, items: [u32; 2]) -> Vec<(u32, Vec<u32>)> {
+    vec![(HEAD, items.to_vec()); count]
+}
+
+fn pairs_with_class() -> TableBuilder {
+    let others = (0..21_800).map(|i| (FIRST + i, FIRST + i, 230));
+    TableBuilder {
+        decompositions: same_pairs(16_000, [0x61, 0x61]),
+        classes: others.chain([(HEAD, HEAD, 230)]).collect(),
+        ..ascii()
+    }
+}
+
+fn pairs_with_class_random() -> TableBuilder {
+    TableBuilder {
+        decompositions: same_pairs(16_000, [0x61, 0x61]),
+        classes: [classes_around(HEAD, 21_800), vec![(HEAD, HEAD, 230)]].concat(),
+        ..ascii()
+    }
+}
+
+/// HEAD behind all other exclusions that fit.
+fn excluded_last(pairs: usize) -> Vec<u32> {
+    (0..fit(1, 4 * pairs + 10)).map(|i| FIRST + i).chain([HEAD]).collect()
+}
+
+fn pairs_excluded() -> TableBuilder {
+    TableBuilder { decompositions: same_pairs(16_000, [0x61, 0x62]), exclusions: excluded_last(16_000), ..ascii() }
+}
+
+fn pairs_excluded_equal() -> TableBuilder {
+    TableBuilder { decompositions: same_pairs(16_000, [0x61, 0x61]), exclusions: excluded_last(16_000), ..ascii() }
+}
+
+/// What DEEP_TEXT becomes 256 times stands in pairs whose head has a class: one
+/// codepoint asks 255 times.
+fn deep_pairs() -> TableBuilder {
+    let end = DEEP_TEXT + 4;
+    let mut table = pairs_with_class_random();
+    table.decompositions = [same_pairs(16_000, [end, end]), becomes_256()].concat();
+    table
+}
+
+fn fenced_random() -> TableBuilder {
+    TableBuilder { fenced: pairs_around(OWN, fit(2, 10)), ..own_group() }
+}
+
+fn marks_random() -> TableBuilder {
+    TableBuilder { marks: pairs_around(OWN, fit(2, 20)), emoji: vec![vec![EMOJI]], ..own_group() }
+}
+
+fn group_random() -> TableBuilder {
+    let pairs = [pairs_around(OWN, fit(2, 10)), vec![one(OWN)]].concat();
+    TableBuilder { valid: vec![one(OWN)], groups: vec![(2, pairs)], ..TableBuilder::default() }
+}
+
+fn records_13() -> TableBuilder {
+    let mut table = super::deep_text(vec![], 0);
+    table.decompositions = records_before(table.decompositions, 30);
+    table
+}
+
+fn nsm_13() -> TableBuilder {
+    super::deep_text(pairs_around(DEEP_TEXT, 65_000), 0)
+}
+
+fn classes_13() -> TableBuilder {
+    let mut table = super::deep_text(vec![], 0);
+    table.classes.splice(0..0, classes_around(DEEP_TEXT, 43_000));
+    table
+}
+
+fn wholes_14() -> TableBuilder {
+    let wholes = (0..fit(4, 8)).map(|i| (vec![FIRST + i], vec![FIRST + i])).collect();
+    TableBuilder { wholes, ..own_group() }
+}
+
+/// A whole of OWN and 65,535 others, two apart, and OWN's group with pairs
+/// between them.
+fn whole_and_pairs(arrange: fn(Vec<(u32, u32)>) -> Vec<(u32, u32)>) -> TableBuilder {
+    let others = shuffled((0..65_535).map(|i| FIRST + 2 * i).collect());
+    let between = arrange(singles(FIRST + 1, 32_700, 4));
+    TableBuilder {
+        valid: vec![one(OWN)],
+        groups: vec![(2, [between, vec![one(OWN)]].concat())],
+        wholes: vec![(vec![], [others, vec![OWN]].concat())],
+        ..TableBuilder::default()
+    }
+}
+
+fn whole_14() -> TableBuilder {
+    whole_and_pairs(shuffled)
+}
+
+fn whole_14_in_order() -> TableBuilder {
+    whole_and_pairs(|pairs| pairs)
+}
+
+#[cfg(test)]
+mod tests {
+    use super::*;
+    use plain::limits::TABLE_WORDS;
+
+    #[test]
+    fn each_text_has_its_number_by_the_plain_version() {
+        for long in &TEXTS {
+            let words = (long.table)().to_words();
+            assert!(words.len() <= TABLE_WORDS, "{}: {} words", long.what, words.len());
+            assert!(plain::layout(&words).is_ok(), "{}", long.what);
+            let text = (long.text)(long.first);
+            assert_eq!(text.len(), long.first, "{}", long.what);
+            if long.call == Call::Name {
+                let table = plain::parse(&words).expect("layout");
+                let judged = plain::judge_name(&plain::Index::new(&table), &text);
+                let number = judged.map_or_else(|refusal| refusal.number, |_| 0);
+                assert_eq!(number, long.number, "{}", long.what);
+            }
+        }
+    }
+}

@@ -1,0 +1,88 @@
+//! A table, and the calls by it.
+
+use crate::{Label, Name, Refusal, Soundness};
+
+/// The words of a table: what names may have, and what becomes of it.
+#[derive(Clone, Copy, Debug)]
+pub struct Table<'w>(&'w [u32]);
+
+impl<'w> Table<'w> {
+    /// The table of these words. Any words will do: where they are no table,
+    /// each call refuses with 1.
+    pub const fn new(words: &'w [u32]) -> Table<'w> {
+        Table(words)
+    }
+
+    /// The table of a file, unpacked into `room`, which needs a word for each
+    /// four bytes of the file. Refusals: 20, 21, 22.
+    pub fn unpack(file: &[u8], room: &'w mut [u32]) -> Result<Table<'w>, Refusal> {
+        let count = engine::unpack(file, room).answer()?;
+        Ok(Table(&room[..count]))
+    }
+
+    /// The words.
+    pub const fn words(&self) -> &'w [u32] {
+        self.0
+    }
+
+    /// Checks the table for soundness. Only by a sound table is a normal form
+    /// its own normal form.
+    pub fn soundness(&self) -> Soundness {
+        engine::soundness(self.0)
+    }
+
+    /// Whether the table is sound.
+    pub fn is_sound(&self) -> bool {
+        self.soundness() == Soundness::Sound
+    }
+
+    /// The name call on codepoints. After success `answer` holds the normal
+    /// form and then zeros, after a refusal zeros; `work`, of at least
+    /// `limits::WORK_WORDS` words, holds zeros either way. Refusals: 1 to 15.
+    pub fn name(&self, input: &[u32], answer: &mut [u32], work: &mut [u32]) -> Result<Name, Refusal> {
+        self.name_with(0, input, answer, work)
+    }
+
+    /// The name call with a setting: with one other than 0, labels of
+    /// restricted groups are refused as 17.
+    pub fn name_with(
+        &self,
+        setting: u32,
+        input: &[u32],
+        answer: &mut [u32],
+        work: &mut [u32],
+    ) -> Result<Name, Refusal> {
+        engine::name(input, self.0, setting, answer, work).answer()
+    }
+
+    /// The label call on codepoints, the buffers as for a name. A full stop is
+    /// refused with 5.
+    pub fn label(&self, input: &[u32], answer: &mut [u32], work: &mut [u32]) -> Result<Label, Refusal> {
+        self.label_with(0, input, answer, work)
+    }
+
+    /// The label call with a setting, as for a name.
+    pub fn label_with(
+        &self,
+        setting: u32,
+        input: &[u32],
+        answer: &mut [u32],
+        work: &mut [u32],
+    ) -> Result<Label, Refusal> {
+        engine::label(input, self.0, setting, answer, work).answer()
+    }
+
+    /// The normal form of a name.
+    #[cfg(feature = "alloc")]
+    pub fn normalise(&self, name: &str) -> Result<alloc::string::String, Refusal> {
+        let mut buffers = alloc::boxed::Box::new(crate::Buffers::new());
+        Ok(buffers.name(*self, name)?.chars().collect())
+    }
+
+    /// The kind of a label.
+    #[cfg(feature = "alloc")]
+    pub fn kind(&self, label: &str) -> Result<crate::Kind, Refusal> {
+        let mut buffers = alloc::boxed::Box::new(crate::Buffers::new());
+        Ok(buffers.label(*self, label)?.1)
+    }
+}

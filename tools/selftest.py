@@ -1,0 +1,273 @@
+#!/usr/bin/env python3
+"""Tests of tools/landing, tools/edits and tools/pointers. Last line: 'N passed, M failed'."""
+
+import contextlib
+import importlib.machinery
+import importlib.util
+import io
+import os
+import subprocess
+import sys
+import tempfile
+import unittest
+from pathlib import Path
+
+HERE = Path(__file__).resolve().parent
+
+
+def tool(name):
+    loader = importlib.machinery.SourceFileLoader(name, str(HERE / name))
+    module = importlib.util.module_from_spec(importlib.util.spec_from_loader(name, loader))
+    loader.exec_module(module)
+    return module
+
+
+sys.dont_write_bytecode = True
+landing = tool("landing")
+edits = tool("edits")
+pointers = tool("pointers")
+
+SPEC = """-- What it defines.
+use Prim.Native.Nat.{ℕ, _≤_}
+
+-- the limit
+unfoldable pub limit : ℕ
+limit = 8
+
+module _ {A : Type 0} where
+
+  -- twice
+  pub double : ℕ → ℕ
+  double n = n + n
+
+pub record Held (n : ℕ) : Type 0 where
+  pub within : n ≤ limit
+
+module _ (n : ℕ) (h : n ≤ limit) where
+
+  pub held : Held n
+  held = record { within = h }
+
+pub in-limit : (n : ℕ) → Held n → n ≤ limit
+in-limit n h = h .within
+"""
+
+SOURCE = """// The code.
+const LIMIT: usize = 8;
+
+pub struct Pair {
+    pub first: u32,
+}
+
+// Whether it is in the limit.
+pub fn fits(n: usize) -> bool
+    ensures { λ r. ⌜ r ≡ leb n limit ⌝ }
+{
+    n <= LIMIT
+}
+
+fn half(n: usize) -> usize {
+    n / 2
+}
+"""
+
+PROOF = """-- `fits` meets its contract.
+returns : tie.Need-returns
+returns c = refl
+"""
+
+LAWS = """pub below : (n : ℕ) → n ≤ n
+below n = refl
+
+pub above : (n : ℕ) → n ≤ suc n
+above n = step
+"""
+
+FILES = {
+    "crates/low/specs/Low.antt": SPEC,
+    "crates/low/src/lib.rt": SOURCE,
+    "crates/low/proofs/fits/Proof.antt": PROOF,
+    "crates/low/proofs/Laws.antt": LAWS,
+    "crates/low/specs/Lib.antt": "module Lib\n",
+}
+
+
+def moves(changes):
+    """The counts of moved, new, gone, elsewhere and stayed items by kind after these changes of files."""
+    head = {path: text for path, text in {**FILES, **changes}.items() if text is not None}
+    found = landing.compared(landing.items_of(FILES), landing.items_of(head))
+    kinds = [[(p[1] if isinstance(p[0], tuple) else p).kind for p in group] for group in found]
+    return {kind: tuple(group.count(kind) for group in kinds) for kind in landing.KINDS}
+
+
+STAYED = {"definitions": (0, 0, 0, 0, 3), "promises": (0, 0, 0, 0, 4), "proofs": (0, 0, 0, 0, 5), "code": (0, 0, 0, 0, 4)}
+
+
+class Landing(unittest.TestCase):
+    def test_items(self):
+        items = landing.items_of(FILES)
+        names = {kind: sorted(i.name for i in items if i.kind == kind) for kind in landing.KINDS}
+        self.assertEqual(names["definitions"], ["Held", "double", "limit"])
+        self.assertEqual(names["promises"], ["fits", "half", "held", "in-limit"])
+        self.assertEqual(names["proofs"], ["above", "below", "fits", "held", "in-limit"])
+        self.assertEqual(names["code"], ["LIMIT", "Pair", "fits", "half"])
+
+    def test_contract_and_body_are_parted(self):
+        items = landing.items_of(FILES)
+        text = {(i.kind, i.name): t for i, t in items.items()}
+        self.assertEqual(text["promises", "fits"], "pub fn fits(n: usize) -> bool ensures { λ r. ⌜ r ≡ leb n limit ⌝ }")
+        self.assertEqual(text["code", "fits"], "n <= LIMIT }")
+        self.assertEqual(text["promises", "half"], "fn half(n: usize) -> usize")
+
+    def test_nothing_moved(self):
+        self.assertEqual(moves({}), STAYED)
+
+    def test_comments_and_layout_do_not_count(self):
+        changes = {
+            "crates/low/specs/Low.antt": SPEC.replace("-- the limit", "-- the greatest").replace("limit = 8", "limit =\n    8"),
+            "crates/low/src/lib.rt": SOURCE.replace("// Whether", "// Says whether").replace("    n <= LIMIT", "    // at most\n    n <= LIMIT"),
+        }
+        self.assertEqual(moves(changes), STAYED)
+
+    def test_a_definition_moves(self):
+        found = moves({"crates/low/specs/Low.antt": SPEC.replace("limit = 8", "limit = 9")})
+        self.assertEqual(found, {**STAYED, "definitions": (1, 0, 0, 0, 2)})
+
+    def test_a_contract_moves_and_its_body_stays(self):
+        found = moves({"crates/low/src/lib.rt": SOURCE.replace("leb n limit", "ltb n limit")})
+        self.assertEqual(found, {**STAYED, "promises": (1, 0, 0, 0, 3)})
+
+    def test_a_statement_moves_and_its_proof_stays(self):
+        found = moves({"crates/low/specs/Low.antt": SPEC.replace("Held n → n ≤ limit", "Held n → n ≤ suc limit")})
+        self.assertEqual(found, {**STAYED, "promises": (1, 0, 0, 0, 3)})
+
+    def test_a_premise_of_a_module_moves(self):
+        found = moves({"crates/low/specs/Low.antt": SPEC.replace("(h : n ≤ limit)", "(h : n ≤ 7)")})
+        self.assertEqual(found, {**STAYED, "promises": (1, 0, 0, 0, 3)})
+
+    def test_a_file_that_goes_elsewhere(self):
+        found = moves({"crates/low/proofs/Laws.antt": None, "crates/lower/proofs/Laws.antt": LAWS.replace("= step", "= more")})
+        self.assertEqual(found, {**STAYED, "proofs": (1, 0, 0, 1, 3)})
+
+    def test_new_and_gone(self):
+        found = moves({"crates/low/src/lib.rt": SOURCE.replace("fn half", "fn third")})
+        self.assertEqual(found, {**STAYED, "promises": (0, 1, 1, 0, 3), "code": (0, 1, 1, 0, 3)})
+
+    def test_times(self):
+        log = "1:02, 1 of 2 crates  rt: low proved (48 s)\nrt: must-fail low/a: refused, as it must be (first at x:3:4; 7 s)\n"
+        self.assertEqual(landing.times_of(log), ({"low": 48}, [7], None))
+        self.assertEqual(landing.times_of(log + "test: 20:05 in all\n")[2], 1205)
+
+    def test_two_commits_and_two_logs(self):
+        with tempfile.TemporaryDirectory() as room:
+            git = lambda *words: subprocess.run(["git", "-C", room, "-c", "user.name=t", "-c", "user.email=t@t", *words], check=True, capture_output=True)
+            git("init", "-q")
+            for text in ("limit = 8", "limit = 9"):
+                for path, content in FILES.items():
+                    file = Path(room, path)
+                    file.parent.mkdir(parents=True, exist_ok=True)
+                    file.write_text(content.replace("limit = 8", text), encoding="utf-8")
+                git("add", ".")
+                git("commit", "-q", "-m", text)
+            before, after = Path(room, "before"), Path(room, "after")
+            before.write_text("rt: low proved (48 s)\n")
+            after.write_text("rt: low proved (50 s)\nrt: new proved (1 s)\ntest: 1:10 in all\n")
+            out, here = io.StringIO(), os.getcwd()
+            os.chdir(room)
+            try:
+                self.assertEqual(landing.main(["HEAD~1", "HEAD", str(before), str(after)], out), 0)
+            finally:
+                os.chdir(here)
+        lines = out.getvalue().splitlines()
+        self.assertIn("| definitions | 1 | 0 | 0 | 0 | 2 |", lines)
+        self.assertIn("- moved: `low`: `limit`", lines)
+        self.assertIn("- stayed: `low`: `Held`, `double`", lines)
+        self.assertIn("| the whole gate | – | 70 s |", lines)
+        self.assertIn("| `low` | 48 s | 50 s |", lines)
+        self.assertIn("| `new` | – | 1 s |", lines)
+
+    def test_bad_usage(self):
+        with contextlib.redirect_stderr(io.StringIO()):
+            self.assertEqual(landing.main([]), 2)
+
+
+class Edits(unittest.TestCase):
+    def verdict(self, *errors):
+        return edits.worthless("\n".join(f"proofs/f/Proof.antt:3:4: error: {e}" for e in errors) + "\nlogic=not-proved\n")
+
+    def test_facts_count(self):
+        for text in (
+            "`loop-again`: computed as far as they go, the two types differ only where one has `1` (expected) and the other has `0` (found)",
+            "`returns-2`: as printed, the two types first differ where one has `_<_` (expected), at the start, and the other has `_≤_`",
+            "`shared-slice-read-dst`: `search`: no proof of `InSlice`",
+            "`copy-words-requires`: `omega`: the goal does not follow from what it read",
+        ):
+            self.assertIsNone(self.verdict(text, "`f-spec`: `returns` was not admitted (..), so this cannot be checked"), text)
+
+    def test_unfit_proof_files_do_not(self):
+        for text in (
+            "`cast-t3`: `tie.Need-cast-t3`: module `Tie` has no `Need-cast-t3` that can be named from here",
+            "`returns-3`: record `Rattle.unpack.proofs.inspect.Lts.Then3` has no field `if2`",
+            "`Inv-loop`: this pattern needs a function (or path) type to bind, but the signature at this point is `Type 0`",
+            "`Inv-loop`: computed as far as they go, the two types are `ℕ → Type 0`",
+            "`μ-loop`: expected type `ℕ`, but this has type `List ℕ`",
+            "`f-spec`: computed as far as they go, the two types first differ where one has `_*_` (expected)",
+            "`returns`: expected type `Prim.Native.Nat.ℕ`, but this has type `mathlib.Core.List.List Prim.Native.Nat.ℕ`",
+        ):
+            self.assertIsNotNone(self.verdict(text), text)
+            self.assertIsNotNone(self.verdict("`returns`: the two types differ", text), text)
+
+    def test_an_index_that_the_proof_cites(self):
+        with tempfile.TemporaryDirectory() as room:
+            proof = Path(room, "Proof.antt")
+            proof.write_text("cast-n c = omega (arith, c .shared-slice-known2 .given 1)\n", encoding="utf-8")
+            cast = f"{proof}:1:12: error: `cast-n`: `omega`: the goal does not follow from what it read"
+            fact = f"{proof}:9:12: error: `returns-2`: the two types first differ where one has `1`"
+            self.assertIsNotNone(edits.worthless(cast))
+            self.assertIsNone(edits.worthless(f"{cast}\n{fact}"))
+
+    def test_a_folder(self):
+        with tempfile.TemporaryDirectory() as room:
+            for name, text in (("good", "`returns`: the two types differ"), ("bad", "`a`: record `R` has no field `if2`")):
+                log = Path(room, "low", name, ".log")
+                log.parent.mkdir(parents=True)
+                log.write_text(f"x:1:1: error: {text}\n", encoding="utf-8")
+            out = io.StringIO()
+            with contextlib.redirect_stdout(out):
+                self.assertEqual(edits.main([room]), 1)
+        lines = out.getvalue().splitlines()
+        self.assertTrue(lines[0].startswith("low/bad: worthless, "), lines)
+        self.assertEqual(lines[1:], ["2 edits, 1 worthless"])
+
+
+class Pointers(unittest.TestCase):
+    def setUp(self):
+        self.room = tempfile.TemporaryDirectory()
+        self.before, pointers.ROOT = pointers.ROOT, Path(self.room.name)
+        for path, text in {**FILES, "docs/READING.md": ""}.items():
+            file = Path(self.room.name, path)
+            file.parent.mkdir(parents=True, exist_ok=True)
+            file.write_text(text, encoding="utf-8")
+
+    def tearDown(self):
+        pointers.ROOT = self.before
+        self.room.cleanup()
+
+    def test_files_and_links(self):
+        here = pointers.ROOT / "docs/READING.md"
+        dead = lambda line: list(pointers.dead_on(line, here))
+        self.assertEqual(dead("`low/src/lib.rt`, `crates/low/specs/Low.antt`, `low/Low`, [01](READING.md), `crates/X/specs/Y.antt`"), [])
+        self.assertEqual(len(dead("`low/src/other.rt` and `low/Other` and [01](01.md)")), 3)
+
+    def test_names_in_a_cell(self):
+        dead = lambda cell: list(pointers.dead_in_cell(cell))
+        self.assertEqual(dead("`low` `limit`, `in-limit`; `low/src/lib.rt` `fits`"), [])
+        self.assertEqual(len(dead("`low` `limits`, `in-lim`; `low/src/lib.rt` `limit-of`")), 3)
+
+
+if __name__ == "__main__":
+    result = unittest.main(exit=False, argv=sys.argv[:1]).result
+    bad = len(result.failures) + len(result.errors)
+    sys.stderr.flush()
+    print(f"{result.testsRun - bad} passed, {bad} failed")
+    sys.exit(1 if bad else 0)
