@@ -1,4 +1,5 @@
 pub mod Numbers
+pub mod Restricted
 pub mod Room
 pub mod Lookalikes
 pub mod Calls
