@@ -109,6 +109,19 @@ struct wanlopheng_soundness wanlopheng_soundness(const uint32_t *words, size_t w
 /* 1 where the words of a table have a layout fault, 0 where they hold a table. */
 uint32_t wanlopheng_layout_fault(const uint32_t *words, size_t words_length);
 
+/* What the call that says which emoji it was answers. */
+struct wanlopheng_emoji {
+    uint32_t number;  /* 0: done. 1: the words have a layout fault. */
+    uint32_t found;   /* 1: a sequence of the table matches. 0: none does, and the rest is 0. */
+    size_t taken;     /* how many codepoints of the part it takes, from the start */
+    size_t index;     /* the number of the matching record, counted from 0 */
+    size_t selectors; /* how many of the codepoints taken are FE0F */
+};
+
+/* Finds the emoji sequence that matches the start of a part of a label and takes most of it, each FE0F of the sequence being optional;
+ * of sequences that take the same, the first. A 2E in the part is a codepoint like any other. */
+struct wanlopheng_emoji wanlopheng_emoji(const uint32_t *part, size_t part_length, const uint32_t *words, size_t words_length);
+
 /* What the calls for NFD and NFC answer. The full decomposition of the text needs room in the answer and in the work area,
  * for NFC too. */
 struct wanlopheng_form {

@@ -1,6 +1,7 @@
 pub mod Emoji
 pub mod Matching
 pub mod Finding
+pub mod Took
 pub mod Match
 pub mod Scan
 pub mod Single

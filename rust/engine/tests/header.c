@@ -65,6 +65,19 @@ static int fields(void) {
     return 0;
 }
 
+/* Which emoji it was, by a table that has 2764 FE0F and 1F600 FE0F FE0F alone. */
+static int emojis(void) {
+    const uint32_t table[] = {0, 0, 0, 0, 0, 0, 0, 7, 2, 0x2764, 0xFE0F, 3, 0x1F600, 0xFE0F, 0xFE0F, 1, 0, 0, 0, 0};
+    const uint32_t part[] = {0x1F600, 0xFE0F, 0xFE0F, 0xFE0F, 0x61};
+    struct wanlopheng_emoji e = wanlopheng_emoji(part, 5, table, 20);
+    if (e.number != 0 || e.found != 1 || e.taken != 3 || e.index != 1 || e.selectors != 2) return 41;
+    e = wanlopheng_emoji(part + 4, 1, table, 20);
+    if (e.number != 0 || e.found != 0 || e.taken != 0 || e.index != 0 || e.selectors != 0) return 42;
+    e = wanlopheng_emoji(part, 5, table, 19);
+    if (e.number != 1 || e.found != 0 || e.taken != 0 || e.index != 0 || e.selectors != 0) return 43;
+    return 0;
+}
+
 int main(void) {
     const uint8_t file[] = {1, 0, 0, 0, 2, 1, 2, 3, 4, 0, 0, 0, 9};
     uint32_t answer[3] = {7, 7, 7};
@@ -80,5 +93,6 @@ int main(void) {
     if (wanlopheng_layout_fault(table, 12) != 1) return 8;
     int failed = calls();
     if (failed == 0) failed = fields();
+    if (failed == 0) failed = emojis();
     return failed != 0 ? failed : forms();
 }

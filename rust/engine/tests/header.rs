@@ -2,6 +2,7 @@
 //! structs beside those of the wrapper; and the C program of docs/USING.md, as
 //! it stands there.
 
+use engine::emoji::Emoji;
 use engine::normal_forms::Form;
 use engine::{Checked, Label, Name, Unpacked};
 use std::mem::{offset_of, size_of};
@@ -64,6 +65,7 @@ fn structs_of_c_and_of_the_wrapper() {
         lines!("wanlopheng_name", Name: number, place, length, labels),
         lines!("wanlopheng_label", Label: number, place, length, kind, group, restricted),
         lines!("wanlopheng_soundness", Checked: sound, rule),
+        lines!("wanlopheng_emoji", Emoji: number, found, taken, index, selectors),
         lines!("wanlopheng_form", Form: number, length),
     ];
     let ran = run(&Path::new(env!("CARGO_MANIFEST_DIR")).join("tests/structs.c"), "structs");

@@ -24,6 +24,12 @@ int main(void) {
     STRUCT(wanlopheng_soundness);
     FIELD(wanlopheng_soundness, sound);
     FIELD(wanlopheng_soundness, rule);
+    STRUCT(wanlopheng_emoji);
+    FIELD(wanlopheng_emoji, number);
+    FIELD(wanlopheng_emoji, found);
+    FIELD(wanlopheng_emoji, taken);
+    FIELD(wanlopheng_emoji, index);
+    FIELD(wanlopheng_emoji, selectors);
     STRUCT(wanlopheng_form);
     FIELD(wanlopheng_form, number);
     FIELD(wanlopheng_form, length);

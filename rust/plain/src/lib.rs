@@ -11,9 +11,11 @@
 //! * `label`: the rules of one label.
 //! * `calls`: the public calls on words and buffers.
 //! * `soundness`: the seven rules of the soundness check.
+//! * `emoji`: which emoji it was.
 //! * `file`: table files.
 
 pub mod calls;
+pub mod emoji;
 pub mod file;
 pub mod label;
 pub mod lookup;

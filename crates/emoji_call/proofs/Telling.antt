@@ -1,0 +1,39 @@
+-- The three ends of the call. Assumes nothing.
+use Prim.Native.Nat.{ℕ}
+use native.Mathlib.Omega.{arith}
+use mathlib.Core.Path.{_≡_, refl, sym, ap, _∙_}
+use mathlib.Core.List.{List}
+use mathlib.Core.Option.{Option, none, some}
+use Rattle.table.specs.Table.{Table}
+use Rattle.table.specs.Layout.{parse}
+use Rattle.table.specs.Laid.{layoutOf, theTable}
+use Rattle.table.specs.declared.Sections.{Sections}
+use Rattle.table.specs.declared.Span.{Span}
+use Rattle.table.specs.declared.Layout.the-variants.{Fault, Found}
+use Rattle.table.proofs.SectionLaws.{found-laid, laid-parse}
+use Rattle.tokens.specs.declared.emoji.Match as match
+use Rattle.tokens.specs.declared.emoji.Match.{Match}
+use Rattle.tokens.specs.Emoji.{find}
+use Rattle.tokens.specs.Match.{foundOf, FoundBy}
+use Rattle.emoji_call.specs.declared.EmojiAnswer as answer
+use Rattle.emoji_call.specs.EmojiCall.{faulty, matching, emojiValues, emojiCall}
+
+module _ (ws part : List ℕ) where
+  pub told-fault : layoutOf ws ≡ Fault → emojiValues answer.the-variants.LayoutFault ≡ emojiCall ws part
+  unfolding layoutOf emojiCall
+  told-fault e = go (parse ws) refl
+    where
+      go : (o : Option Table) → parse ws ≡ o → faulty ≡ emojiCall ws part
+      go none q = rw q
+      go (some t) q = let z : _≡_ {A = ℕ} 0 1 = (let f = rw q at e in cc) in absurd (omega arith)
+
+  module _ (ix : Sections) (l : layoutOf ws ≡ Found ix) (m : Match) (f : FoundBy ws part (find (theTable ws .emoji) part) m) where
+    told : matching (foundOf ws m) ≡ emojiCall ws part
+    unfolding emojiCall
+    told = rw (laid-parse ws ix (found-laid ws ix l)) (ap matching (f .same))
+
+    pub told-found : (n : ℕ) (s : Span) (k g : ℕ) → m ≡ match.the-variants.Found n s k g → emojiValues (answer.the-variants.Found k n g) ≡ emojiCall ws part
+    told-found n s k g e = rw e at told
+
+    pub told-nothing : m ≡ match.the-variants.Nothing → emojiValues answer.the-variants.Nothing ≡ emojiCall ws part
+    told-nothing e = rw e at told

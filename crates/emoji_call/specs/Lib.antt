@@ -1,0 +1,3 @@
+pub mod EmojiCall
+pub mod Facts
+pub mod Examples
