@@ -97,6 +97,20 @@ struct wanlopheng_label {
 struct wanlopheng_label wanlopheng_label(const uint32_t *input, size_t input_length, const uint32_t *words, size_t words_length,
                                          uint32_t setting, uint32_t *answer, size_t answer_length, uint32_t *work, size_t work_length);
 
+/* What the search for a group answers. */
+struct wanlopheng_group {
+    uint32_t number;      /* 0: searched. 1: the words have a layout fault. 3: over 4,096 codepoints. */
+    size_t place;         /* 0 */
+    uint32_t found;       /* 1: a group holds every codepoint of the text. 0: none does. 0 beside a refusal, as all that follows */
+    size_t group;         /* its number, counted from 0; 0 where none was found */
+    uint32_t restricted;  /* 1: the group is restricted */
+    uint32_t whitelisted; /* 1: the group is whitelisted */
+    size_t asked;         /* how often it was asked whether a group holds a codepoint */
+};
+
+/* Finds the first group of a table that holds every codepoint of a text. Codepoints that are no scalar values are in no way special. */
+struct wanlopheng_group wanlopheng_group(const uint32_t *text, size_t text_length, const uint32_t *words, size_t words_length);
+
 /* What the soundness check answers. */
 struct wanlopheng_soundness {
     uint32_t sound; /* 1: sound. 0: a rule is broken, or the layout is at fault. */

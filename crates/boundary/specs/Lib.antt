@@ -1,3 +1,4 @@
 pub mod Crossing
 pub mod Fields
 pub mod EmojiFields
+pub mod GroupFields

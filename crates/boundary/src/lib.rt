@@ -2,6 +2,7 @@
 // A slice crosses as a pointer and a number of elements, an answer as a struct of plain numbers.
 pub mod emoji;
 pub mod fields;
+pub mod group;
 
 use crate::fields::WanlophengLabel;
 use crate::fields::WanlophengName;

@@ -1,5 +1,9 @@
 // Refusal 12: the first group that holds every character of a text, and how often the search for it asked.
+use answers::Refusal;
+use limits::MOST_INPUT;
+use table::Layout;
 use table::Sections;
+use table::laid::layout;
 use table::lookup::group_at;
 use table::lookup::in_pairs_of;
 ghost use mathlib.Core.Path.{_≡_};
@@ -9,6 +13,7 @@ ghost use Rattle.limits.specs.Limits.{mostInput};
 ghost use Rattle.table.specs.Laid.{Laid, theTable};
 ghost use Rattle.table.specs.GroupPart.{GroupsPart, groupsIn};
 ghost use Rattle.groups.specs.Groups.{searchOf};
+ghost use Rattle.groups.specs.Call.{groupValues, groupCall};
 
 // The first group that holds a text: its number and its flags.
 pub enum GroupFound {
@@ -24,6 +29,12 @@ pub enum GroupFound {
 pub struct GroupSearch {
     pub found: GroupFound,
     pub asked: usize,
+}
+
+// What the call answers.
+pub enum GroupAnswer {
+    Searched(GroupSearch),
+    Refused(Refusal),
 }
 
 // The first group of a section that holds every character. A group is left at the first character that it lacks.
@@ -73,4 +84,20 @@ pub fn group_of(words: &[u32], ix: Sections, text: &[u32]) -> GroupSearch
     let from = s.from;
     let to = s.to;
     group_in(&words[from..to], text)
+}
+
+// The call: 1, then 3, then the search.
+pub fn group(text: &[u32], words: &[u32]) -> GroupAnswer
+    ensures { λ r. ⌜ groupValues r ≡ groupCall (now (words .entry)) (now (text .entry)) ⌝ }
+{
+    let found = layout(words);
+    match found {
+        Layout::Fault => GroupAnswer::Refused(Refusal::LayoutFault),
+        Layout::Found(ix) => {
+            if text.len() > MOST_INPUT {
+                return GroupAnswer::Refused(Refusal::InputTooLong);
+            }
+            GroupAnswer::Searched(group_of(words, ix, text))
+        }
+    }
 }

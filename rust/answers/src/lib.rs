@@ -50,3 +50,25 @@ pub enum Soundness {
     /// The lowest broken rule; 0 for a layout fault.
     Broken(u32),
 }
+
+/// A group that holds a text.
+#[derive(Clone, Copy, Debug, PartialEq, Eq)]
+pub struct Found {
+    /// Its number, counted from 0.
+    pub number: usize,
+    /// It is restricted.
+    pub restricted: bool,
+    /// Its combining marks are whitelisted.
+    pub whitelisted: bool,
+}
+
+/// What the search for the group of a text answers.
+#[derive(Clone, Copy, Debug, PartialEq, Eq)]
+pub struct Search {
+    /// The first group that holds every character of the text.
+    pub group: Option<Found>,
+    /// How often it was asked whether a group holds a character: once for each
+    /// place of the text up to and with the first missing one, in each group up
+    /// to the first that holds all.
+    pub asked: usize,
+}

@@ -10,7 +10,7 @@ pub mod normal_forms;
 mod raw;
 
 pub use answers::{Kind, Refusal, Soundness};
-pub use raw::{Checked, Label};
+pub use raw::{Checked, Group, Label};
 
 /// What was found, or the refusal of this number where it is not 0.
 fn unless<T>(number: u32, place: usize, found: T) -> Result<T, Refusal> {
@@ -93,6 +93,22 @@ pub fn name(input: &[u32], table: &[u32], setting: u32, answer: &mut [u32], work
 /// Normalises one label; the setting and the buffers as for a name.
 pub fn label(input: &[u32], table: &[u32], setting: u32, answer: &mut [u32], work: &mut [u32]) -> Label {
     raw::label(input, table, setting, answer, work)
+}
+
+impl Group {
+    /// The group and the number of questions, or the refusal.
+    pub fn answer(self) -> Result<answers::Search, Refusal> {
+        let found =
+            answers::Found { number: self.group, restricted: self.restricted != 0, whitelisted: self.whitelisted != 0 };
+        let group = (self.found != 0).then_some(found);
+        unless(self.number, self.place, answers::Search { group, asked: self.asked })
+    }
+}
+
+/// Finds the first group of a table that holds every character of a text, and
+/// says how often it asked whether a group holds a character.
+pub fn group(text: &[u32], table: &[u32]) -> Group {
+    raw::group(text, table)
 }
 
 /// Checks the words of a table for soundness.

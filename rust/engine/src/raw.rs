@@ -18,6 +18,22 @@ pub struct Label {
     pub restricted: u32,
 }
 
+/// What the search for a group answers. `number` is 0, or 1 or 3 for a refusal,
+/// with zeros beside it; `found` is 1 where a group holds the text, which alone
+/// has `group`, its number from 0, and its flags, 0 or 1. `asked` says how often
+/// it was asked whether a group holds a character.
+#[repr(C)]
+#[derive(Clone, Copy, Debug, PartialEq, Eq)]
+pub struct Group {
+    pub number: u32,
+    pub place: usize,
+    pub found: u32,
+    pub group: usize,
+    pub restricted: u32,
+    pub whitelisted: u32,
+    pub asked: usize,
+}
+
 /// What the soundness check answers: `sound` is 1 or 0, `rule` the lowest
 /// broken rule, 0 for a layout fault and where the table is sound.
 #[repr(C)]
@@ -71,6 +87,7 @@ lent!(wanlopheng_nfc, nfc() -> Form);
 
 extern "C" {
     fn wanlopheng_unpack(file: *const u8, file_length: usize, answer: *mut u32, answer_length: usize) -> Unpacked;
+    fn wanlopheng_group(text: *const u32, text_length: usize, words: *const u32, words_length: usize) -> Group;
     fn wanlopheng_soundness(words: *const u32, words_length: usize) -> Checked;
     fn wanlopheng_layout_fault(words: *const u32, words_length: usize) -> u32;
 }
@@ -78,6 +95,11 @@ extern "C" {
 pub fn unpack(file: &[u8], answer: &mut [u32]) -> Unpacked {
     // SAFETY: both slices are lent for the call, each with its own length.
     unsafe { wanlopheng_unpack(file.as_ptr(), file.len(), answer.as_mut_ptr(), answer.len()) }
+}
+
+pub fn group(text: &[u32], words: &[u32]) -> Group {
+    // SAFETY: both slices are lent for the call, each with its own length.
+    unsafe { wanlopheng_group(text.as_ptr(), text.len(), words.as_ptr(), words.len()) }
 }
 
 pub fn soundness(words: &[u32]) -> Checked {

@@ -41,6 +41,11 @@ static int calls(void) {
     if (l.number != 0 || l.length != 1 || l.kind != WANLOPHENG_ASCII || l.group != 0 || l.restricted != 0 || answer[0] != 0x61) return 25;
     l = wanlopheng_label(name, 4, table, 22, 0, answer, 6, work, 2048);
     if (l.number != 5 || l.place != 1 || l.length != 0 || l.kind != 0 || answer[0] != 0) return 26;
+    struct wanlopheng_group g = wanlopheng_group(name + 2, 1, table, 22);
+    if (g.number || g.place || g.found != 1 || g.group != 0 || g.restricted != 1 || g.whitelisted != 0 || g.asked != 1) return 28;
+    g = wanlopheng_group(name + 1, 3, table, 22);
+    if (g.number || g.place || g.found || g.group || g.restricted || g.whitelisted || g.asked != 1) return 29;
+    if (wanlopheng_group(name, 1, table, 21).number != 1) return 30;
     struct wanlopheng_soundness sound = wanlopheng_soundness(table, 22), fault = wanlopheng_soundness(table, 21);
     if (sound.sound != 1 || sound.rule != 0 || fault.sound != 0 || fault.rule != 0) return 27;
     return 0;

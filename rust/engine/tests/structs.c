@@ -21,6 +21,14 @@ int main(void) {
     FIELD(wanlopheng_label, kind);
     FIELD(wanlopheng_label, group);
     FIELD(wanlopheng_label, restricted);
+    STRUCT(wanlopheng_group);
+    FIELD(wanlopheng_group, number);
+    FIELD(wanlopheng_group, place);
+    FIELD(wanlopheng_group, found);
+    FIELD(wanlopheng_group, group);
+    FIELD(wanlopheng_group, restricted);
+    FIELD(wanlopheng_group, whitelisted);
+    FIELD(wanlopheng_group, asked);
     STRUCT(wanlopheng_soundness);
     FIELD(wanlopheng_soundness, sound);
     FIELD(wanlopheng_soundness, rule);

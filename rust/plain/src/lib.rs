@@ -9,6 +9,7 @@
 //! * `text`: Hangul, classes, decomposition, ordering, composition.
 //! * `tokens`: emoji matching and the walk over one label.
 //! * `label`: the rules of one label.
+//! * `groups`: the search for 12 as a call.
 //! * `calls`: the public calls on words and buffers.
 //! * `soundness`: the seven rules of the soundness check.
 //! * `emoji`: which emoji it was.
@@ -17,6 +18,7 @@
 pub mod calls;
 pub mod emoji;
 pub mod file;
+pub mod groups;
 pub mod label;
 pub mod lookup;
 pub mod ranges;

@@ -1,0 +1,38 @@
+-- The ends of the call that shows the search. Assumes nothing.
+use Prim.Native.Nat.{ℕ, _<_, _≤_}
+use native.Mathlib.Omega.{arith}
+use mathlib.Core.Path.{_≡_, refl, sym, _∙_, ap}
+use mathlib.Core.List.{List}
+use mathlib.Core.Option.{Option, none, some}
+use lib.ListN.{length}
+use borrow.Author.Tests.{lt-ltb, le-ltb}
+use Rattle.limits.specs.Limits.{mostInput}
+use Rattle.table.specs.Table.{Table}
+use Rattle.table.specs.Layout.{parse}
+use Rattle.table.specs.Laid.{Laid, layoutOf, theTable}
+use Rattle.table.specs.declared.Sections.{Sections}
+use Rattle.table.specs.declared.Layout.the-variants.{Fault}
+use Rattle.table.proofs.SectionLaws.{laid-parse}
+use Rattle.groups.specs.declared.GroupSearch.{GroupSearch}
+use Rattle.groups.specs.declared.GroupAnswer.the-variants.{Searched}
+use Rattle.groups.specs.Groups.{searchOf}
+use Rattle.groups.specs.Call.{GroupValues, refusedWith, groupValues, groupCall}
+
+-- 1
+pub call-fault : (ws s : List ℕ) → layoutOf ws ≡ Fault → refusedWith 1 0 ≡ groupCall ws s
+unfolding layoutOf groupCall
+call-fault ws s e = go (parse ws) refl
+  where
+    go : (o : Option Table) → parse ws ≡ o → refusedWith 1 0 ≡ groupCall ws s
+    go none f = rw f
+    go (some t) f = let z : _≡_ {A = ℕ} 0 1 = (let g = rw f at e in cc) in absurd (omega arith)
+
+module _ (ws s : List ℕ) (ix : Sections) (l : Laid ws ix) where
+  -- 3
+  pub call-long : mostInput < length s → refusedWith 3 0 ≡ groupCall ws s
+  unfolding groupCall
+  call-long h = rw (laid-parse ws ix l, lt-ltb mostInput (length s) h)
+
+  pub call-searched : length s ≤ mostInput → (r : GroupSearch) → r ≡ searchOf (theTable ws .groups) s → groupValues (Searched r) ≡ groupCall ws s
+  unfolding groupCall
+  call-searched h r e = rw (laid-parse ws ix l, le-ltb mostInput (length s) h, e)
