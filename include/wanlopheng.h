@@ -123,6 +123,19 @@ struct wanlopheng_soundness wanlopheng_soundness(const uint32_t *words, size_t w
 /* 1 where the words of a table have a layout fault, 0 where they hold a table. */
 uint32_t wanlopheng_layout_fault(const uint32_t *words, size_t words_length);
 
+/* A part of an input. */
+struct wanlopheng_part {
+    size_t start;  /* the index of its first codepoint */
+    size_t length; /* the number of its codepoints */
+};
+
+/* The part of an input that remains when 9, A, D and 20 are taken off both ends; for an input of blanks the empty part at its
+ * end. Nothing is copied or written: hand on input + start and length, as in
+ *     struct wanlopheng_part p = wanlopheng_trim(input, input_length);
+ *     wanlopheng_name(input + p.start, p.length, ...);
+ * No other call trims. */
+struct wanlopheng_part wanlopheng_trim(const uint32_t *input, size_t input_length);
+
 /* What the call that says which emoji it was answers. */
 struct wanlopheng_emoji {
     uint32_t number;  /* 0: done. 1: the words have a layout fault. */

@@ -1,4 +1,5 @@
 pub mod Crossing
 pub mod Fields
+pub mod Trimming
 pub mod EmojiFields
 pub mod GroupFields

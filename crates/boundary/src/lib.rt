@@ -3,6 +3,7 @@
 pub mod emoji;
 pub mod fields;
 pub mod group;
+pub mod trimming;
 
 use crate::fields::WanlophengLabel;
 use crate::fields::WanlophengName;

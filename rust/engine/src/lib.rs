@@ -10,7 +10,7 @@ pub mod normal_forms;
 mod raw;
 
 pub use answers::{Kind, Refusal, Soundness};
-pub use raw::{Checked, Group, Label};
+pub use raw::{Checked, Group, Label, Part};
 
 /// What was found, or the refusal of this number where it is not 0.
 fn unless<T>(number: u32, place: usize, found: T) -> Result<T, Refusal> {
@@ -93,6 +93,18 @@ pub fn name(input: &[u32], table: &[u32], setting: u32, answer: &mut [u32], work
 /// Normalises one label; the setting and the buffers as for a name.
 pub fn label(input: &[u32], table: &[u32], setting: u32, answer: &mut [u32], work: &mut [u32]) -> Label {
     raw::label(input, table, setting, answer, work)
+}
+
+/// The part of the input that remains when 9, A, D and 20 are taken off both
+/// ends: a part of the slice itself, for an input of blanks the empty one at its
+/// end. No other call trims.
+///
+/// ```
+/// assert_eq!(engine::trim(&[0x20, 0x61, 0x20, 0x62, 0xA]), [0x61, 0x20, 0x62]);
+/// ```
+pub fn trim(input: &[u32]) -> &[u32] {
+    let part = raw::trim(input);
+    &input[part.start..part.start + part.length]
 }
 
 impl Group {

@@ -43,6 +43,14 @@ pub struct Checked {
     pub rule: u32,
 }
 
+/// Where a part of a slice starts, and its length.
+#[repr(C)]
+#[derive(Clone, Copy, Debug, PartialEq, Eq)]
+pub struct Part {
+    pub start: usize,
+    pub length: usize,
+}
+
 /// Declares an export that is lent an input, a table, an answer buffer and a
 /// work area, with or without a setting, and the safe call of it.
 macro_rules! lent {
@@ -90,6 +98,7 @@ extern "C" {
     fn wanlopheng_group(text: *const u32, text_length: usize, words: *const u32, words_length: usize) -> Group;
     fn wanlopheng_soundness(words: *const u32, words_length: usize) -> Checked;
     fn wanlopheng_layout_fault(words: *const u32, words_length: usize) -> u32;
+    fn wanlopheng_trim(input: *const u32, input_length: usize) -> Part;
 }
 
 pub fn unpack(file: &[u8], answer: &mut [u32]) -> Unpacked {
@@ -110,4 +119,9 @@ pub fn soundness(words: &[u32]) -> Checked {
 pub fn layout_fault(words: &[u32]) -> u32 {
     // SAFETY: the slice is lent for the call, with its length.
     unsafe { wanlopheng_layout_fault(words.as_ptr(), words.len()) }
+}
+
+pub fn trim(input: &[u32]) -> Part {
+    // SAFETY: the slice is lent for the call, with its length.
+    unsafe { wanlopheng_trim(input.as_ptr(), input.len()) }
 }

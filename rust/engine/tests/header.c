@@ -70,6 +70,22 @@ static int fields(void) {
     return 0;
 }
 
+/* Blanks off both ends, and the part handed on without a copy. */
+static int trimmed(void) {
+    const uint32_t table[] = {2, 0x61, 0x61, 0, 0, 0, 0, 3, 0x41, 1, 0x61, 0, 0, 1, 0, 0, 4, 1, 2, 0x61, 0x61, 0};
+    const uint32_t pasted[] = {0x20, 0x9, 0x61, 0x41, 0xD, 0xA};
+    uint32_t answer[2] = {7, 7}, work[2048];
+    struct wanlopheng_part p = wanlopheng_trim(pasted, 6);
+    if (p.start != 2 || p.length != 2) return 31;
+    struct wanlopheng_name r = wanlopheng_name(pasted, 6, table, 22, 0, answer, 2, work, 2048);
+    if (r.number != 5 || r.place != 0) return 32;
+    r = wanlopheng_name(pasted + p.start, p.length, table, 22, 0, answer, 2, work, 2048);
+    if (r.number != 0 || r.length != 2 || answer[0] != 0x61 || answer[1] != 0x61) return 33;
+    p = wanlopheng_trim(pasted, 2);
+    if (p.start != 2 || p.length != 0) return 34;
+    return 0;
+}
+
 /* Which emoji it was, by a table that has 2764 FE0F and 1F600 FE0F FE0F alone. */
 static int emojis(void) {
     const uint32_t table[] = {0, 0, 0, 0, 0, 0, 0, 7, 2, 0x2764, 0xFE0F, 3, 0x1F600, 0xFE0F, 0xFE0F, 1, 0, 0, 0, 0};
@@ -99,5 +115,6 @@ int main(void) {
     int failed = calls();
     if (failed == 0) failed = fields();
     if (failed == 0) failed = emojis();
-    return failed != 0 ? failed : forms();
+    if (failed == 0) failed = forms();
+    return failed != 0 ? failed : trimmed();
 }

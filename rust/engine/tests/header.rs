@@ -4,7 +4,7 @@
 
 use engine::emoji::Emoji;
 use engine::normal_forms::Form;
-use engine::{Checked, Group, Label, Name, Unpacked};
+use engine::{Checked, Group, Label, Name, Part, Unpacked};
 use std::mem::{offset_of, size_of};
 use std::path::{Path, PathBuf};
 use std::process::{Command, Output};
@@ -66,6 +66,7 @@ fn structs_of_c_and_of_the_wrapper() {
         lines!("wanlopheng_label", Label: number, place, length, kind, group, restricted),
         lines!("wanlopheng_group", Group: number, place, found, group, restricted, whitelisted, asked),
         lines!("wanlopheng_soundness", Checked: sound, rule),
+        lines!("wanlopheng_part", Part: start, length),
         lines!("wanlopheng_emoji", Emoji: number, found, taken, index, selectors),
         lines!("wanlopheng_form", Form: number, length),
     ];

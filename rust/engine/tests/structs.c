@@ -32,6 +32,9 @@ int main(void) {
     STRUCT(wanlopheng_soundness);
     FIELD(wanlopheng_soundness, sound);
     FIELD(wanlopheng_soundness, rule);
+    STRUCT(wanlopheng_part);
+    FIELD(wanlopheng_part, start);
+    FIELD(wanlopheng_part, length);
     STRUCT(wanlopheng_emoji);
     FIELD(wanlopheng_emoji, number);
     FIELD(wanlopheng_emoji, found);

@@ -14,6 +14,7 @@
 //! * `soundness`: the seven rules of the soundness check.
 //! * `emoji`: which emoji it was.
 //! * `file`: table files.
+//! * `trim`: an input without the blanks at its ends.
 
 pub mod calls;
 pub mod emoji;
@@ -26,6 +27,7 @@ pub mod soundness;
 pub mod table;
 pub mod text;
 pub mod tokens;
+pub mod trim;
 
 pub use answers::{Kind, Label, Name, Refusal, Soundness};
 pub use calls::{judge_label, judge_label_with, judge_name, judge_name_with};
@@ -38,6 +40,7 @@ pub use soundness::{soundness, soundness_report};
 pub use table::{layout, parse, Group, LayoutFault, Pairs, Record, Table, TableBuilder, Triples, Whole};
 pub use text::{nfc, nfd};
 pub use tokens::{tokens, Token};
+pub use trim::{trim, BLANKS};
 
 /// The numbers that 01 names.
 pub mod limits {

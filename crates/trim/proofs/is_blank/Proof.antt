@@ -1,0 +1,40 @@
+-- `is_blank`: each test is one of the list's. Assumes nothing.
+use borrow.Author.Tests.{eq-eqb, ne-eqb}
+use Rattle.trim.specs.Trim.{isBlank}
+use Rattle.trim.proofs.is_blank.Statement.{statement}
+use Rattle.trim.proofs.is_blank.Tie as tie
+
+returns : tie.Need-returns
+unfolding isBlank
+returns c = rw (eq-eqb _ 9 (c .if1 .taken))
+
+returns-2 : tie.Need-returns-2
+unfolding isBlank
+returns-2 c = rw (ne-eqb _ 9 (c .before .if1 .left), eq-eqb _ 10 (c .if2 .taken))
+
+returns-3 : tie.Need-returns-3
+unfolding isBlank
+returns-3 c = rw (ne-eqb _ 9 (c .before .before .if1 .left), ne-eqb _ 10 (c .before .if2 .left), eq-eqb _ 13 (c .if3 .taken))
+
+returns-4 : tie.Need-returns-4
+unfolding isBlank
+returns-4 c =
+    rw (
+      ne-eqb _ 9 (c .before .before .before .if1 .left),
+      ne-eqb _ 10 (c .before .before .if2 .left),
+      ne-eqb _ 13 (c .before .if3 .left),
+      eq-eqb _ 32 (c .if4 .taken),
+    )
+
+returns-5 : tie.Need-returns-5
+unfolding isBlank
+returns-5 c =
+    rw (
+      ne-eqb _ 9 (c .before .before .before .if1 .left),
+      ne-eqb _ 10 (c .before .before .if2 .left),
+      ne-eqb _ 13 (c .before .if3 .left),
+      ne-eqb _ 32 (c .if4 .left),
+    )
+
+pub is-blank-spec : {M : Type 1} → statement M
+is-blank-spec = tie.close (tie.spec returns returns-2 returns-3 returns-4 returns-5)

@@ -1,0 +1,4 @@
+pub mod Ends
+pub mod Examples
+pub mod Facts
+pub mod Trim
