@@ -1,4 +1,6 @@
 pub mod Scheme
 pub mod Calls
 pub mod Inverse
+pub mod Reading
+pub mod RoundTrips
 pub mod Examples
