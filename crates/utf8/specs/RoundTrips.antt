@@ -4,8 +4,8 @@ use Prim.Native.Nat.{ℕ, zero, suc, _+_, _-_, _≤_}
 use native.Mathlib.Omega.{arith}
 use mathlib.Core.Path.{_≡_, refl, sym, ap, _∙_}
 use mathlib.Core.Bool.{Bool, true, false, not}
-use mathlib.Core.List.{List, [], _∷_, _++_, append-assoc, append-nil}
-use mathlib.Core.Option.{Option, none, some}
+use mathlib.Core.List.{List, [], _∷_, _++_, append-assoc}
+use mathlib.Core.Option.{Option, none, some, Option·none-ne-some}
 use lib.ListN.{length, take, drop, length-append, take-append-drop}
 use lib.Seq.{drop-nil, drop-append-seam}
 use Rattle.lists.specs.Lists.{joinedMap, placeWith, onSome}
@@ -14,7 +14,7 @@ use Rattle.lists.specs.Elements.{place-none, none-place}
 use Rattle.answers.specs.Verdict.{Verdict, accepted, refused, next}
 use Rattle.text.specs.Scalar.{isScalar}
 use Rattle.utf8.specs.Scheme.{octets, startsWith, first, readFrom, read, write}
-use Rattle.utf8.specs.Inverse.{starts-octets, starts-scalar, first-starts}
+use Rattle.utf8.specs.Inverse.{starts-octets, starts-scalar, starts-first, first-starts}
 use Rattle.utf8.specs.Reading.{octets-few, octets-start, sequence-read}
 
 -- what the writer accepts are scalar values, and what it gives is their octets one after another
@@ -108,3 +108,95 @@ accepted-same v cs ds e f = cc
 pub read-only : (bs cs : List ℕ) → read bs ≡ accepted cs → OnlyEncoding bs cs
 read-only bs cs e =
     record { encoding = written-read bs cs e; only = λ ds f. accepted-same (read bs) cs ds e (read-written ds bs f) }
+
+-- what the refusal of the bytes from place `at` on says
+record Stopped (at : ℕ) (bs s : List ℕ) (n p : ℕ) : Type 0 where
+  pub number : n ≡ 30
+  pub before : List ℕ
+  pub rest : List ℕ
+  pub scalars : Every (λ c. isScalar c ≡ true) before
+  pub parts : bs ≡ joinedMap octets before ++ rest
+  pub place : p + length rest ≡ at + length s
+  pub some-left : 1 ≤ length rest
+  pub no-sequence : first rest ≡ none
+
+stopped : (at k : ℕ) (s : List ℕ) (n p : ℕ) → readFrom at k s ≡ refused n p → Stopped at (drop k s) s n p
+unfolding readFrom
+stopped at k [] n p e = absurd (let z : _≡_ {A = ℕ} 0 1 = cc in omega arith)
+stopped at (suc k) (b ∷ s) n p e =
+    let r = stopped (suc at) k s n p e in
+    record {
+      number = r .number;
+      before = r .before;
+      rest = r .rest;
+      scalars = r .scalars;
+      parts = r .parts;
+      place = omega (arith, r .place);
+      some-left = r .some-left;
+      no-sequence = r .no-sequence;
+    }
+stopped at zero (b ∷ s) n p e = go (first (b ∷ s)) refl e (λ k f. stopped (suc at) k s n p f)
+  where
+    onward : (c : ℕ) → first (b ∷ s) ≡ some c → (v : Verdict (List ℕ)) → readFrom (suc at) (length (octets c) - 1) s ≡ v
+        → next v (λ ds. accepted (c ∷ ds)) ≡ refused n p
+        → ((k : ℕ) → readFrom (suc at) k s ≡ refused n p → Stopped (suc at) (drop k s) s n p) → Stopped at (b ∷ s) (b ∷ s) n p
+    onward c q (accepted ds) g f below = absurd (let z : _≡_ {A = ℕ} 0 1 = cc in omega arith)
+    onward c q (refused m l) g f below =
+        let r = below (length (octets c) - 1) (g ∙ f) in
+        let h = first-starts (b ∷ s) c q in
+        record {
+          number = r .number;
+          before = c ∷ r .before;
+          rest = r .rest;
+          scalars = (starts-scalar (b ∷ s) c h, r .scalars);
+          parts = parted c b s h ∙ ap (λ (l : List ℕ). octets c ++ l) (r .parts) ∙ sym (append-assoc (octets c) (joinedMap octets (r .before)) (r .rest));
+          place = omega (arith, r .place);
+          some-left = r .some-left;
+          no-sequence = r .no-sequence;
+        }
+
+    go : (o : Option ℕ) → first (b ∷ s) ≡ o
+        → onSome o (λ c. next (readFrom (suc at) (length (octets c) - 1) s) (λ ds. accepted (c ∷ ds))) (refused 30 at) ≡ refused n p
+        → ((k : ℕ) → readFrom (suc at) k s ≡ refused n p → Stopped (suc at) (drop k s) s n p) → Stopped at (b ∷ s) (b ∷ s) n p
+    go none q f below =
+        let m : n ≡ 30 = cc in
+        let l : p ≡ at = cc in
+        record {
+          number = m;
+          before = [];
+          rest = b ∷ s;
+          scalars = tt;
+          parts = refl;
+          place = rw l;
+          some-left = omega arith;
+          no-sequence = q;
+        }
+    go (some c) q f below = onward c q (readFrom (suc at) (length (octets c) - 1) s) refl f below
+
+-- A refusal of the reader is 30, at the byte index where the bad sequence starts: what stands before it is an encoding, and the bytes from
+-- there on, of which there are some, start with the octets of no scalar value.
+pub record IllFormedAt (bs : List ℕ) (n p : ℕ) : Type 0 where
+  pub number : n ≡ 30
+  pub before : List ℕ
+  pub rest : List ℕ
+  pub parts : bs ≡ joinedMap octets before ++ rest
+  pub scalars : Every (λ c. isScalar c ≡ true) before
+  pub place : p ≡ length (joinedMap octets before)
+  pub some-left : 1 ≤ length rest
+  pub no-sequence : (c : ℕ) → startsWith rest c ≡ true → ⊥
+
+pub read-refused : (bs : List ℕ) (n p : ℕ) → read bs ≡ refused n p → IllFormedAt bs n p
+unfolding read
+read-refused bs n p e =
+    let r = stopped 0 0 bs n p e in
+    let long : length bs ≡ length (joinedMap octets (r .before)) + length (r .rest) = ap length (r .parts) ∙ length-append (joinedMap octets (r .before)) (r .rest) in
+    record {
+      number = r .number;
+      before = r .before;
+      rest = r .rest;
+      parts = r .parts;
+      scalars = r .scalars;
+      place = omega (arith, r .place, long);
+      some-left = r .some-left;
+      no-sequence = λ c h. Option·none-ne-some c (sym (r .no-sequence) ∙ starts-first (r .rest) c h);
+    }
