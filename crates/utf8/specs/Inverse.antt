@@ -92,7 +92,7 @@ row-front bs c (four l g m a b d e) =
     at (suc (suc (suc zero))) k = e
     at (suc (suc (suc (suc i)))) k = absurd (omega arith)
 
-scalar-most : (c : ℕ) → isScalar c ≡ true → c ≤ 0x10FFFF
+pub scalar-most : (c : ℕ) → isScalar c ≡ true → c ≤ 0x10FFFF
 scalar-most c h = leb-true c 0x10FFFF (both-left (leb c 0x10FFFF) (not (isSurrogate c)) h)
 
 -- what it means that the bytes start with the octets of c

@@ -1,5 +1,6 @@
 pub mod Scheme
 pub mod Calls
+pub mod Promise
 pub mod Inverse
 pub mod Reading
 pub mod RoundTrips
