@@ -24,6 +24,9 @@ inside (x ∷ s) (suc i) h = omega (arith, inside s i h)
 low-scalar : (c : ℕ) → c < 0xD800 → isScalar c ≡ true
 low-scalar c h = rw (le-leb c 0x10FFFF (omega arith), lt-leb 0xD800 c h)
 
+high-scalar : (c : ℕ) → 0xE000 ≤ c → c ≤ 0x10FFFF → isScalar c ≡ true
+high-scalar c h k = rw (le-leb c 0x10FFFF k, le-leb 0xD800 c (omega arith), lt-leb c 0xDFFF h)
+
 -- a tail octet and its payload bits
 pub tail-none : (o : ℕ) → (o / 0x40 ≡ 0x2 → ⊥) → Tail o 0x40
 tail-none o h = record { most = omega arith; none = λ e n f. h (omega arith); bits = λ k. absurd (omega arith) }
@@ -223,10 +226,10 @@ module _ (rest : List ℕ) (x : ℕ) (lead : getD rest 0 0 ≡ 0xF0 + x) (few : 
     pub four-overlong : v < 0x10000 → (c : ℕ) → startsWith rest c ≡ true → ⊥
     four-overlong o c h = omega (arith, four-only c h .0, four-value c h)
 
-    pub four-beyond : isScalar v ≡ false → (c : ℕ) → startsWith rest c ≡ true → ⊥
-    four-beyond o c h = false≢true (sym o ∙ ap isScalar (four-value c h) ∙ four-only c h .5)
+    pub four-beyond : 0x10FFFF < v → (c : ℕ) → startsWith rest c ≡ true → ⊥
+    four-beyond o c h = omega (arith, scalar-most c (four-only c h .5), four-value c h)
 
-    pub four-is : 0x10000 ≤ v → isScalar v ≡ true → DecodedIs rest (Scalar v 4)
+    pub four-is : 0x10000 ≤ v → v ≤ 0x10FFFF → DecodedIs rest (Scalar v 4)
     unfolding octets
     four-is o k =
         let p = payload (getD rest 1 0) a s there in
@@ -235,9 +238,9 @@ module _ (rest : List ℕ) (x : ℕ) (lead : getD rest 0 0 ≡ 0xF0 + x) (few : 
         let m = four-parts x a b d v value (p .1) (q .1) (r .1) in (
           begins-starts rest v
               (record {
-                scalar = k;
+                scalar = high-scalar v (omega (arith, o)) k;
                 row =
-                    four (inside rest 3 (omega (arith, r .0))) o (scalar-most v k) (omega (arith, lead, m .0)) (omega (arith, p .0, m .1))
+                    four (inside rest 3 (omega (arith, r .0))) o k (omega (arith, lead, m .0)) (omega (arith, p .0, m .1))
                     (omega (arith, q .0, m .2)) (omega (arith, r .0, m .3));
               }),
           rw (le-ltb v 0x80 (omega (arith, o)), le-ltb v 0x800 (omega (arith, o)), le-ltb v 0x10000 o),

@@ -103,7 +103,7 @@ fn four(rest: &[u8], x: u32) -> Decoded
     if c < 0x10000 {
         return Decoded::IllFormed;
     }
-    if !is_scalar(c) {
+    if 0x10FFFF < c {
         return Decoded::IllFormed;
     }
     Decoded::Scalar {

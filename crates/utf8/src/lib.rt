@@ -42,15 +42,15 @@ pub fn read(bytes: &[u8], answer: &mut [u32]) -> ReadAnswer
 pub fn write(codepoints: &[u32], answer: &mut [u8]) -> WriteAnswer
     ensures { λ r. ⌜ WriteCalls (now (codepoints .entry)) (now (answer .entry)) (now (answer .exit)) r ⌝ }
 {
-    let found = write_front(codepoints, answer);
-    let WriteAnswer::Written(n) = found else {
+    let made = write_front(codepoints, answer);
+    let WriteAnswer::Written(n) = made else {
         buffers::clear_bytes(answer);
-        return found;
+        return made;
     };
     if n > answer.len() {
         buffers::clear_bytes(answer);
         return WriteAnswer::TooLittleRoom;
     }
     buffers::clear_bytes(&mut answer[n..]);
-    found
+    made
 }

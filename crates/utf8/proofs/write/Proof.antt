@@ -8,8 +8,8 @@ use Rattle.utf8.proofs.write.Tie as tie
 write-front-requires : tie.Need-write-front-requires
 write-front-requires c κs = search needs
 
-enum-known-found : tie.Need-enum-known-found
-enum-known-found c = search needs
+enum-known-made : tie.Need-enum-known-made
+enum-known-made c = search needs
 
 clear-bytes-requires : tie.Need-clear-bytes-requires
 clear-bytes-requires c κs = search needs
@@ -32,7 +32,7 @@ returns-2 : tie.Need-returns-2
 returns-2 c =
     let over = c .before .before .before .before in
     let found = over .before .before in
-    write-over _ _ _ _ _ _ (found .found .given .1) (found .before .before .before .before .write-front .ensures) (over .if1 .taken) (c .before .before .clear-bytes2 .ensures)
+    write-over _ _ _ _ _ _ (found .made .given .1) (found .before .before .before .before .write-front .ensures) (over .if1 .taken) (c .before .before .clear-bytes2 .ensures)
 
 sub-clear-bytes : tie.Need-sub-clear-bytes
 sub-clear-bytes c = search needs
@@ -53,7 +53,7 @@ returns-3 : tie.Need-returns-3
 returns-3 c =
     let kept = c .before .before .before .before in
     let found = kept .before .before in
-    write-kept _ _ _ _ _ _ (found .found .given .1) (found .before .before .before .before .write-front .ensures) (kept .if1 .left) _ (c .before .before .clear-bytes3 .ensures)
+    write-kept _ _ _ _ _ _ (found .made .given .1) (found .before .before .before .before .write-front .ensures) (kept .if1 .left) _ (c .before .before .clear-bytes3 .ensures)
     refl
 
 pub write-spec : {M : Type 1} → statement M
@@ -61,7 +61,7 @@ write-spec =
     tie.close
     (tie.spec
     write-front-requires
-    enum-known-found
+    enum-known-made
     clear-bytes-requires
     same-length
     returns

@@ -1,8 +1,7 @@
 -- `utf8::decode::four` meets its contract: each return is a law of the mark 11110. Assumes nothing.
 use Prim.Native.Nat.{ℕ, _+_, _*_}
-use mathlib.Core.Path.{_≡_, sym, ap, _∙_}
+use mathlib.Core.Path.{_≡_, ap, _∙_}
 use borrow.Author.Needs.{needs}
-use borrow.Author.Tests.{not-true, not-false}
 use Rattle.utf8.proofs.Sequences.{four-cut, four-cut-2, four-cut-3, four-overlong, four-beyond, four-is}
 use Rattle.utf8.proofs.decode.four.Statement.{statement}
 use Rattle.utf8.proofs.decode.four.Tie as tie
@@ -66,30 +65,25 @@ returns-4 c =
     four-overlong _ _ (pre .0) (pre .1) _ _ _ _ (first .before .tail-bits .ensures) (first .if1 .left) (second .before .tail-bits2 .ensures)
     (second .if2 .left) (third .before .tail-bits3 .ensures) (third .if3 .left) (spelled (c .before)) (c .if4 .taken)
 
-is-scalar-requires : tie.Need-is-scalar-requires
-is-scalar-requires c κs = search needs
-
 returns-5 : tie.Need-returns-5
 returns-5 c =
-    let bits = c .before .before .before in
+    let bits = c .before .before in
     let third = bits .before .before .before in
     let second = third .before .before in
     let first = second .before .before in
     let pre = first .before .before .before .pre in
     four-beyond _ _ (pre .0) (pre .1) _ _ _ _ (first .before .tail-bits .ensures) (first .if1 .left) (second .before .tail-bits2 .ensures)
-    (second .if2 .left) (third .before .tail-bits3 .ensures) (third .if3 .left) (spelled bits)
-    (sym (c .before .is-scalar .ensures) ∙ not-true _ (c .if5 .taken))
+    (second .if2 .left) (third .before .tail-bits3 .ensures) (third .if3 .left) (spelled bits) (c .if5 .taken)
 
 returns-6 : tie.Need-returns-6
 returns-6 c =
-    let bits = c .before .before .before in
+    let bits = c .before .before in
     let third = bits .before .before .before in
     let second = third .before .before in
     let first = second .before .before in
     let pre = first .before .before .before .pre in
     four-is _ _ (pre .0) (pre .1) _ _ _ _ (first .before .tail-bits .ensures) (first .if1 .left) (second .before .tail-bits2 .ensures)
-    (second .if2 .left) (third .before .tail-bits3 .ensures) (third .if3 .left) (spelled bits) (c .before .before .if4 .left)
-    (sym (c .before .is-scalar .ensures) ∙ not-false _ (c .if5 .left))
+    (second .if2 .left) (third .before .tail-bits3 .ensures) (third .if3 .left) (spelled bits) (c .before .if4 .left) (c .if5 .left)
 
 pub four-spec : {M : Type 1} → statement M
 four-spec =
@@ -105,6 +99,5 @@ four-spec =
     with-bits-requires-2
     with-bits-requires-3
     returns-4
-    is-scalar-requires
     returns-5
     returns-6)
