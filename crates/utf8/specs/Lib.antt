@@ -4,4 +4,5 @@ pub mod Promise
 pub mod Inverse
 pub mod Reading
 pub mod RoundTrips
+pub mod Callers
 pub mod Examples
