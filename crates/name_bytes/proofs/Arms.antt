@@ -1,7 +1,7 @@
 -- The three ways on from what the reader answers. Assumes nothing.
 use Prim.Native.Nat.{ℕ, _+_, _<_, _≤_}
 use native.Mathlib.Omega.{arith}
-use mathlib.Core.Path.{_≡_, refl, sym, ap, subst, _∙_}
+use mathlib.Core.Path.{_≡_, refl, sym, subst, _∙_}
 use mathlib.Core.Bool.{Bool, true, false, not, cond}
 use mathlib.Core.List.{List}
 use mathlib.Core.Option.{Option, none, some}
@@ -12,16 +12,15 @@ use Rattle.lists.specs.Lists.{onSome, placeWith}
 use Rattle.limits.specs.Limits.{mostInput, leastWork}
 use Rattle.answers.specs.Verdict.{Verdict, accepted, refused}
 use Rattle.answers.specs.declared.NameAnswer.{NameAnswer}
-use Rattle.ending.specs.Ends.{Ends}
 use Rattle.table.specs.Table.{Table}
 use Rattle.table.specs.Layout.{parse}
 use Rattle.text.specs.Scalar.{isScalar}
 use Rattle.name.specs.Label.{admitted}
-use Rattle.name.specs.Name.{NameResult, nameCall}
+use Rattle.name.specs.Name.{nameCall}
 use Rattle.name.specs.Calls.{NameCalls}
 use Rattle.utf8.specs.Scheme.{read}
 use Rattle.utf8.specs.Promise.{ReadCalls}
-use Rattle.utf8.specs.Callers.{Given, Over, was-read, was-ill-formed, was-too-much}
+use Rattle.utf8.specs.Callers.{Given, was-read, was-ill-formed, was-too-much}
 use Rattle.utf8.specs.declared.ReadAnswer.{ReadAnswer}
 use Rattle.utf8.specs.declared.ReadAnswer.the-variants as reading
 use Rattle.name_bytes.specs.declared.NameBytesAnswer.the-variants.{Name, IllFormed}

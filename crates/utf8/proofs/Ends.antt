@@ -1,7 +1,7 @@
 -- The ends of the two calls, from what stands at the front before 31 is judged. Assumes nothing.
 use Prim.Native.Nat.{ℕ, _-_, _<_, _≤_}
 use native.Mathlib.Omega.{arith}
-use mathlib.Core.Path.{_≡_, refl, sym, ap, subst, _∙_}
+use mathlib.Core.Path.{_≡_, refl, ap, subst, _∙_}
 use mathlib.Core.Logic.{⊎-elim}
 use mathlib.Core.List.{List, [], _∷_, _++_}
 use lib.ListN.{length, take, replicate}
@@ -10,7 +10,7 @@ use denote.Enum.Declared.{tagOf}
 use borrow.Author.Tests.{lt-ltb, le-ltb}
 use borrow.Rule.Slice.PartMut.{midOf, putMid}
 use Rattle.buffers.proofs.Parts.{put-filled}
-use Rattle.answers.specs.Verdict.{Verdict, accepted, refused, next}
+use Rattle.answers.specs.Verdict.{Verdict, refused, next}
 use Rattle.utf8.specs.declared.ReadAnswer.{ReadAnswer}
 use Rattle.utf8.specs.declared.ReadAnswer.the-variants as reading
 use Rattle.utf8.specs.declared.WriteAnswer.{WriteAnswer}

@@ -1,17 +1,17 @@
 -- Elements stored one behind the other, as far as there is room. Assumes nothing.
-use Prim.Native.Nat.{ℕ, suc, _+_, _/_, _%_, _<_, _≤_}
+use Prim.Native.Nat.{ℕ, _+_, _/_, _<_, _≤_}
 use native.Mathlib.Numerals.{add-one}
 use native.Mathlib.Omega.{arith}
-use mathlib.Core.Path.{_≡_, refl, sym, ap, _∙_}
+use mathlib.Core.Path.{_≡_, refl, ap, _∙_}
 use mathlib.Core.List.{List, [], _∷_, _++_, append-assoc}
-use lib.ListN.{length, take, set, length-append, length-set}
+use lib.ListN.{length, set, length-append, length-set}
 use lib.Seq.{take-suc-set}
 use mathlib.Core.Logic.{_⊎_, ⊎-elim}
 use lib.Bits.{bitAnd, bitOr}
 use borrow.Author.Tests.{lt-ltb, le-ltb}
 use Rattle.bits.specs.Fields.{masked, masked-small, shifted-in-last}
 use Rattle.utf8.specs.Scheme.{tail, octets}
-use Rattle.utf8.specs.Promise.{Holds, Stores, Appends}
+use Rattle.utf8.specs.Promise.{Stores, Appends}
 
 -- a store within the buffer
 pub stored : (now : List ℕ) (n b : ℕ) → n < length now → Stores now (set now n b) n b (n + 1)

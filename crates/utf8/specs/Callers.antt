@@ -86,41 +86,42 @@ module _ (k : ℕ) (some-number : 1 ≤ k) (other : k ≡ 31 → ⊥) (v : Verdi
       go (accepted s) q h = fits s q (ltb room (length s)) refl h
       go (refused m p) q h = absurd (other (sym (only m p q) ∙ sym (ap (λ (x : Values). x .number) (h .values))))
 
-module _ (bytes before after : List ℕ) where
-  only-30 : (m p : ℕ) → read bytes ≡ refused m p → m ≡ 30
-  only-30 m p e = read-refused bytes m p e .number
+-- the numbers that the two can refuse with before 31
+pub only-30 : (bytes : List ℕ) (m p : ℕ) → read bytes ≡ refused m p → m ≡ 30
+only-30 bytes m p e = read-refused bytes m p e .number
 
+pub only-4 : (codepoints : List ℕ) (m p : ℕ) → write codepoints ≡ refused m p → m ≡ 4
+unfolding write
+only-4 codepoints m p e = go (placeWith (λ c. not (isScalar c)) 0 codepoints) e
+  where
+    go : (o : Option ℕ) → onSome o (refused 4) (accepted (joinedMap octets codepoints)) ≡ refused m p → m ≡ 4
+    go none f = absurd (let z : _≡_ {A = ℕ} 0 1 = cc in omega arith)
+    go (some i) f = cc
+
+module _ (bytes before after : List ℕ) where
   -- the reader gave n codepoints
   pub was-read : (n : ℕ) → ReadCalls bytes before after (reading.Read n) → Given (read bytes) (length before) after n
   unfolding readCall
-  was-read n h = given-found 30 (omega arith) (λ e. omega arith) (read bytes) only-30 (length before) after n h
+  was-read n h = given-found 30 (omega arith) (λ e. omega arith) (read bytes) (only-30 bytes) (length before) after n h
 
   pub was-ill-formed : (at : ℕ) → ReadCalls bytes before after (reading.IllFormed at) → read bytes ≡ refused 30 at
   unfolding readCall
-  was-ill-formed at h = refusal-found 30 (omega arith) (λ e. omega arith) (read bytes) only-30 (length before) after at h
+  was-ill-formed at h = refusal-found 30 (omega arith) (λ e. omega arith) (read bytes) (only-30 bytes) (length before) after at h
 
   pub was-too-much : ReadCalls bytes before after reading.TooLittleRoom → Over (read bytes) (length before) after
   unfolding readCall
-  was-too-much h = over-found 30 (omega arith) (λ e. omega arith) (read bytes) only-30 (length before) after h
+  was-too-much h = over-found 30 (omega arith) (λ e. omega arith) (read bytes) (only-30 bytes) (length before) after h
 
 module _ (codepoints before after : List ℕ) where
-  only-4 : (m p : ℕ) → write codepoints ≡ refused m p → m ≡ 4
-  unfolding write
-  only-4 m p e = go (placeWith (λ c. not (isScalar c)) 0 codepoints) e
-    where
-      go : (o : Option ℕ) → onSome o (refused 4) (accepted (joinedMap octets codepoints)) ≡ refused m p → m ≡ 4
-      go none f = absurd (let z : _≡_ {A = ℕ} 0 1 = cc in omega arith)
-      go (some i) f = cc
-
   -- the writer gave n bytes
   pub was-written : (n : ℕ) → WriteCalls codepoints before after (writing.Written n) → Given (write codepoints) (length before) after n
   unfolding writeCall
-  was-written n h = given-found 4 (omega arith) (λ e. omega arith) (write codepoints) only-4 (length before) after n h
+  was-written n h = given-found 4 (omega arith) (λ e. omega arith) (write codepoints) (only-4 codepoints) (length before) after n h
 
   pub was-not-scalar : (at : ℕ) → WriteCalls codepoints before after (writing.NotScalar at) → write codepoints ≡ refused 4 at
   unfolding writeCall
-  was-not-scalar at h = refusal-found 4 (omega arith) (λ e. omega arith) (write codepoints) only-4 (length before) after at h
+  was-not-scalar at h = refusal-found 4 (omega arith) (λ e. omega arith) (write codepoints) (only-4 codepoints) (length before) after at h
 
   pub was-too-long : WriteCalls codepoints before after writing.TooLittleRoom → Over (write codepoints) (length before) after
   unfolding writeCall
-  was-too-long h = over-found 4 (omega arith) (λ e. omega arith) (write codepoints) only-4 (length before) after h
+  was-too-long h = over-found 4 (omega arith) (λ e. omega arith) (write codepoints) (only-4 codepoints) (length before) after h

@@ -5,4 +5,5 @@ pub mod Inverse
 pub mod Reading
 pub mod RoundTrips
 pub mod Callers
+pub mod BothWays
 pub mod Examples

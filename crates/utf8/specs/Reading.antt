@@ -1,17 +1,17 @@
 -- How reading goes on: past a sequence that starts the rest, or no further. Assumes nothing.
 use Prim.Native.Nat.{ℕ, zero, suc, _+_, _-_, _≤_}
 use native.Mathlib.Omega.{arith}
-use mathlib.Core.Path.{_≡_, refl, sym, ap, _∙_}
+use mathlib.Core.Path.{_≡_, refl, ap, _∙_}
 use mathlib.Core.Bool.{true}
 use mathlib.Core.List.{List, [], _∷_, _++_}
-use mathlib.Core.Option.{none, some}
+use mathlib.Core.Option.{none}
 use lib.ListN.{length, take, drop, length-take}
 use lib.Seq.{take-append-seam}
 use lib.Dec.{ltb}
 use Rattle.lists.specs.Lists.{sameList}
 use Rattle.lists.specs.Laws.{of-each, both}
 use Rattle.lists.specs.Elements.{list-same}
-use Rattle.answers.specs.Verdict.{Verdict, accepted, refused, next}
+use Rattle.answers.specs.Verdict.{accepted, refused, next}
 use Rattle.text.specs.Scalar.{isScalar}
 use Rattle.utf8.specs.Scheme.{octets, startsWith, first, readFrom}
 use Rattle.utf8.specs.Inverse.{starts-octets, starts-first}

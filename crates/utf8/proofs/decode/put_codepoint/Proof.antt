@@ -1,7 +1,6 @@
 -- `utf8::decode::put_codepoint` meets its contract: a store, or no room for one. Assumes nothing.
 use mathlib.Core.Logic.{⊎-elim, inl, inr}
 use borrow.Author.Needs.{needs}
-use Rattle.utf8.specs.Promise.{Stores}
 use Rattle.utf8.proofs.Stores.{put}
 use Rattle.utf8.proofs.decode.put_codepoint.Statement.{statement}
 use Rattle.utf8.proofs.decode.put_codepoint.Tie as tie

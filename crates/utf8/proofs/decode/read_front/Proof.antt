@@ -8,10 +8,6 @@ use Rattle.utf8.specs.declared.decode.Decoded.the-variants.{Scalar}
 use Rattle.utf8.proofs.Loops.{Reading, found-scalar, found-none, reading-start, reading-fits, reading-more, reading-stop, reading-end}
 use Rattle.utf8.proofs.decode.read_front.Statement.{statement}
 use Rattle.utf8.proofs.decode.read_front.Tie as tie
-use Rattle.utf8.proofs.decode.read_front.Reads as reads
-use Rattle.utf8.proofs.decode.read_front.Lts as lts
-use Rattle.utf8.proofs.decode.decode.Reads as decode-reads
-use Rattle.utf8.proofs.decode.put_codepoint.Reads as put-codepoint-reads
 
 abbrev Inv-loop : tie.InvT-loop
 Inv-loop bytes answer₀ at₀ n₀ answer at n = Reading bytes answer₀ answer at n

@@ -1,7 +1,6 @@
 -- `utf8::encode::put_byte` meets its contract: a store, or no room for one. Assumes nothing.
 use mathlib.Core.Logic.{⊎-elim, inl, inr}
 use borrow.Author.Needs.{needs}
-use Rattle.utf8.specs.Promise.{Stores}
 use Rattle.utf8.proofs.Stores.{put}
 use Rattle.utf8.proofs.encode.put_byte.Statement.{statement}
 use Rattle.utf8.proofs.encode.put_byte.Tie as tie

@@ -8,10 +8,6 @@ use borrow.Author.Tests.{not-true, not-false}
 use Rattle.utf8.proofs.Loops.{Writing, writing-start, writing-more, writing-stop, writing-end}
 use Rattle.utf8.proofs.encode.write_front.Statement.{statement}
 use Rattle.utf8.proofs.encode.write_front.Tie as tie
-use Rattle.utf8.proofs.encode.write_front.Reads as reads
-use Rattle.utf8.proofs.encode.write_front.Lts as lts
-use Rattle.text.proofs.scalar.is_scalar.Reads as is-scalar-reads
-use Rattle.utf8.proofs.encode.append.Reads as append-reads
 
 abbrev Inv-loop : tie.InvT-loop
 Inv-loop codepoints answer₀ n₀ i₀ answer n i = Writing codepoints answer₀ answer n i
