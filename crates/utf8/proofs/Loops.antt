@@ -8,6 +8,7 @@ use mathlib.Core.List.{List, [], _∷_, _++_, append-assoc, append-nil}
 use mathlib.Core.Option.{none, some}
 use lib.ListN.{length, getD, take, drop, length-drop, drop-of-length-le}
 use lib.Seq.{take-all, take-suc, drop-cons, drop-drop}
+use Rattle.buffers.proofs.Parts.{mid-tail}
 use Rattle.lists.specs.Lists.{joinedMap, placeWith}
 use Rattle.lists.specs.Laws.{joined-append}
 use Rattle.answers.specs.Verdict.{Verdict, accepted, refused, next}
@@ -20,10 +21,6 @@ use Rattle.utf8.specs.Scheme.{octets, startsWith, readFrom, read, write}
 use Rattle.utf8.specs.Inverse.{first-none}
 use Rattle.utf8.specs.Reading.{octets-few, sequence-long, sequence-read, ill-formed-read, end-read}
 use Rattle.utf8.specs.Promise.{Holds, DecodedIs, Stores, Appends, ReadStands, WriteStands}
-
--- `&s[at..]`, as it is lent
-pub rest-is : (at : ℕ) (s : List ℕ) → take (length s - at) (drop at s) ≡ drop at s
-rest-is at s = take-all (length s - at) (drop at s) (rw length-drop (omega arith))
 
 -- what the match found
 pub found-scalar : (rest : List ℕ) (r : Decoded) (value len : ℕ) → r ≡ Scalar value len → DecodedIs rest r → DecodedIs rest (Scalar value len)
@@ -66,7 +63,7 @@ onto c done (refused n p) = refl
 module _ {bytes before now : List ℕ} {at n : ℕ} (r : Reading bytes before now at n) where
   module _ (value len : ℕ) (d : DecodedIs (take (length bytes - at) (drop at bytes)) (Scalar value len)) where
     begins : startsWith (drop at bytes) value ≡ true
-    begins = rw (rest-is at bytes) at (d .0)
+    begins = rw (mid-tail at bytes) at (d .0)
 
     -- the sequence lies within the bytes
     pub reading-fits : (1 ≤ len) × (at + len ≤ length bytes)
@@ -97,7 +94,7 @@ module _ {bytes before now : List ℕ} {at n : ℕ} (r : Reading bytes before no
   pub reading-stop : at < length bytes → DecodedIs (take (length bytes - at) (drop at bytes)) IllFormed → ReadStands bytes before now (reading.IllFormed at)
   reading-stop h d =
       let e : readFrom at 0 (drop at bytes) ≡ refused 30 at =
-      ill-formed-read at (drop at bytes) (rw length-drop (omega arith)) (first-none (drop at bytes) (rw (rest-is at bytes) at d)) in
+      ill-formed-read at (drop at bytes) (rw length-drop (omega arith)) (first-none (drop at bytes) (rw (mid-tail at bytes) at d)) in
       record { same = r .same; is = r .goes ∙ rw e }
 
   pub reading-end : length bytes ≤ at → ReadStands bytes before now (reading.Read n)

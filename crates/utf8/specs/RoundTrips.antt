@@ -3,11 +3,12 @@
 use Prim.Native.Nat.{ℕ, zero, suc, _+_, _-_, _≤_}
 use native.Mathlib.Omega.{arith}
 use mathlib.Core.Path.{_≡_, refl, sym, ap, _∙_}
-use mathlib.Core.Bool.{Bool, true, false, not}
+use mathlib.Core.Bool.{true, not}
 use mathlib.Core.List.{List, [], _∷_, _++_, append-assoc}
 use mathlib.Core.Option.{Option, none, some, Option·none-ne-some}
 use lib.ListN.{length, take, drop, length-append, take-append-drop}
 use lib.Seq.{drop-nil, drop-append-seam}
+use borrow.Author.Tests.{not-false}
 use Rattle.lists.specs.Lists.{joinedMap, placeWith, onSome}
 use Rattle.lists.specs.Laws.{Every, every-imp}
 use Rattle.lists.specs.Elements.{place-none, none-place}
@@ -22,13 +23,6 @@ pub record Encoding (cs bs : List ℕ) : Type 0 where
   pub scalars : Every (λ c. isScalar c ≡ true) cs
   pub is : bs ≡ joinedMap octets cs
 
-turned : (b : Bool) → not b ≡ false → b ≡ true
-turned true e = refl
-turned false e = sym e
-
-untrue : (b : Bool) → b ≡ true → not b ≡ false
-untrue b e = rw e
-
 pub written-encoding : (cs bs : List ℕ) → write cs ≡ accepted bs → Encoding cs bs
 unfolding write
 written-encoding cs bs e = go (placeWith (λ c. not (isScalar c)) 0 cs) refl e
@@ -37,7 +31,7 @@ written-encoding cs bs e = go (placeWith (λ c. not (isScalar c)) 0 cs) refl e
         → Encoding cs bs
     go none q f =
         record {
-          scalars = every-imp cs (λ c h. turned (isScalar c) h) (place-none (λ c. not (isScalar c)) 0 cs q);
+          scalars = every-imp cs (λ c h. not-false (isScalar c) h) (place-none (λ c. not (isScalar c)) 0 cs q);
           is = sym (let g : joinedMap octets cs ≡ bs = cc in g);
         }
     go (some p) q f = absurd (let z : _≡_ {A = ℕ} 0 1 = cc in omega arith)
@@ -45,7 +39,7 @@ written-encoding cs bs e = go (placeWith (λ c. not (isScalar c)) 0 cs) refl e
 pub encoding-written : (cs bs : List ℕ) → Encoding cs bs → write cs ≡ accepted bs
 unfolding write
 encoding-written cs bs h =
-    rw (none-place (λ c. not (isScalar c)) 0 cs (every-imp cs (λ c k. untrue (isScalar c) k) (h .scalars)), h .is)
+    rw (none-place (λ c. not (isScalar c)) 0 cs (every-imp cs (λ c k. rw k) (h .scalars)), h .is)
 
 -- octets one after another are read one after another
 octets-read : (at : ℕ) (cs : List ℕ) → Every (λ c. isScalar c ≡ true) cs → readFrom at 0 (joinedMap octets cs) ≡ accepted cs
