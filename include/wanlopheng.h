@@ -48,6 +48,8 @@ enum wanlopheng_refusal {
     WANLOPHENG_FILE_VERSION = 20,   /* the table file has another version */
     WANLOPHENG_FILE_LENGTH = 21,    /* the table file has a wrong length */
     WANLOPHENG_TABLE_TOO_LARGE = 22, /* the table does not fit the buffer */
+    WANLOPHENG_ILL_FORMED = 30,     /* bytes that are no UTF-8 */
+    WANLOPHENG_UTF8_ANSWER = 31,    /* UTF-8: the answer buffer is too small */
     WANLOPHENG_FORM_TOO_LONG = 50, /* NFD, NFC: the full decomposition has too many codepoints */
     WANLOPHENG_FORM_WORK = 51, /* NFD, NFC: the work area is too small */
     WANLOPHENG_FORM_ANSWER = 52 /* NFD, NFC: the answer buffer is too small */
@@ -135,6 +137,27 @@ struct wanlopheng_part {
  *     wanlopheng_name(input + p.start, p.length, ...);
  * No other call trims. */
 struct wanlopheng_part wanlopheng_trim(const uint32_t *input, size_t input_length);
+
+/* What the UTF-8 reader and writer answer. */
+struct wanlopheng_utf8 {
+    uint32_t number; /* 0: done. 30: no UTF-8 (the reader). 4: no Unicode scalar value (the writer). 31: the answer is too small. */
+    size_t place;    /* the byte index where the bad sequence starts for 30, the index of the codepoint for 4, else 0 */
+    size_t length;   /* the number of codepoints read or of bytes written; 0 beside a refusal */
+};
+
+/* Reads UTF-8 (RFC 3629) into codepoints. After success the answer holds them and then zeros, after a refusal zeros alone. 30 is looked for
+ * in all bytes before 31. An answer of as many words as there are bytes is always enough. */
+struct wanlopheng_utf8 wanlopheng_utf8_read(const uint8_t *bytes, size_t bytes_length, uint32_t *answer, size_t answer_length);
+
+/* Writes codepoints as UTF-8. After success the answer holds the bytes and then zeros, after a refusal zeros alone. 4 is looked for in all
+ * codepoints before 31. An answer of four bytes for each codepoint is always enough. */
+struct wanlopheng_utf8 wanlopheng_utf8_write(const uint32_t *codepoints, size_t codepoints_length, uint8_t *answer, size_t answer_length);
+
+/* Normalises a name that is given as UTF-8: 30, with the byte index where the bad sequence starts, before every other refusal; else exactly
+ * what wanlopheng_name answers on the codepoints, places in codepoints, and the same in both buffers. After 30 both hold zeros, whatever
+ * their sizes. */
+struct wanlopheng_name wanlopheng_name_bytes(const uint8_t *bytes, size_t bytes_length, const uint32_t *words, size_t words_length,
+                                             uint32_t setting, uint32_t *answer, size_t answer_length, uint32_t *work, size_t work_length);
 
 /* What the call that says which emoji it was answers. */
 struct wanlopheng_emoji {

@@ -26,6 +26,8 @@ static inline const char *wanlopheng_text(uint32_t number) {
     case 20: return "the table file has another version";
     case 21: return "the table file has a wrong length";
     case 22: return "the table does not fit the buffer";
+    case 30: return "bytes that are no UTF-8";
+    case 31: return "UTF-8: the answer buffer is too small";
     case 50: return "NFD, NFC: the full decomposition has too many codepoints";
     case 51: return "NFD, NFC: the work area is too small";
     case 52: return "NFD, NFC: the answer buffer is too small";

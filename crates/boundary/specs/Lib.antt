@@ -3,3 +3,4 @@ pub mod Fields
 pub mod Trimming
 pub mod EmojiFields
 pub mod GroupFields
+pub mod Utf8Fields

@@ -4,6 +4,7 @@ pub mod emoji;
 pub mod fields;
 pub mod group;
 pub mod trimming;
+pub mod utf8_calls;
 
 use crate::fields::WanlophengLabel;
 use crate::fields::WanlophengName;

@@ -19,6 +19,8 @@ pub enum Place {
     Codepoint,
     /// The labels of the name.
     Label,
+    /// The bytes of the input.
+    Byte,
     /// Nothing: it is 0.
     Nothing,
 }
@@ -34,6 +36,7 @@ impl Refusal {
         match self.number {
             4 | 5 => Place::Codepoint,
             6..=14 | 17 => Place::Label,
+            30 => Place::Byte,
             _ => Place::Nothing,
         }
     }
@@ -60,6 +63,8 @@ impl Refusal {
             20 => "the table file has another version",
             21 => "the table file has a wrong length",
             22 => "the table does not fit the buffer",
+            30 => "bytes that are no UTF-8",
+            31 => "UTF-8: the answer buffer is too small",
             50 => "NFD, NFC: the full decomposition has too many codepoints",
             51 => "NFD, NFC: the work area is too small",
             52 => "NFD, NFC: the answer buffer is too small",
@@ -75,6 +80,7 @@ impl fmt::Display for Refusal {
         match self.place_is() {
             Place::Codepoint => write!(f, " at codepoint {}", self.place)?,
             Place::Label => write!(f, " in label {}", self.place)?,
+            Place::Byte => write!(f, " at byte {}", self.place)?,
             Place::Nothing => {}
         }
         write!(f, ": {}", self.meaning())
@@ -95,5 +101,6 @@ mod tests {
         assert_eq!(text(5, 2), "refusal 5 at codepoint 2: a codepoint that names may not have");
         assert_eq!(text(6, 1), "refusal 6 in label 1: an empty label");
         assert_eq!(text(15, 0), "refusal 15: the answer buffer is too small");
+        assert_eq!(text(30, 3), "refusal 30 at byte 3: bytes that are no UTF-8");
     }
 }

@@ -8,6 +8,7 @@
 pub mod emoji;
 pub mod normal_forms;
 mod raw;
+pub mod utf8;
 
 pub use answers::{Kind, Refusal, Soundness};
 pub use raw::{Checked, Group, Label, Part};

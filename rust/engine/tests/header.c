@@ -99,6 +99,32 @@ static int emojis(void) {
     return 0;
 }
 
+/* Bytes to codepoints and back, and a name as bytes, by a table that has 61 alone, to which 41 is mapped. */
+static int texts(void) {
+    const uint32_t table[] = {2, 0x61, 0x61, 0, 0, 0, 0, 3, 0x41, 1, 0x61, 0, 0, 1, 0, 0, 4, 1, 2, 0x61, 0x61, 0};
+    const uint8_t text[] = {0x41, 0xE2, 0x89, 0xA2, 0xF0, 0x9F, 0x92};
+    const uint32_t points[] = {0x41, 0x2262, 0xD800};
+    uint32_t answer[3] = {7, 7, 7}, work[2048] = {7};
+    uint8_t bytes[5] = {7, 7, 7, 7, 7};
+    struct wanlopheng_utf8 u = wanlopheng_utf8_read(text, 4, answer, 3);
+    if (u.number != 0 || u.place != 0 || u.length != 2 || answer[0] != 0x41 || answer[1] != 0x2262 || answer[2] != 0) return 51;
+    u = wanlopheng_utf8_read(text, 7, answer, 1);
+    if (u.number != WANLOPHENG_ILL_FORMED || u.place != 4 || u.length != 0 || answer[0] != 0 || answer[1] != 0x2262) return 52;
+    u = wanlopheng_utf8_read(text, 4, answer, 1);
+    if (u.number != WANLOPHENG_UTF8_ANSWER || u.place != 0 || u.length != 0) return 53;
+    u = wanlopheng_utf8_write(points, 2, bytes, 5);
+    if (u.number != 0 || u.place != 0 || u.length != 4) return 54;
+    if (bytes[0] != 0x41 || bytes[1] != 0xE2 || bytes[2] != 0x89 || bytes[3] != 0xA2 || bytes[4] != 0) return 55;
+    u = wanlopheng_utf8_write(points, 3, bytes, 2);
+    if (u.number != WANLOPHENG_NO_SCALAR || u.place != 2 || u.length != 0 || bytes[0] != 0 || bytes[2] != 0x89) return 56;
+    struct wanlopheng_name r = wanlopheng_name_bytes(text, 1, table, 22, 0, answer, 3, work, 2048);
+    if (r.number != 0 || r.place != 0 || r.length != 1 || r.labels != 1 || answer[0] != 0x61 || answer[1] || work[0]) return 57;
+    answer[2] = work[0] = 7;
+    r = wanlopheng_name_bytes(text + 1, 2, table, 21, 0, answer, 3, work, 1);
+    if (r.number != 30 || r.place != 0 || r.length != 0 || r.labels != 0 || answer[0] || answer[2] || work[0]) return 58;
+    return 0;
+}
+
 int main(void) {
     const uint8_t file[] = {1, 0, 0, 0, 2, 1, 2, 3, 4, 0, 0, 0, 9};
     uint32_t answer[3] = {7, 7, 7};
@@ -116,5 +142,6 @@ int main(void) {
     if (failed == 0) failed = fields();
     if (failed == 0) failed = emojis();
     if (failed == 0) failed = forms();
+    if (failed == 0) failed = texts();
     return failed != 0 ? failed : trimmed();
 }

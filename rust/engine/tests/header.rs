@@ -4,6 +4,7 @@
 
 use engine::emoji::Emoji;
 use engine::normal_forms::Form;
+use engine::utf8::Utf8;
 use engine::{Checked, Group, Label, Name, Part, Unpacked};
 use std::mem::{offset_of, size_of};
 use std::path::{Path, PathBuf};
@@ -67,6 +68,7 @@ fn structs_of_c_and_of_the_wrapper() {
         lines!("wanlopheng_group", Group: number, place, found, group, restricted, whitelisted, asked),
         lines!("wanlopheng_soundness", Checked: sound, rule),
         lines!("wanlopheng_part", Part: start, length),
+        lines!("wanlopheng_utf8", Utf8: number, place, length),
         lines!("wanlopheng_emoji", Emoji: number, found, taken, index, selectors),
         lines!("wanlopheng_form", Form: number, length),
     ];

@@ -35,6 +35,10 @@ int main(void) {
     STRUCT(wanlopheng_part);
     FIELD(wanlopheng_part, start);
     FIELD(wanlopheng_part, length);
+    STRUCT(wanlopheng_utf8);
+    FIELD(wanlopheng_utf8, number);
+    FIELD(wanlopheng_utf8, place);
+    FIELD(wanlopheng_utf8, length);
     STRUCT(wanlopheng_emoji);
     FIELD(wanlopheng_emoji, number);
     FIELD(wanlopheng_emoji, found);

@@ -15,6 +15,7 @@
 //! * `emoji`: which emoji it was.
 //! * `file`: table files.
 //! * `trim`: an input without the blanks at its ends.
+//! * `utf8`: bytes to codepoints and back, and the byte form of the name call.
 
 pub mod calls;
 pub mod emoji;
@@ -28,6 +29,7 @@ pub mod table;
 pub mod text;
 pub mod tokens;
 pub mod trim;
+pub mod utf8;
 
 pub use answers::{Kind, Label, Name, Refusal, Soundness};
 pub use calls::{judge_label, judge_label_with, judge_name, judge_name_with};
@@ -41,6 +43,7 @@ pub use table::{layout, parse, Group, LayoutFault, Pairs, Record, Table, TableBu
 pub use text::{nfc, nfd};
 pub use tokens::{tokens, Token};
 pub use trim::{trim, BLANKS};
+pub use utf8::{name_bytes, utf8_read, utf8_write};
 
 /// The numbers that 01 names.
 pub mod limits {

@@ -1,0 +1,1 @@
+// Bits: laws only, in specs/. There is no code here.

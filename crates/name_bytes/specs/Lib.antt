@@ -1,0 +1,3 @@
+pub mod NameBytes
+pub mod Wiping
+pub mod Examples

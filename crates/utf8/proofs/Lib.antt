@@ -1,0 +1,4 @@
+pub mod Sequences
+pub mod Stores
+pub mod Loops
+pub mod Ends
