@@ -1,0 +1,5 @@
+pub mod Book
+pub mod Damage
+pub mod Calls
+pub mod Promise
+pub mod Walks
