@@ -3,17 +3,16 @@
 use Prim.Native.Nat.{ℕ}
 use mathlib.Core.Bool.{cond}
 use mathlib.Core.List.{List}
-use mathlib.Core.Option.{Option, some}
 use lib.ListN.{length, getD, take, set, replicate}
 use lib.Dec.{eqb, ltb}
 use Rattle.lists.specs.Lists.{isEmpty, onSome, placeWith}
 use Rattle.answers.specs.Verdict.{Verdict, accepted, refused, next}
 use Rattle.answers.specs.Values.{numberOf, placeOf}
 use Rattle.name.specs.Name.{NameResult, nameCall}
+use Rattle.book_slots.specs.Book.{slotCount, formRoom, accountSize, areaSize, Slot, slotsIn, withSlots, emptySlot, slotFor, hasName, spotFor}
+use Rattle.book_slots.specs.Damage.{damaged}
 use Rattle.book.specs.declared.BookAnswer.{BookAnswer}
 use Rattle.book.specs.declared.BookAnswer.the-variants.{Done, OtherSize, Damaged, Refused, EmptyForm, FormTooLong, NotFiled, Full}
-use Rattle.book.specs.Book.{slotCount, formRoom, accountSize, areaSize, Slot, slotsIn, withSlots, emptySlot, slotFor, isFree, hasName}
-use Rattle.book.specs.Damage.{damaged}
 
 -- the number of each answer, 0 where there is no refusal; the name call's refusals keep theirs
 abbrev pub bookNumber : BookAnswer → ℕ
@@ -99,12 +98,7 @@ unfoldable pub formFor : ℕ → List ℕ → List ℕ → ℕ → ℕ → Verdi
 unfolding nameCall
 formFor setting words name room work = next (formOf (nameCall setting words name room work)) fileable
 
--- the slot that save takes: "Save of a filed name replaces its account, otherwise takes the lowest free slot"
-unfoldable pub spotFor : List ℕ → List Slot → Option ℕ
-unfolding hasName
-spotFor form slots = onSome (placeWith (hasName form) 0 slots) some (placeWith isFree 0 slots)
-
--- save in it; "45 full"
+-- "Save of a filed name replaces its account, otherwise takes the lowest free slot"; "45 full"
 unfoldable pub saveIn : List ℕ → List ℕ → List Slot → Verdict Kept
 unfolding spotFor noAccount
 saveIn account form slots =

@@ -3,9 +3,9 @@ use Prim.Native.Nat.{ℕ}
 use mathlib.Core.Path.{_≡_}
 use mathlib.Core.List.{List}
 use lib.ListN.{length}
+use Rattle.book_slots.specs.declared.Account.{Account}
 use Rattle.book.specs.declared.BookAnswer.{BookAnswer}
 use Rattle.book.specs.declared.FindAnswer.{FindAnswer}
-use Rattle.book.specs.declared.Account.{Account}
 use Rattle.book.specs.Calls.{BookValues, BookResult, bookNumber, bookPlace, noAccount, saveCall, findCall, forgetCall, resetCall}
 
 -- what an answer and an account tell

@@ -1,19 +1,19 @@
 // The calls of the book: each answers, and leaves the answer buffer and the work area as zeros.
-use crate::AREA;
-use crate::Account;
 use crate::BookAnswer;
-use crate::FRONT;
 use crate::FindAnswer;
 use crate::filing::Filing;
 use crate::filing::form_for;
-use crate::keeping::find_in;
-use crate::keeping::forget_in;
-use crate::keeping::no_account;
-use crate::keeping::save_in;
+use crate::jobs::find_in;
+use crate::jobs::forget_in;
+use crate::jobs::no_account;
+use crate::jobs::save_in;
+use book_slots::AREA;
+use book_slots::Account;
+use book_slots::FRONT;
 ghost use lib.ListN.{length};
 ghost use Rattle.book.specs.Calls.{saveIn, findIn, forgetIn, noAccount, byForm};
 ghost use Rattle.book.specs.Promise.{bookValues, SaveCalls, FindCalls, ForgetCalls, ResetCalls};
-ghost use Rattle.book.specs.Walks.{Judged};
+ghost use Rattle.book.specs.Steps.{Judged};
 
 fn save_judged(
     name: &[u32],

@@ -1,18 +1,40 @@
 // The form under which a name is filed, with the refusals before it: 40 and 41, those of the name call, 42 and 43.
 use crate::BookAnswer;
-use crate::FORM;
-use crate::damage::Opening;
-use crate::damage::open;
 use answers::NameAnswer;
+use book_slots::AREA;
+use book_slots::FORM;
+use book_slots::FRONT;
+use book_slots::SLOTS;
+use book_slots::damage::is_damaged;
 ghost use Prim.Native.Nat.{_≤_};
 ghost use lib.ListN.{length, take};
 ghost use Rattle.book.specs.Calls.{fileable, formFor};
-ghost use Rattle.book.specs.Walks.{FormIs, Formed, Files};
+ghost use Rattle.book.specs.Steps.{OpeningIs, FormIs, Formed, Files};
+
+// What the area is.
+pub enum Opening {
+    OtherSize,
+    Damaged,
+    Whole,
+}
 
 // A refusal, or the length of the form that stands in front of the answer buffer.
 pub enum Filing {
     Refused(BookAnswer),
     Form(usize),
+}
+
+// 40, then 41.
+fn open(area: &[u32]) -> Opening
+    ensures { λ r. ⌜ OpeningIs (now (area .entry)) r ⌝ }
+{
+    if area.len() != AREA {
+        return Opening::OtherSize;
+    }
+    if is_damaged(&area[FRONT..], SLOTS) {
+        return Opening::Damaged;
+    }
+    Opening::Whole
 }
 
 // 42 and 43 of the form in front of the answer buffer.
@@ -57,7 +79,8 @@ pub fn form_for(
 ) -> Filing
     ensures { λ r. ⌜ Files (now (area .entry)) (formFor setting (now (words .entry)) (now (name .entry)) (length (now (answer .entry))) (length (now (work .entry)))) (now (answer .entry)) (now (answer .exit)) (now (work .entry)) (now (work .exit)) r ⌝ }
 {
-    match open(area) {
+    let opening = open(area);
+    match opening {
         Opening::OtherSize => Filing::Refused(BookAnswer::OtherSize),
         Opening::Damaged => Filing::Refused(BookAnswer::Damaged),
         Opening::Whole => named_form(name, words, setting, answer, work),

@@ -1,32 +1,16 @@
 -- What the inner functions of this crate answer. Assumes nothing.
 use Prim.Native.Nat.{ℕ, _≤_}
 use mathlib.Core.Path.{_≡_}
-use mathlib.Core.Bool.{Bool, false, not, _&&_}
-use mathlib.Core.List.{List, [], _∷_}
-use mathlib.Core.Option.{Option, none, some}
+use mathlib.Core.List.{List}
 use lib.ListN.{length, take}
-use Rattle.lists.specs.Lists.{any, joinedMap}
+use Rattle.lists.specs.Lists.{joinedMap}
 use Rattle.answers.specs.Verdict.{Verdict, accepted, refused, next}
-use Rattle.book.specs.declared.BookAnswer.{BookAnswer}
-use Rattle.book.specs.declared.slots.Spot.{Spot}
-use Rattle.book.specs.declared.slots.Spot.the-variants.{At, Nothing}
-use Rattle.book.specs.declared.damage.Opening.{Opening}
-use Rattle.book.specs.declared.damage.Opening.the-variants as opening
+use Rattle.book_slots.specs.Book.{formRoom, inSlot, slotsIn}
+use Rattle.book.specs.declared.filing.Opening.{Opening}
+use Rattle.book.specs.declared.filing.Opening.the-variants as opening
 use Rattle.book.specs.declared.filing.Filing.{Filing}
 use Rattle.book.specs.declared.filing.Filing.the-variants as filing
-use Rattle.book.specs.Book.{formRoom, Slot, inSlot, slotsIn, isFree, nameOf, hasName}
 use Rattle.book.specs.Calls.{BookValues, Kept, bookNumber, bookPlace, told, areaAfter, opened}
-
--- the number of a slot that is answered
-abbrev pub placeIs : Spot → Option ℕ
-placeIs (At i) = some i
-placeIs Nothing = none
-
--- whether the first slot is filed and another has its name
-unfoldable pub namedAgain : List Slot → Bool
-unfolding hasName
-namedAgain [] = false
-namedAgain (s ∷ rest) = not (isFree s) && any (hasName (nameOf s)) rest
 
 -- 40 and 41 of an area
 abbrev pub OpeningIs : List ℕ → Opening → Type 0
