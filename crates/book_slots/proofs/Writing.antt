@@ -10,7 +10,7 @@ use Rattle.lists.specs.Lists.{joinedMap}
 use Rattle.lists.specs.Filled.{filled, length-filled}
 use Rattle.buffers.proofs.Parts.{mid-tail, length-tail, put-tail}
 use Rattle.book_slots.specs.Book.{formRoom, accountSize, slotSize, Slot, inSlot, slotOf, slotsOf, slotFor, emptySlot}
-use Rattle.book_slots.specs.SlotLaws.{slot-at, put-slot}
+use Rattle.book_slots.specs.SlotLaws.{slot-at, put-slot, zeros-slot}
 use Rattle.book_slots.proofs.Cuts.{drop-take}
 use Rattle.book_slots.proofs.Walking.{part-long}
 
@@ -59,10 +59,9 @@ module _ (n i : ℕ) (ws : List ℕ) (h : length ws ≡ slotSize * n) (k : i < n
   -- its words cleared
   pub cleared : (part : List ℕ) → part ≡ replicate (length (midOf (slotSize * i) (slotSize * i + slotSize - slotSize * i) ws)) 0
       → part ≡ inSlot emptySlot
-  unfolding emptySlot
   cleared part e =
       let q : length (midOf (slotSize * i) (slotSize * i + slotSize - slotSize * i) ws) ≡ slotSize = part-long n i ws h k in
-      e ∙ rw q refl
+      e ∙ rw q zeros-slot
 
   -- its account, as it is lent
   pub account-part : take (slotSize * i + 256 + 8 - (slotSize * i + 256)) (drop (slotSize * i + 256) ws)

@@ -3,11 +3,11 @@ use Prim.Native.Nat.{ℕ, zero, suc, _+_, _-_, _*_, _<_}
 use native.Mathlib.Omega.{arith}
 use mathlib.Core.Path.{_≡_, refl, sym, ap, _∙_}
 use mathlib.Core.List.{List, [], _∷_, _++_, append-assoc}
-use lib.ListN.{length, getD, take, drop, set, length-append, length-take, length-drop, take-append-drop}
+use lib.ListN.{length, getD, take, drop, set, replicate, length-append, length-take, length-drop, take-append-drop, replicate-append-replicate}
 use lib.Seq.{take-at, drop-at, drop-drop, length-take-le, take-add}
 use Rattle.lists.specs.Lists.{joinedMap}
 use Rattle.lists.specs.Laws.{Every}
-use Rattle.book_slots.specs.Book.{formRoom, accountSize, slotSize, Slot, inSlot, slotOf, slotsOf}
+use Rattle.book_slots.specs.Book.{formRoom, accountSize, slotSize, Slot, inSlot, slotOf, slotsOf, emptySlot}
 
 -- a slot whose parts have the sizes of a slot's
 pub record Regular (s : Slot) : Type 0 where
@@ -103,3 +103,17 @@ put-slot (suc n) (suc i) ws x h k =
     (append-assoc (take slotSize ws) (take (slotSize * i) (drop slotSize ws)) tail
     ∙ ap (λ (r : List ℕ). take slotSize ws ++ r) rest
     ∙ ap (λ (r : List ℕ). r ++ joinedMap inSlot (set (slotsOf n (drop slotSize ws)) i x)) (sym first))
+
+-- Cleared words are free slots.
+pub zeros-slot : replicate {A = ℕ} slotSize 0 ≡ inSlot emptySlot
+unfolding emptySlot
+zeros-slot = refl
+
+pub zeros-slots : (n : ℕ) → replicate {A = ℕ} (slotSize * n) 0 ≡ joinedMap inSlot (replicate n emptySlot)
+zeros-slots zero = refl
+zeros-slots (suc n) =
+    let e : slotSize * suc n ≡ slotSize + slotSize * n = omega arith in
+    rw e
+    (sym (replicate-append-replicate slotSize (slotSize * n) 0)
+    ∙ ap (λ (r : List ℕ). r ++ replicate (slotSize * n) 0) zeros-slot
+    ∙ ap (λ (r : List ℕ). inSlot emptySlot ++ r) (zeros-slots n))

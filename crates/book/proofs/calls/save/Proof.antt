@@ -1,38 +1,37 @@
+-- `save`: what was judged, and both buffers cleared. Assumes nothing.
+use denote.Ref.{now}
 use borrow.Author.Needs.{needs}
+use Rattle.book.specs.Calls.{saveCall}
+use Rattle.book.proofs.CallLaws.{leaves}
 use Rattle.book.proofs.calls.save.Statement.{statement}
 use Rattle.book.proofs.calls.save.Tie as tie
-use Rattle.book.proofs.calls.save.Reads as reads
-use Rattle.book.proofs.calls.save.Lts as lts
-use Rattle.book.proofs.calls.save_judged.Reads as save-judged-reads
-use Rattle.buffers.proofs.clear.Reads as clear-reads
 
--- src/calls.rt:48:9
 save-judged-requires : tie.Need-save-judged-requires
 save-judged-requires c κs = search needs
 
--- src/calls.rt:49:5
 clear-requires : tie.Need-clear-requires
 clear-requires c κs = search needs
 
--- src/calls.rt:50:5
 clear-requires-2 : tie.Need-clear-requires-2
 clear-requires-2 c κs = search needs
 
--- src/calls.rt:37:1
 same-length : tie.Need-same-length
 same-length c = search needs
 
--- src/calls.rt:37:1
 same-length-2 : tie.Need-same-length-2
 same-length-2 c = search needs
 
--- src/calls.rt:37:1
 same-length-3 : tie.Need-same-length-3
 same-length-3 c = search needs
 
--- src/calls.rt:37:1
 returns : tie.Need-returns
-returns c = ?
+unfolding saveCall
+returns c = 
+    let k = c .before .before in
+    let b = k .before .before .before .before in
+    let j = b .before .before .before .before .before .before .before .before in
+    let s = j .before .before .before .before .before .before .before .before .before in
+    leaves _ _ _ (now (s .args .answer)) _ _ (now (s .args .work)) _ _ _ (j .save-judged .ensures) (b .clear .ensures) (k .clear2 .ensures)
 
 pub save-spec : {M : Type 1} → statement M
 save-spec =

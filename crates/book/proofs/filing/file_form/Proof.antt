@@ -1,19 +1,17 @@
+-- `file_form`: 42, 43, or the form. Assumes nothing.
+use denote.Ref.{now}
+use Rattle.book.proofs.FormLaws.{empty-form, long-form, form-stands}
 use Rattle.book.proofs.filing.file_form.Statement.{statement}
 use Rattle.book.proofs.filing.file_form.Tie as tie
-use Rattle.book.proofs.filing.file_form.Reads as reads
-use Rattle.book.proofs.filing.file_form.Lts as lts
 
--- src/filing.rt:46:9
 returns : tie.Need-returns
-returns c = ?
+returns c = empty-form (now (c .before .args .answer)) (c .before .args .n) (c .before .pre) (c .if1 .taken)
 
--- src/filing.rt:49:9
 returns-2 : tie.Need-returns-2
-returns-2 c = ?
+returns-2 c = long-form (now (c .before .before .args .answer)) (c .before .before .args .n) (c .before .before .pre) (c .before .if1 .left) (c .if2 .taken)
 
--- src/filing.rt:41:1
 returns-3 : tie.Need-returns-3
-returns-3 c = ?
+returns-3 c = form-stands (now (c .before .before .args .answer)) (c .before .before .args .n) (c .before .before .pre) (c .before .if1 .left) (c .if2 .left)
 
 pub file-form-spec : {M : Type 1} → statement M
 file-form-spec = tie.close (tie.spec returns returns-2 returns-3)

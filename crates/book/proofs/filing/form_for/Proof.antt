@@ -1,50 +1,50 @@
+-- `form_for`: 40 and 41, then the form. Assumes nothing.
+use denote.Ref.{now}
 use borrow.Author.Needs.{needs}
+use Rattle.book.proofs.FormLaws.{other-size-files, damaged-files, whole-files}
 use Rattle.book.proofs.filing.form_for.Statement.{statement}
 use Rattle.book.proofs.filing.form_for.Tie as tie
-use Rattle.book.proofs.filing.form_for.Reads as reads
-use Rattle.book.proofs.filing.form_for.Lts as lts
-use Rattle.book.proofs.filing.named_form.Reads as named-form-reads
-use Rattle.book.proofs.filing.open.Reads as open-reads
 
--- src/filing.rt:82:9
 open-requires : tie.Need-open-requires
 open-requires c κs = search needs
 
--- src/filing.rt:84:47
 enum-told : tie.Need-enum-told
 enum-told c = search needs
 
--- src/filing.rt:85:45
 enum-told-2 : tie.Need-enum-told-2
 enum-told-2 c = search needs
 
--- src/filing.rt:86:60
 enum-told-3 : tie.Need-enum-told-3
 enum-told-3 c = search needs
 
--- src/filing.rt:86:27
 named-form-requires : tie.Need-named-form-requires
 named-form-requires c κs = search needs
 
--- src/filing.rt:72:1
 returns : tie.Need-returns
-returns c = ?
+returns c = 
+    let o = c .before .before in
+    let s = o .before .before .before .before .before .before in
+    other-size-files (now (s .args .area)) _ _ _ _ (o .open .ensures) (c .enum-told .given .1)
 
--- src/filing.rt:72:1
 returns-2 : tie.Need-returns-2
-returns-2 c = ?
+returns-2 c = 
+    let o = c .before .before in
+    let s = o .before .before .before .before .before .before in
+    damaged-files (now (s .args .area)) _ _ _ _ (o .open .ensures) (c .enum-told2 .given .1)
 
--- src/filing.rt:72:1
 same-length : tie.Need-same-length
 same-length c = search needs
 
--- src/filing.rt:72:1
 same-length-2 : tie.Need-same-length-2
 same-length-2 c = search needs
 
--- src/filing.rt:72:1
 returns-3 : tie.Need-returns-3
-returns-3 c = ?
+returns-3 c = 
+    let f = c .before .before .before .before in
+    let t = f .before .before .before in
+    let o = t .before .before in
+    let s = o .before .before .before .before .before .before in
+    whole-files (now (s .args .area)) _ _ _ _ (o .open .ensures) (t .enum-told3 .given .1) _ _ _ (f .named-form .ensures)
 
 pub form-for-spec : {M : Type 1} → statement M
 form-for-spec =

@@ -1,37 +1,34 @@
+-- `open`: 40, 41, or the slots. Assumes nothing.
+use denote.Ref.{now}
 use borrow.Author.Needs.{needs}
+use Rattle.book.proofs.OpenLaws.{other-size, is-damaged, is-whole}
 use Rattle.book.proofs.filing.open.Statement.{statement}
 use Rattle.book.proofs.filing.open.Tie as tie
-use Rattle.book.proofs.filing.open.Reads as reads
-use Rattle.book.proofs.filing.open.Lts as lts
-use Rattle.book_slots.proofs.damage.is_damaged.Reads as is-damaged-reads
 
--- src/filing.rt:32:9
 returns : tie.Need-returns
-returns c = ?
+returns c = other-size (now (c .before .before .args .area)) (c .if1 .taken)
 
--- src/filing.rt:34:19
 sub-is-damaged : tie.Need-sub-is-damaged
 sub-is-damaged c = search needs
 
--- src/filing.rt:34:19
 part-is-damaged-start : tie.Need-part-is-damaged-start
 part-is-damaged-start c = search needs
 
--- src/filing.rt:34:19
 part-is-damaged-end : tie.Need-part-is-damaged-end
 part-is-damaged-end c = search needs
 
--- src/filing.rt:34:8
 is-damaged-requires : tie.Need-is-damaged-requires
 is-damaged-requires c κs = search needs
 
--- src/filing.rt:35:9
 returns-2 : tie.Need-returns-2
-returns-2 c = ?
+returns-2 c = 
+    let e = c .before .before .before in
+    is-damaged (now (e .before .before .args .area)) (e .if1 .left) _ (c .before .is-damaged .ensures) (c .if2 .taken)
 
--- src/filing.rt:28:1
 returns-3 : tie.Need-returns-3
-returns-3 c = ?
+returns-3 c = 
+    let e = c .before .before .before in
+    is-whole (now (e .before .before .args .area)) (e .if1 .left) _ (c .before .is-damaged .ensures) (c .if2 .left)
 
 pub open-spec : {M : Type 1} → statement M
 open-spec =

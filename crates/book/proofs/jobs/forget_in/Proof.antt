@@ -1,42 +1,43 @@
+-- `forget_in`: the slot is cleared, or there is none. Assumes nothing.
+use mathlib.Core.Path.{sym, ap, _∙_}
 use borrow.Author.Needs.{needs}
+use Rattle.book_slots.specs.Walks.{placeIs}
+use Rattle.book.proofs.JobLaws.{found-inside, forgotten, not-forgotten}
 use Rattle.book.proofs.jobs.forget_in.Statement.{statement}
 use Rattle.book.proofs.jobs.forget_in.Tie as tie
-use Rattle.book.proofs.jobs.forget_in.Reads as reads
-use Rattle.book.proofs.jobs.forget_in.Lts as lts
-use Rattle.book_slots.proofs.keeping.clear_at.Reads as clear-at-reads
-use Rattle.book_slots.proofs.slots.find_slot.Reads as find-slot-reads
 
--- src/jobs.rt:67:9
 find-slot-requires : tie.Need-find-slot-requires
 find-slot-requires c κs = search needs
 
--- src/jobs.rt:68:18
 enum-known-spot : tie.Need-enum-known-spot
 enum-known-spot c = search needs
 
--- src/jobs.rt:69:9
 enum-told : tie.Need-enum-told
 enum-told c = search needs
 
--- src/jobs.rt:69:9
 same-length : tie.Need-same-length
 same-length c = search needs
 
--- src/jobs.rt:69:9
 returns : tie.Need-returns
-returns c = ?
+returns c = 
+    let q = c .before .before in
+    not-forgotten _ _ (sym (ap placeIs (c .enum-told .given .1)) ∙ q .find-slot .ensures)
 
--- src/jobs.rt:71:5
 clear-at-requires : tie.Need-clear-at-requires
-clear-at-requires c κs = ?
+clear-at-requires c κs = 
+    let p = c .before .before in
+    let q = p .before .before in
+    (q .before .before .before .before .pre .0, found-inside _ _ _ (sym (ap placeIs (p .spot .given .1)) ∙ q .find-slot .ensures))
 
--- src/jobs.rt:62:1
 same-length-2 : tie.Need-same-length-2
 same-length-2 c = search needs
 
--- src/jobs.rt:62:1
 returns-2 : tie.Need-returns-2
-returns-2 c = ?
+returns-2 c = 
+    let a = c .before .before in
+    let p = a .before .before .before in
+    let q = p .before .before in
+    forgotten _ _ _ _ (sym (ap placeIs (p .spot .given .1)) ∙ q .find-slot .ensures) (a .clear-at .ensures)
 
 pub forget-in-spec : {M : Type 1} → statement M
 forget-in-spec =
