@@ -1,0 +1,7 @@
+pub mod Map
+pub mod Entries
+pub mod SameMap
+pub mod SlotEntries
+pub mod Jobs
+pub mod MapTheorem
+pub mod FrontWords
