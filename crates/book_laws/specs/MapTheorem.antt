@@ -186,7 +186,7 @@ zeroed-holds front h =
     ap (slotsOf slotCount) words ∙ ap (λ (n : ℕ). slotsOf n (joinedMap inSlot (replicate slotCount emptySlot))) (sym (length-replicate slotCount emptySlot))
     ∙ words-slots (replicate slotCount emptySlot) (regular-slots (replicate slotCount emptySlot) (empty-goods slotCount)) in
     record {
-      size = rw (length-append front (replicate (slotSize * slotCount) 0), h, length-replicate {A = ℕ} (slotSize * slotCount) 0);
+      size = rw (length-append front (replicate (slotSize * slotCount) 0), h);
       slots = rw slots empty-slots;
     }
 
