@@ -5,3 +5,4 @@ pub mod SlotEntries
 pub mod Jobs
 pub mod MapTheorem
 pub mod FrontWords
+pub mod Found
