@@ -14,6 +14,7 @@ pub const SLOT: usize = 264;
 pub const FORM: usize = 255;
 
 // The account of a payee.
+#[repr(C)]
 pub struct Account {
     pub words: [u32; 8],
 }
