@@ -24,11 +24,13 @@ pub fn save_in(slots: &mut [u32], form: &[u32], account: Account) -> BookAnswer
     ensures { λ r. ⌜ Works (saveIn (account .words) (now (form .entry)) (slotsOf slotCount (now (slots .entry)))) (now (slots .entry)) (now (slots .exit)) (bookValues r noAccount) ⌝ }
 {
     let spot = spot_for(slots, SLOTS, form);
-    let Spot::At(i) = spot else {
-        return BookAnswer::Full;
-    };
-    fill_at(slots, SLOTS, i, form, account);
-    BookAnswer::Done
+    match spot {
+        Spot::At(i) => {
+            fill_at(slots, SLOTS, i, form, account);
+            BookAnswer::Done
+        }
+        Spot::Nothing => BookAnswer::Full,
+    }
 }
 
 // Eight zeros.

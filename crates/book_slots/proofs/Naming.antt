@@ -23,11 +23,11 @@ module _ (slot form : List ℕ) where
   other-length h = sym (rw (ne-eqb (getD slot 0 0) (length form) h))
 
   pub same-length : (r : Bool) → length form ≤ formRoom → getD slot 0 0 ≡ length form
-      → r ≡ sameList (take (1 + getD slot 0 0 - 1) (drop 1 slot)) form → r ≡ hasName form (slotOf slot)
+      → r ≡ sameList (take (1 + length form - 1) (drop 1 slot)) form → r ≡ hasName form (slotOf slot)
   unfolding hasName
   same-length r h e f =
-      f ∙ rw (eq-eqb (getD slot 0 0) (length form) e)
-      (ap (λ (s : List ℕ). sameList s form) (name-part slot (omega arith)))
+      let part : take (1 + length form - 1) (drop 1 slot) ≡ nameOf (slotOf slot) = rw (← e) (name-part slot (omega arith)) in
+      f ∙ rw (eq-eqb (getD slot 0 0) (length form) e) (ap (λ (s : List ℕ). sameList s form) part)
 
 -- the slot of the name, otherwise the lowest free one
 module _ (form : List ℕ) (slots : List Slot) where

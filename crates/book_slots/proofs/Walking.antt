@@ -44,6 +44,10 @@ module _ {B : Type 0} (f : ℕ → List Slot → B) (n : ℕ) (ws : List ℕ) wh
   pub walk-start : Walk f n ws 0
   walk-start = let e : n - 0 ≡ n = omega arith in record { inside = omega arith; rest = rw e refl }
 
+  -- all n are left
+  pub started : Walk f n ws (n - n)
+  started = let e : n - n ≡ 0 = omega arith in rw e walk-start
+
   pub walk-stop : (i : ℕ) → Walk f n ws i → n ≤ i → f 0 (slotsOf n ws) ≡ f i []
   unfolding slotsOf
   walk-stop i w h = let e : n - i ≡ 0 = omega arith in w .rest ∙ rw e refl

@@ -59,8 +59,8 @@ pub fn clear_at(slots: &mut [u32], count: usize, i: usize)
     ensures { λ _. ⌜ now (slots .exit) ≡ joinedMap inSlot (set (slotsOf count (now (slots .entry))) i emptySlot) ⌝ }
 {
     let at = SLOT * i;
-    let end = at + SLOT;
-    buffers::clear(&mut slots[at..end]);
+    let past = at + SLOT;
+    buffers::clear(&mut slots[at..past]);
 }
 
 // The account of the slot with the number i.

@@ -38,7 +38,7 @@ fn has_name(slot: &[u32], form: &[u32]) -> bool
     if n != form.len() {
         return false;
     }
-    let end = 1 + n;
+    let end = 1 + form.len();
     buffers::same(&slot[1..end], form)
 }
 
@@ -60,18 +60,19 @@ pub fn find_slot(slots: &[u32], count: usize, form: &[u32]) -> Spot
     Spot::Nothing
 }
 
-// The lowest free slot.
+// The lowest free slot; `left` slots are still to be looked at.
 pub fn free_slot(slots: &[u32], count: usize) -> Spot
     requires { ⌜ length (now slots) ≡ slotSize * count ⌝ }
     ensures { λ r. ⌜ placeIs r ≡ placeWith isFree 0 (slotsOf count (now (slots .entry))) ⌝ }
 {
-    let mut i = 0;
-    while i < count {
+    let mut left = count;
+    while left > 0 {
+        let i = count - left;
         let at = SLOT * i;
         if slots[at] == 0 {
             return Spot::At(i);
         }
-        i += 1;
+        left -= 1;
     }
     Spot::Nothing
 }

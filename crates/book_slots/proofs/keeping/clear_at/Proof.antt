@@ -9,8 +9,8 @@ use Rattle.book_slots.proofs.keeping.clear_at.Tie as tie
 mul-at : tie.Need-mul-at
 mul-at c = search needs
 
-add-end : tie.Need-add-end
-add-end c = search needs
+add-past : tie.Need-add-past
+add-past c = search needs
 
 mul-clear : tie.Need-mul-clear
 mul-clear c = search needs
@@ -41,7 +41,7 @@ clear-at-spec =
     tie.close
     (tie.spec
     mul-at
-    add-end
+    add-past
     mul-clear
     sub-clear
     part-clear-start
