@@ -52,7 +52,9 @@ fn proved(call: &Call, area: &mut [u32], terms: &Terms) -> Answer {
                 assert!(found.number == 0 || found.account == Account::default(), "an account beside a refusal");
                 found.answer().map(|account| account.words)
             }
-            Call::Forget(name) => done(Book::new(area).forget(name, &mut Desk { table, setting, answer, work }).answer()),
+            Call::Forget(name) => {
+                done(Book::new(area).forget(name, &mut Desk { table, setting, answer, work }).answer())
+            }
             Call::Reset => done(Book::new(area).reset(answer, work).answer()),
         })
     });
@@ -237,7 +239,10 @@ fn half(seed: u64) {
     while seen.calls < 500_000 {
         round(&mut rng, &mut seen, 250);
     }
-    println!("{} calls, by number: {:?}; {} books filled, {} emptied", seen.calls, seen.numbers, seen.full, seen.emptied);
+    println!(
+        "{} calls, by number: {:?}; {} books filled, {} emptied",
+        seen.calls, seen.numbers, seen.full, seen.emptied
+    );
     for number in (0..=15).chain([17]).chain(40..=45) {
         assert!(seen.numbers[number] >= 500, "{number}: {} times", seen.numbers[number]);
     }
