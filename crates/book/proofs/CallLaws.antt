@@ -3,7 +3,7 @@ use Prim.Native.Nat.{ℕ, _-_, _*_, _≤_}
 use native.Mathlib.Omega.{arith}
 use mathlib.Core.Path.{_≡_, refl, sym, ap, _∙_}
 use mathlib.Core.List.{List, _++_}
-use lib.ListN.{length, take, drop, replicate, length-drop, take-append-drop}
+use lib.ListN.{length, take, drop, replicate, take-append-drop}
 use lib.Seq.{length-take-le}
 use borrow.Author.Tests.{eq-eqb, ne-eqb}
 use borrow.Rule.Slice.PartMut.{midOf, putMid}
@@ -16,7 +16,7 @@ use Rattle.book.specs.declared.BookAnswer.{BookAnswer}
 use Rattle.book.specs.declared.BookAnswer.the-variants.{Done, OtherSize}
 use Rattle.book.specs.declared.filing.Filing.{Filing}
 use Rattle.book.specs.declared.filing.Filing.the-variants.{Refused, Form}
-use Rattle.book.specs.Calls.{BookValues, BookResult, Kept, bookNumber, bookPlace, noAccount, told, areaAfter, bookResult, opened, formFor, byForm, resetCall}
+use Rattle.book.specs.Calls.{BookValues, Kept, bookNumber, bookPlace, noAccount, areaAfter, bookResult, opened, formFor, byForm, resetCall}
 use Rattle.book.specs.Promise.{bookValues, Leaves, ResetCalls}
 use Rattle.book.specs.Steps.{Stands, FilingIs, Files, slotsAfter, Works, Judged}
 use Rattle.book.proofs.OpenLaws.{right-size}
@@ -97,8 +97,8 @@ module _ (job : List ℕ → List Slot → Verdict Kept) (setting : ℕ) (words 
           record {
             values = works .values;
             area =
-              sym (take-append-drop frontSize area) ∙ ap (λ (x : List ℕ). take frontSize area ++ x) (sym (g ∙ mid-tail frontSize area))
-              ∙ whole due after (works .slots);
+                sym (take-append-drop frontSize area) ∙ ap (λ (x : List ℕ). take frontSize area ++ x) (sym (g ∙ mid-tail frontSize area))
+                ∙ whole due after (works .slots);
             same = f .same;
             same-work = f .same-work;
           }

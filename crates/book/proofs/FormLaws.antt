@@ -7,15 +7,15 @@ use mathlib.Core.List.{List}
 use lib.ListN.{length, take}
 use lib.Seq.{length-take-le}
 use lib.Dec.{eqb}
-use borrow.Author.Tests.{lt-ltb, le-ltb, ne-eqb}
+use borrow.Author.Tests.{lt-ltb, le-ltb}
 use Rattle.lists.specs.Laws.{not-empty}
-use Rattle.answers.specs.Verdict.{Verdict, accepted, refused, next}
+use Rattle.answers.specs.Verdict.{Verdict, accepted, refused}
 use Rattle.answers.specs.Values.{NameValues, nameValues, numberOf, placeOf}
 use Rattle.answers.specs.declared.Refusal.{Refusal}
 use Rattle.answers.specs.declared.Refusal.the-variants.{LayoutFault, WorkAreaTooSmall, InputTooLong, NotScalar, Disallowed, NoTokens, WorkedTooLong, LowLine, Hyphens, Fenced, LeadingMark, NoGroup, NsmRun, Confusable, Restricted, BufferTooSmall}
 use Rattle.answers.specs.declared.NameAnswer.{NameAnswer}
 use Rattle.answers.specs.declared.NameAnswer.the-variants as name
-use Rattle.ending.specs.Ends.{Ends, result-fits}
+use Rattle.ending.specs.Ends.{result-fits}
 use Rattle.name.specs.Name.{nameAnswering, nameBefore15, nameVerdict, nameResult, nameCall}
 use Rattle.name.specs.Calls.{NameCalls}
 use Rattle.book_slots.specs.Book.{formRoom, slotsIn}
@@ -24,7 +24,7 @@ use Rattle.book.specs.declared.filing.Opening.{Opening}
 use Rattle.book.specs.declared.filing.Opening.the-variants as opening
 use Rattle.book.specs.declared.filing.Filing.{Filing}
 use Rattle.book.specs.declared.filing.Filing.the-variants as filing
-use Rattle.book.specs.Calls.{opened, formOf, fileable, formFor}
+use Rattle.book.specs.Calls.{opened, fileable, formFor}
 use Rattle.book.specs.Steps.{OpeningIs, Stands, FormIs, Formed, FilingIs, Files}
 
 -- 42 and 43 of the first n words

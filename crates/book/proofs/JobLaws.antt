@@ -1,13 +1,12 @@
 -- What is done in the slots under a form. Assumes nothing.
 use Prim.Native.Nat.{ℕ, suc, _+_, _*_, _<_}
 use native.Mathlib.Omega.{arith}
-use mathlib.Core.Path.{_≡_, refl, sym, ap, _∙_}
+use mathlib.Core.Path.{_≡_, refl, sym, _∙_}
 use mathlib.Core.Bool.{Bool, true, false, cond}
 use mathlib.Core.List.{List, [], _∷_}
 use mathlib.Core.Option.{Option, none, some}
 use lib.ListN.{length, getD, set}
 use Rattle.lists.specs.Lists.{joinedMap, onSome, placeWith}
-use Rattle.answers.specs.Verdict.{accepted, refused}
 use Rattle.book_slots.specs.Book.{slotSize, slotCount, Slot, inSlot, slotsOf, slotFor, emptySlot, isFree, hasName, spotFor}
 use Rattle.book_slots.specs.SlotLaws.{slots-long, slots-words}
 use Rattle.book.specs.declared.BookAnswer.the-variants.{Done, NotFiled, Full}

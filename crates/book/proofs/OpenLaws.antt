@@ -8,7 +8,7 @@ use lib.ListN.{length, take, drop}
 use lib.Dec.{eqb}
 use borrow.Author.Tests.{eq-eqb, ne-eqb, eqb-true}
 use Rattle.buffers.proofs.Parts.{mid-tail}
-use Rattle.answers.specs.Verdict.{Verdict, accepted, refused, next}
+use Rattle.answers.specs.Verdict.{accepted, refused, next}
 use Rattle.book_slots.specs.Book.{frontSize, slotCount, areaSize, Slot, slotsOf, slotsIn}
 use Rattle.book_slots.specs.Damage.{damaged}
 use Rattle.book.specs.Calls.{opened}

@@ -1,14 +1,11 @@
 -- The fields of an answer that the name call refused. Assumes nothing.
 use Prim.Native.Nat.{ℕ}
-use mathlib.Core.Path.{_≡_, refl, sym, ap}
-use mathlib.Core.List.{List}
+use mathlib.Core.Path.{_≡_}
 use Rattle.answers.specs.Values.{numberOf, placeOf}
 use Rattle.answers.specs.declared.Refusal.{Refusal}
 use Rattle.book.specs.declared.BookAnswer.{BookAnswer}
 use Rattle.book.specs.declared.BookAnswer.the-variants.{Refused}
-use Rattle.book.specs.Calls.{BookValues}
 use Rattle.book.specs.Promise.{bookValues}
-use Rattle.book_boundary.specs.declared.WanlophengBook.{WanlophengBook}
 use Rattle.book_boundary.specs.Crossing.{bookFields}
 
 pub refused-fields : (a : BookAnswer) (f : Refusal) → a ≡ Refused f → (n p : ℕ) → n ≡ numberOf f → p ≡ placeOf f

@@ -5,12 +5,12 @@ use mathlib.Core.Path.{_≡_, refl, sym, ap, _∙_}
 use mathlib.Core.Bool.{Bool, true, false, not, cond}
 use mathlib.Core.List.{List, [], _∷_, _++_}
 use mathlib.Core.Option.{Option, none, some}
-use lib.ListN.{length, length-append}
-use Rattle.lists.specs.Lists.{keep, onSome, sameList}
+use lib.ListN.{length}
+use Rattle.lists.specs.Lists.{onSome, sameList}
 use Rattle.lists.specs.Laws.{same-list}
 use Rattle.lists.specs.Elements.{list-same}
 use Rattle.lists.specs.Tests.{agree, never, not-so}
-use Rattle.book_laws.specs.Map.{Entry, lookup, without, leading}
+use Rattle.book_laws.specs.Map.{Entry, lookup, without}
 
 -- no two entries have the same form
 unfoldable pub Distinct : List Entry → Type 0

@@ -2,9 +2,9 @@
 use Prim.Native.Nat.{ℕ}
 use mathlib.Core.Path.{_≡_, refl, _∙_}
 use mathlib.Core.List.{List, [], _∷_}
-use lib.ListN.{length, replicate}
+use lib.ListN.{length}
 use Rattle.book_slots.specs.Book.{frontSize}
-use Rattle.book.specs.Calls.{BookValues, noAccount}
+use Rattle.book.specs.Calls.{BookValues}
 use Rattle.cases.specs.SmallTable.{smallTable}
 use Rattle.book_laws.specs.Map.{Call, by, reset, save, find, forget, mapAnswers, bookAnswers}
 use Rattle.book_laws.specs.MapTheorem.{zeroed, map-theorem}

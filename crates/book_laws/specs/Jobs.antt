@@ -1,20 +1,19 @@
 -- Each job in the slots is that job in the map. Assumes nothing.
-use Prim.Native.Nat.{ℕ, suc, _+_, _<_, _≤_}
+use Prim.Native.Nat.{ℕ, _+_, _<_, _≤_}
 use native.Mathlib.Omega.{arith}
 use mathlib.Core.Path.{_≡_, refl, sym, ap, _∙_}
-use mathlib.Core.Bool.{Bool, true, false, cond}
+use mathlib.Core.Bool.{true, false}
 use mathlib.Core.List.{List, [], _∷_, _++_}
 use mathlib.Core.Option.{Option, none, some}
 use lib.ListN.{length, getD, set, length-append}
 use lib.Seq.{set-at, getD-at}
-use lib.Dec.{ltb}
-use borrow.Author.Tests.{lt-ltb, le-ltb, eqb-true}
-use Rattle.lists.specs.Lists.{onSome, placeWith}
+use borrow.Author.Tests.{lt-ltb, le-ltb}
+use Rattle.lists.specs.Lists.{placeWith}
 use Rattle.lists.specs.Laws.{Every, every-append, every-front, every-back, same-list, joined-append}
 use Rattle.lists.specs.Tests.{never, not-so}
 use Rattle.answers.specs.Verdict.{Verdict, accepted, refused}
 use Rattle.book_slots.specs.Book.{slotCount, formRoom, accountSize, Slot, slotFor, emptySlot, isFree, nameOf, hasName, spotFor}
-use Rattle.book.specs.Calls.{Kept, noAccount, saveIn, findIn, forgetIn}
+use Rattle.book.specs.Calls.{Kept, saveIn, findIn, forgetIn}
 use Rattle.book_laws.specs.Map.{Entry, lookup, without, leading, mostEntries, Changed, mapSave, mapFind, mapForget, Job, save, find, forget, mapJob}
 use Rattle.book_laws.specs.Entries.{between}
 use Rattle.book_laws.specs.SlotEntries.{entryOf, entriesOf, Good, filed-name, free-name, no-name, Split, split-at, none-any, all-filed, few-entries, filled-good, filled-entry, empty-good, empty-entry}
@@ -129,9 +128,16 @@ module _ (f : List ℕ) (h : 1 ≤ length f) (k : length f ≤ formRoom) (slots 
 
     pub not-full : length m < mostEntries
     not-full =
-        omega
-        (arith, rest .count, length-append (entriesOf (t .front)) (entriesOf (t .back)), few-entries (t .front), few-entries (t .back), s .all,
-        ap length (t .is), length-append (t .front) (t .here ∷ t .back))
+        omega (
+          arith,
+          rest .count,
+          length-append (entriesOf (t .front)) (entriesOf (t .back)),
+          few-entries (t .front),
+          few-entries (t .back),
+          s .all,
+          ap length (t .is),
+          length-append (t .front) (t .here ∷ t .back),
+        )
 
     pub slots-added : (account : List ℕ) → length account ≡ accountSize → Slots (set slots i (slotFor f account)) (leading f account m)
     slots-added account l =
@@ -143,8 +149,8 @@ module _ (f : List ℕ) (h : 1 ≤ length f) (k : length f ≤ formRoom) (slots 
           all = long-split (t .front) (t .back) (t .here) x ∙ ap length (sym (t .is)) ∙ s .all;
           good = goods-split (t .front) (t .back) (t .here) x all-good (filled-good f account h k l);
           same =
-            rw (entries-split (t .front) (t .back) x (record { form = f; account = account } ∷ []) (filled-entry f account h k))
-            (same-added f account (entriesOf (t .front)) (entriesOf (t .back)) m rest e);
+              rw (entries-split (t .front) (t .back) x (record { form = f; account = account } ∷ []) (filled-entry f account h k))
+              (same-added f account (entriesOf (t .front)) (entriesOf (t .back)) m rest e);
         })
 
   -- find, forget, save

@@ -1,7 +1,7 @@
 -- "a plain map of at most 64 entries from normal forms to accounts", and what it answers to the calls of the book. The map is a list of
 -- entries, of which no two have the same form. Assumes nothing.
 use Prim.Native.Nat.{ℕ}
-use mathlib.Core.Bool.{Bool, not, cond}
+use mathlib.Core.Bool.{not, cond}
 use mathlib.Core.List.{List, [], _∷_}
 use mathlib.Core.Option.{Option, none, some}
 use lib.ListN.{length}

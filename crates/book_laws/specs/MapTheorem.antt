@@ -3,24 +3,24 @@
 use Prim.Native.Nat.{ℕ, _+_, _-_, _*_, _≤_}
 use native.Mathlib.Omega.{arith}
 use mathlib.Core.Path.{_≡_, refl, sym, ap, _∙_}
-use mathlib.Core.Bool.{Bool, true, false, _||_, cond}
+use mathlib.Core.Bool.{Bool, true, false, cond}
 use mathlib.Core.List.{List, [], _∷_, _++_}
-use lib.ListN.{length, take, drop, replicate, length-append, length-drop, length-replicate, take-append-drop}
+use lib.ListN.{length, take, drop, replicate, length-append, length-replicate}
 use lib.Seq.{length-take-le, take-at, drop-at}
-use lib.Dec.{eqb, ltb}
-use borrow.Author.Tests.{eq-eqb, eqb-true, ltb-false}
-use Rattle.lists.specs.Lists.{any, isEmpty, joinedMap}
+use lib.Dec.{ltb}
+use borrow.Author.Tests.{eq-eqb, ltb-false}
+use Rattle.lists.specs.Lists.{any, joinedMap}
 use Rattle.lists.specs.Laws.{Every, every-imp}
 use Rattle.answers.specs.Verdict.{Verdict, accepted, refused, next}
 use Rattle.name.specs.Name.{nameCall}
 use Rattle.book_slots.specs.Book.{frontSize, slotCount, slotSize, formRoom, areaSize, Slot, inSlot, slotsOf, slotsIn, withSlots, emptySlot}
-use Rattle.book_slots.specs.Damage.{slotDamaged, nameTwice, damaged}
+use Rattle.book_slots.specs.Damage.{slotDamaged, damaged}
 use Rattle.book_slots.specs.SlotLaws.{Regular, slot-long, words-slots, zeros-slots}
-use Rattle.book.specs.Calls.{BookValues, BookResult, Kept, noAccount, told, areaAfter, bookResult, sized, opened, formOf, fileable, formFor, saveIn, findIn, forgetIn, byForm, saveCall, findCall, forgetCall, resetCall}
-use Rattle.book_laws.specs.Map.{Entry, lookup, Changed, Job, save, find, forget, Call, by, reset, mapJob, MapResult, mapResult, mapCall, bookCall, mapAnswers, bookAnswers, areaLeft}
-use Rattle.book_laws.specs.Entries.{Distinct, lookup-nil}
+use Rattle.book.specs.Calls.{BookResult, Kept, noAccount, bookResult, opened, formOf, fileable, formFor, byForm, saveCall, findCall, forgetCall, resetCall}
+use Rattle.book_laws.specs.Map.{Entry, Changed, Job, save, find, forget, Call, by, reset, mapJob, mapResult, mapCall, bookCall, mapAnswers, bookAnswers}
+use Rattle.book_laws.specs.Entries.{Distinct}
 use Rattle.book_laws.specs.SameMap.{Same}
-use Rattle.book_laws.specs.SlotEntries.{entriesOf, Good, distinct-once, empty-entries, empty-goods}
+use Rattle.book_laws.specs.SlotEntries.{Good, distinct-once, empty-entries, empty-goods}
 use Rattle.book_laws.specs.Jobs.{Slots, Agree, bookJob, Eight, agree-job}
 
 -- the area has the right size, and its slots hold the map

@@ -1,21 +1,19 @@
 -- From a zeroed area 40 and 41 never occur. Assumes nothing.
 use Prim.Native.Nat.{ℕ, _≤_}
 use native.Mathlib.Omega.{arith}
-use mathlib.Core.Path.{_≡_, refl, sym, ap, _∙_}
+use mathlib.Core.Path.{_≡_}
 use mathlib.Core.Bool.{Bool, true, false, cond}
 use mathlib.Core.List.{List, [], _∷_}
-use mathlib.Core.Option.{Option, none, some}
 use lib.ListN.{length}
 use lib.Dec.{eqb, ltb}
-use Rattle.lists.specs.Lists.{onSome}
 use Rattle.lists.specs.Laws.{Every}
 use Rattle.answers.specs.Verdict.{Verdict, accepted, refused, next}
 use Rattle.ending.specs.Numbers.{Refuses, refuses-some, refuses-next}
 use Rattle.name.specs.Label.{Label}
-use Rattle.name.specs.Name.{NameResult, nameVerdict, nameResult, nameCall}
+use Rattle.name.specs.Name.{nameVerdict, nameResult, nameCall}
 use Rattle.meaning.specs.Numbers.{OfCall, name-refuses}
 use Rattle.book_slots.specs.Book.{frontSize, formRoom}
-use Rattle.book.specs.Calls.{BookValues, noAccount, formOf, fileable, formFor}
+use Rattle.book.specs.Calls.{noAccount, formOf, fileable, formFor}
 use Rattle.book_laws.specs.Map.{Entry, lookup, leading, mostEntries, Changed, mapSave, mapFind, mapForget, Job, save, find, forget, Call, by, reset, mapJob, mapResult, mapCall, mapAnswers, bookAnswers}
 use Rattle.book_laws.specs.Found.{formIn}
 use Rattle.book_laws.specs.MapTheorem.{EightWords, zeroed, map-theorem}

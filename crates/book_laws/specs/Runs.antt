@@ -1,6 +1,6 @@
 -- The same of calls that were made, each with an answer buffer and a work area of its own, whatever they held. Assumes nothing.
 use Prim.Native.Nat.{ℕ}
-use mathlib.Core.Path.{_≡_, refl, sym, ap, _∙_}
+use mathlib.Core.Path.{_≡_, refl, ap, _∙_}
 use mathlib.Core.List.{List, [], _∷_}
 use lib.ListN.{length, take}
 use Rattle.lists.specs.Laws.{Every}
@@ -8,9 +8,9 @@ use Rattle.book_slots.specs.declared.Account.{Account}
 use Rattle.book_slots.specs.Book.{frontSize, accountSize}
 use Rattle.book.specs.declared.BookAnswer.{BookAnswer}
 use Rattle.book.specs.declared.FindAnswer.{FindAnswer}
-use Rattle.book.specs.Calls.{BookValues, BookResult, noAccount}
+use Rattle.book.specs.Calls.{BookValues, noAccount}
 use Rattle.book.specs.Promise.{bookValues, Leaves, SaveCalls, FindCalls, ForgetCalls, ResetCalls}
-use Rattle.book_laws.specs.Map.{Job, save, find, forget, Call, by, reset, bookCall, mapAnswers, bookAnswers, areaLeft}
+use Rattle.book_laws.specs.Map.{save, find, forget, Call, by, reset, bookCall, mapAnswers, bookAnswers, areaLeft}
 use Rattle.book_laws.specs.MapTheorem.{EightWords, zeroed, map-theorem}
 use Rattle.book_laws.specs.FrontWords.{front-left}
 

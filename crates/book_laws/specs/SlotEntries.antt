@@ -1,19 +1,17 @@
 -- The entries that slots hold, and what the searches of the book say of them. Assumes nothing.
-use Prim.Native.Nat.{ℕ, zero, suc, _+_, _-_, _<_, _≤_}
+use Prim.Native.Nat.{ℕ, zero, suc, _+_, _-_, _≤_}
 use native.Mathlib.Omega.{arith}
 use mathlib.Core.Path.{_≡_, refl, sym, ap, _∙_}
 use mathlib.Core.Bool.{Bool, true, false, not, _&&_, _||_, cond}
 use mathlib.Core.List.{List, [], _∷_, _++_}
-use mathlib.Core.Option.{Option, none, some}
-use lib.ListN.{length, getD, take, drop, set, replicate, length-append, length-replicate}
-use lib.Seq.{length-take-le, set-at, getD-at, take-at}
+use mathlib.Core.Option.{none, some}
+use lib.ListN.{length, replicate}
+use lib.Seq.{length-take-le}
 use lib.Dec.{eqb, ltb}
 use borrow.Author.Tests.{eq-eqb, ne-eqb, eqb-true, eqb-false, le-ltb, ltb-false}
-use Rattle.lists.specs.Lists.{all, any, joinedMap, placeWith, sameList}
-use Rattle.lists.specs.Laws.{Every, every-append, every-front, every-back, same-list, joined-append}
-use Rattle.lists.specs.Elements.{list-same}
-use Rattle.lists.specs.Tests.{agree, not-so}
-use Rattle.lists.specs.Filled.{filled, length-filled, take-filled, drop-filled}
+use Rattle.lists.specs.Lists.{any, joinedMap, placeWith, sameList}
+use Rattle.lists.specs.Laws.{Every, same-list}
+use Rattle.lists.specs.Filled.{length-filled, take-filled, drop-filled}
 use Rattle.book_slots.specs.Book.{formRoom, accountSize, Slot, slotFor, emptySlot, isFree, nameOf, hasName}
 use Rattle.book_slots.specs.Damage.{zeros, slotDamaged, nameTwice}
 use Rattle.book_slots.specs.SlotLaws.{Regular}
@@ -192,7 +190,7 @@ filled-good form account l h k =
     record {
       regular = record { form = length-filled formRoom form h; eight = k };
       fine =
-        rw (le-ltb formRoom (length form) h, drop-filled formRoom form, zeros-zero (formRoom - length form), ne-eqb (length form) 0 (λ e. omega arith));
+          rw (le-ltb formRoom (length form) h, drop-filled formRoom form, zeros-zero (formRoom - length form), ne-eqb (length form) 0 (λ e. omega arith));
     }
 
 pub filled-entry : (form account : List ℕ) → 1 ≤ length form → length form ≤ formRoom

@@ -1,15 +1,15 @@
 -- Writing, clearing and reading the slot at a place. Assumes nothing.
-use Prim.Native.Nat.{ℕ, zero, suc, _+_, _-_, _*_, _<_, _≤_}
+use Prim.Native.Nat.{ℕ, suc, _+_, _-_, _*_, _<_, _≤_}
 use native.Mathlib.Omega.{arith}
-use mathlib.Core.Path.{_≡_, refl, sym, ap, _∙_}
-use mathlib.Core.List.{List, [], _∷_, _++_, append-assoc, append-nil}
+use mathlib.Core.Path.{_≡_, refl, ap, _∙_}
+use mathlib.Core.List.{List, [], _∷_, _++_, append-nil}
 use lib.ListN.{length, getD, take, drop, set, replicate, length-append, length-drop, drop-of-length-le}
-use lib.Seq.{take-at, drop-at, drop-drop, take-all, length-take-le}
+use lib.Seq.{take-at, drop-at, drop-drop, length-take-le}
 use borrow.Rule.Slice.PartMut.{midOf, putMid}
 use Rattle.lists.specs.Lists.{joinedMap}
 use Rattle.lists.specs.Filled.{filled, length-filled}
 use Rattle.buffers.proofs.Parts.{mid-tail, length-tail, put-tail}
-use Rattle.book_slots.specs.Book.{formRoom, accountSize, slotSize, Slot, inSlot, slotOf, slotsOf, slotFor, emptySlot}
+use Rattle.book_slots.specs.Book.{formRoom, accountSize, slotSize, Slot, inSlot, slotsOf, slotFor, emptySlot}
 use Rattle.book_slots.specs.SlotLaws.{slot-at, put-slot, zeros-slot}
 use Rattle.book_slots.proofs.Cuts.{drop-take}
 use Rattle.book_slots.proofs.Walking.{part-long}

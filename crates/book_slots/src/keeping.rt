@@ -7,7 +7,7 @@ ghost use mathlib.Core.List.{_∷_, _++_};
 ghost use lib.ListN.{length, getD, set, drop};
 ghost use Rattle.lists.specs.Lists.{joinedMap};
 ghost use Rattle.lists.specs.Filled.{filled};
-ghost use Rattle.book_slots.specs.Book.{formRoom, slotSize, slotOf, slotsOf, inSlot, slotFor, emptySlot};
+ghost use Rattle.book_slots.specs.Book.{formRoom, slotSize, slotsOf, inSlot, slotFor, emptySlot};
 
 // The words of `src` stand in front, and zeros behind them.
 fn put_words(dst: &mut [u32], src: &[u32])

@@ -23,7 +23,7 @@ same-length-3 : tie.Need-same-length-3
 same-length-3 c = search needs
 
 returns : tie.Need-returns
-returns c = 
+returns c =
     let u = c .before .before .before .before .before .before .before .save .ensures in
     record { values = ap (λ (v : List ℕ → BookValues). v noAccount) (c .book-fields .ensures) ∙ u .values; area = u .area; answer = u .answer; work = u .work }
 

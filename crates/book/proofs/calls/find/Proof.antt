@@ -23,7 +23,7 @@ same-length-2 c = search needs
 
 returns : tie.Need-returns
 unfolding findCall
-returns c = 
+returns c =
     let k = c .before .before in
     let b = k .before .before .before .before in
     let j = b .before .before .before .before .before .before in

@@ -1,7 +1,6 @@
 -- `find_judged`: a refusal before the form, or what is done under it. Assumes nothing.
 use native.Mathlib.Omega.{arith}
 use mathlib.Core.Path.{refl}
-use denote.Ref.{now}
 use borrow.Author.Needs.{needs}
 use Rattle.book.proofs.CallLaws.{judged-refused, form-room, form-long, whole-area, job-asks, judged-read}
 use Rattle.book.proofs.calls.find_judged.Statement.{statement}
@@ -20,13 +19,13 @@ enum-known-filing-2 : tie.Need-enum-known-filing-2
 enum-known-filing-2 c = search needs
 
 sub-find-in : tie.Need-sub-find-in
-sub-find-in c = 
+sub-find-in c =
     let d = c .before in
     let g = d .before .before .before .before .before .before in
     omega (arith, whole-area _ _ _ _ _ _ _ (g .form-for .ensures) _ (d .filing2 .given .1))
 
 part-find-in-start : tie.Need-part-find-in-start
-part-find-in-start c = 
+part-find-in-start c =
     let d = c .before in
     let g = d .before .before .before .before .before .before in
     omega (arith, whole-area _ _ _ _ _ _ _ (g .form-for .ensures) _ (d .filing2 .given .1))
@@ -35,19 +34,19 @@ part-find-in-end : tie.Need-part-find-in-end
 part-find-in-end c = search needs
 
 slice-reshare-prefix-find-in : tie.Need-slice-reshare-prefix-find-in
-slice-reshare-prefix-find-in c = 
+slice-reshare-prefix-find-in c =
     let d = c .before .before in
     let g = d .before .before .before .before .before .before in
     omega (arith, form-room _ _ _ _ _ _ _ (g .form-for .ensures) _ (d .filing2 .given .1))
 
 slice-aggregate-find-in : tie.Need-slice-aggregate-find-in
-slice-aggregate-find-in c = 
+slice-aggregate-find-in c =
     let d = c .before .before .before in
     let g = d .before .before .before .before .before .before in
     omega (arith, form-long _ _ _ _ _ _ _ (g .form-for .ensures) _ (d .filing2 .given .1))
 
 find-in-requires : tie.Need-find-in-requires
-find-in-requires c κs = 
+find-in-requires c κs =
     let d = c .before .before .before in
     let g = d .before .before .before .before .before .before in
     job-asks _ _ _ _ _ _ _ (g .form-for .ensures) _ (d .filing2 .given .1)
@@ -59,7 +58,7 @@ same-length-2 : tie.Need-same-length-2
 same-length-2 c = search needs
 
 returns : tie.Need-returns
-returns c = 
+returns c =
     let d = c .before .before in
     let g = d .before .before .before .before .before .before in
     judged-refused _ _ _ _ _ _ _ _ _ _ (g .form-for .ensures) _ (d .filing .given .1) _ (c .no-account .ensures)
@@ -71,7 +70,7 @@ same-length-4 : tie.Need-same-length-4
 same-length-4 c = search needs
 
 returns-2 : tie.Need-returns-2
-returns-2 c = 
+returns-2 c =
     let d = c .before .before .before .before in
     let g = d .before .before .before .before .before .before in
     judged-read _ _ _ _ _ _ _ _ _ _ (g .form-for .ensures) _ (d .filing2 .given .1) _ _ (c .find-in .ensures) refl

@@ -26,7 +26,7 @@ same-length-3 c = search needs
 
 returns : tie.Need-returns
 unfolding forgetCall
-returns c = 
+returns c =
     let k = c .before .before in
     let b = k .before .before .before .before in
     let j = b .before .before .before .before .before .before .before .before in

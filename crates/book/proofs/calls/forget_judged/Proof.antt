@@ -1,7 +1,6 @@
 -- `forget_judged`: a refusal before the form, or what is done under it. Assumes nothing.
 use native.Mathlib.Omega.{arith}
 use mathlib.Core.Path.{refl}
-use denote.Ref.{now}
 use borrow.Author.Needs.{needs}
 use Rattle.book.proofs.CallLaws.{judged-refused, form-room, form-long, whole-area, job-asks, judged-form}
 use Rattle.book.proofs.calls.forget_judged.Statement.{statement}
@@ -17,13 +16,13 @@ enum-known-filing-2 : tie.Need-enum-known-filing-2
 enum-known-filing-2 c = search needs
 
 sub-forget-in : tie.Need-sub-forget-in
-sub-forget-in c = 
+sub-forget-in c =
     let d = c .before in
     let g = d .before .before .before .before .before .before in
     omega (arith, whole-area _ _ _ _ _ _ _ (g .form-for .ensures) _ (d .filing2 .given .1))
 
 part-forget-in-start : tie.Need-part-forget-in-start
-part-forget-in-start c = 
+part-forget-in-start c =
     let d = c .before in
     let g = d .before .before .before .before .before .before in
     omega (arith, whole-area _ _ _ _ _ _ _ (g .form-for .ensures) _ (d .filing2 .given .1))
@@ -32,19 +31,19 @@ part-forget-in-end : tie.Need-part-forget-in-end
 part-forget-in-end c = search needs
 
 slice-reshare-prefix-forget-in : tie.Need-slice-reshare-prefix-forget-in
-slice-reshare-prefix-forget-in c = 
+slice-reshare-prefix-forget-in c =
     let d = c .before .before in
     let g = d .before .before .before .before .before .before in
     omega (arith, form-room _ _ _ _ _ _ _ (g .form-for .ensures) _ (d .filing2 .given .1))
 
 slice-aggregate-forget-in : tie.Need-slice-aggregate-forget-in
-slice-aggregate-forget-in c = 
+slice-aggregate-forget-in c =
     let d = c .before .before .before in
     let g = d .before .before .before .before .before .before in
     omega (arith, form-long _ _ _ _ _ _ _ (g .form-for .ensures) _ (d .filing2 .given .1))
 
 forget-in-requires : tie.Need-forget-in-requires
-forget-in-requires c κs = 
+forget-in-requires c κs =
     let d = c .before .before .before in
     let g = d .before .before .before .before .before .before in
     job-asks _ _ _ _ _ _ _ (g .form-for .ensures) _ (d .filing2 .given .1)
@@ -59,7 +58,7 @@ same-length-3 : tie.Need-same-length-3
 same-length-3 c = search needs
 
 returns : tie.Need-returns
-returns c = 
+returns c =
     let d = c .before in
     let g = d .before .before .before .before .before .before in
     judged-refused _ _ _ _ _ _ _ _ _ _ (g .form-for .ensures) _ (d .filing .given .1) _ refl
@@ -74,7 +73,7 @@ same-length-6 : tie.Need-same-length-6
 same-length-6 c = search needs
 
 returns-2 : tie.Need-returns-2
-returns-2 c = 
+returns-2 c =
     let w = c .before .before in
     let d = w .before .before .before .before in
     let g = d .before .before .before .before .before .before in

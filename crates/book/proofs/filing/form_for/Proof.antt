@@ -21,13 +21,13 @@ named-form-requires : tie.Need-named-form-requires
 named-form-requires c κs = search needs
 
 returns : tie.Need-returns
-returns c = 
+returns c =
     let o = c .before .before in
     let s = o .before .before .before .before .before .before in
     other-size-files (now (s .args .area)) _ _ _ _ (o .open .ensures) (c .enum-told .given .1)
 
 returns-2 : tie.Need-returns-2
-returns-2 c = 
+returns-2 c =
     let o = c .before .before in
     let s = o .before .before .before .before .before .before in
     damaged-files (now (s .args .area)) _ _ _ _ (o .open .ensures) (c .enum-told2 .given .1)
@@ -39,7 +39,7 @@ same-length-2 : tie.Need-same-length-2
 same-length-2 c = search needs
 
 returns-3 : tie.Need-returns-3
-returns-3 c = 
+returns-3 c =
     let f = c .before .before .before .before in
     let t = f .before .before .before in
     let o = t .before .before in

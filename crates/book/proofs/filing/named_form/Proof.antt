@@ -13,7 +13,7 @@ enum-known-named : tie.Need-enum-known-named
 enum-known-named c = search needs
 
 file-form-requires : tie.Need-file-form-requires
-file-form-requires c κs = 
+file-form-requires c κs =
     let d = c .before .before in
     let n = d .before .before .before .before .before .before in
     let s = n .before .before .before .before .before .before .before in
@@ -29,7 +29,7 @@ same-length-2 : tie.Need-same-length-2
 same-length-2 c = search needs
 
 returns : tie.Need-returns
-returns c = 
+returns c =
     let d = c .before .before .before in
     let n = d .before .before .before .before .before .before in
     let s = n .before .before .before .before .before .before .before in
@@ -43,7 +43,7 @@ same-length-4 : tie.Need-same-length-4
 same-length-4 c = search needs
 
 returns-2 : tie.Need-returns-2
-returns-2 c = 
+returns-2 c =
     let d = c .before in
     let n = d .before .before .before .before .before .before in
     let s = n .before .before .before .before .before .before .before in

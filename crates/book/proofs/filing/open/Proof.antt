@@ -21,12 +21,12 @@ is-damaged-requires : tie.Need-is-damaged-requires
 is-damaged-requires c κs = search needs
 
 returns-2 : tie.Need-returns-2
-returns-2 c = 
+returns-2 c =
     let e = c .before .before .before in
     is-damaged (now (e .before .before .args .area)) (e .if1 .left) _ (c .before .is-damaged .ensures) (c .if2 .taken)
 
 returns-3 : tie.Need-returns-3
-returns-3 c = 
+returns-3 c =
     let e = c .before .before .before in
     is-whole (now (e .before .before .args .area)) (e .if1 .left) _ (c .before .is-damaged .ensures) (c .if2 .left)
 

@@ -19,18 +19,18 @@ no-account-requires : tie.Need-no-account-requires
 no-account-requires c κs = search needs
 
 returns : tie.Need-returns
-returns c = 
+returns c =
     let e = c .before in
     not-found _ _ _ (sym (ap placeIs (e .enum-told .given .1)) ∙ e .before .before .find-slot .ensures) (c .no-account .ensures)
 
 account-at-requires : tie.Need-account-at-requires
-account-at-requires c κs = 
+account-at-requires c κs =
     let p = c .before in
     let q = p .before .before in
     (q .before .before .before .pre .0, found-inside _ _ _ (sym (ap placeIs (p .spot .given .1)) ∙ q .find-slot .ensures))
 
 returns-2 : tie.Need-returns-2
-returns-2 c = 
+returns-2 c =
     let p = c .before .before in
     let q = p .before .before in
     found _ _ (q .before .before .before .pre .0) _ _ (sym (ap placeIs (p .spot .given .1)) ∙ q .find-slot .ensures) (c .account-at .ensures)

@@ -19,12 +19,12 @@ same-length : tie.Need-same-length
 same-length c = search needs
 
 returns : tie.Need-returns
-returns c = 
+returns c =
     let q = c .before .before in
     not-forgotten _ _ (sym (ap placeIs (c .enum-told .given .1)) ∙ q .find-slot .ensures)
 
 clear-at-requires : tie.Need-clear-at-requires
-clear-at-requires c κs = 
+clear-at-requires c κs =
     let p = c .before .before in
     let q = p .before .before in
     (q .before .before .before .before .pre .0, found-inside _ _ _ (sym (ap placeIs (p .spot .given .1)) ∙ q .find-slot .ensures))
@@ -33,7 +33,7 @@ same-length-2 : tie.Need-same-length-2
 same-length-2 c = search needs
 
 returns-2 : tie.Need-returns-2
-returns-2 c = 
+returns-2 c =
     let a = c .before .before in
     let p = a .before .before .before in
     let q = p .before .before in

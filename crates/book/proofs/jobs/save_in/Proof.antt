@@ -13,7 +13,7 @@ enum-known-spot : tie.Need-enum-known-spot
 enum-known-spot c = search needs
 
 fill-at-requires : tie.Need-fill-at-requires
-fill-at-requires c κs = 
+fill-at-requires c κs =
     let p = c .before .before in
     let q = p .before .before in
     let s = q .before .before .before .before in
@@ -26,7 +26,7 @@ same-length : tie.Need-same-length
 same-length c = search needs
 
 returns : tie.Need-returns
-returns c = 
+returns c =
     let a = c .before .before in
     let p = a .before .before .before in
     let q = p .before .before in
@@ -36,7 +36,7 @@ same-length-2 : tie.Need-same-length-2
 same-length-2 c = search needs
 
 returns-2 : tie.Need-returns-2
-returns-2 c = 
+returns-2 c =
     let q = c .before .before in
     not-saved _ _ _ (sym (ap placeIs (c .enum-told .given .1)) ∙ q .spot-for .ensures)
 

@@ -40,7 +40,7 @@ slot-damaged-requires : tie.Need-slot-damaged-requires Inv-loop μ-loop
 slot-damaged-requires c κs = part-long (c .before .before .before .before .args .count) (c .before .before .loop .i) _ (c .before .before .before .before .pre) (omega arith)
 
 returns : tie.Need-returns Inv-loop μ-loop
-returns c = 
+returns c =
     let l = c .before .before .before .before in
     let w = now (l .before .before .args .slots) in
     any-hit _ _ _ _ (l .loop .inv) (omega arith) (lent slotDamaged (l .loop .i) w _ _ (c .before .slot-damaged .ensures) (c .if1 .taken))
@@ -52,7 +52,7 @@ loop-less : tie.Need-loop-less Inv-loop μ-loop
 loop-less c = search needs
 
 loop-again : tie.Need-loop-again Inv-loop μ-loop
-loop-again c = 
+loop-again c =
     let l = c .before .before .before .before in
     let w = now (l .before .before .args .slots) in
     any-more _ _ _ _ (l .loop .inv) (omega arith) (lent slotDamaged (l .loop .i) w _ _ (c .before .slot-damaged .ensures) (c .if1 .left))

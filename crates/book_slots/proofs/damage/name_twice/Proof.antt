@@ -40,12 +40,12 @@ sub-named-again-3 : tie.Need-sub-named-again-3 Inv-loop μ-loop
 sub-named-again-3 c = search needs
 
 named-again-requires : tie.Need-named-again-requires Inv-loop μ-loop
-named-again-requires c κs = 
+named-again-requires c κs =
     let s = c .before .before .before .before in
     asks-again (s .args .count) (c .before .before .loop .i) (now (s .args .slots)) (s .pre .0) (s .pre .1) (omega arith)
 
 returns : tie.Need-returns Inv-loop μ-loop
-returns c = 
+returns c =
     let l = c .before .before .before .before in
     twice-hit _ _ _ (l .loop .inv) (omega arith) _ (c .before .named-again .ensures) (c .if1 .taken)
 
@@ -56,7 +56,7 @@ loop-less : tie.Need-loop-less Inv-loop μ-loop
 loop-less c = search needs
 
 loop-again : tie.Need-loop-again Inv-loop μ-loop
-loop-again c = 
+loop-again c =
     let l = c .before .before .before .before in
     twice-more _ _ _ (l .loop .inv) (omega arith) _ (c .before .named-again .ensures) (c .if1 .left)
 

@@ -61,14 +61,14 @@ enum-told-2 : tie.Need-enum-told-2
 enum-told-2 c = search needs
 
 returns-2 : tie.Need-returns-2
-returns-2 c = 
+returns-2 c =
     let f = c .before .before in
     let e = f .before .before .before in
     let s = e .before .before .before in
     again-found (s .args .behind) (now (s .args .slots)) (short s) (e .if1 .left) _ (sym (ap placeIs (c .enum-told .given .1)) ∙ f .find-slot .ensures)
 
 returns-3 : tie.Need-returns-3
-returns-3 c = 
+returns-3 c =
     let f = c .before .before in
     let e = f .before .before .before in
     let s = e .before .before .before in

@@ -34,7 +34,7 @@ all-zero-requires : tie.Need-all-zero-requires
 all-zero-requires c κs = search needs
 
 returns-2 : tie.Need-returns-2
-returns-2 c = 
+returns-2 c =
     let z = c .before in
     words-past (now (z .before .before .before .before .before .args .slot)) (omega arith) _ (z .all-zero .ensures) (c .if2 .taken)
 
@@ -51,14 +51,14 @@ all-zero-requires-2 : tie.Need-all-zero-requires-2
 all-zero-requires-2 c κs = search needs
 
 returns-3 : tie.Need-returns-3
-returns-3 c = 
+returns-3 c =
     let t = c .before .before in
     let z = t .before .before in
     account-left (now (z .before .before .before .before .before .args .slot)) (omega arith) _ (z .all-zero .ensures) (t .before .if2 .left)
     (t .if3 .taken) _ (c .all-zero2 .ensures)
 
 returns-4 : tie.Need-returns-4
-returns-4 c = 
+returns-4 c =
     let z = c .before .before in
     not-damaged (now (z .before .before .before .before .before .args .slot)) (omega arith) _ (z .all-zero .ensures) (c .before .if2 .left)
     (c .if3 .left)

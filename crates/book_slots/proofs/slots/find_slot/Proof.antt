@@ -37,12 +37,12 @@ part-has-name-end : tie.Need-part-has-name-end Inv-loop μ-loop
 part-has-name-end c = search needs
 
 has-name-requires : tie.Need-has-name-requires Inv-loop μ-loop
-has-name-requires c κs = 
+has-name-requires c κs =
     let s = c .before .before .before .before .before in
     (part-long (s .args .count) (c .before .before .loop .i) _ (s .pre .0) (omega arith), s .pre .1)
 
 returns : tie.Need-returns Inv-loop μ-loop
-returns c = 
+returns c =
     let l = c .before .before .before .before in
     let w = now (l .before .before .before .args .slots) in
     place-hit _ _ _ _ (l .loop .inv) (omega arith) (lent (hasName _) (l .loop .i) w _ _ (c .before .has-name .ensures) (c .if1 .taken))
@@ -54,7 +54,7 @@ loop-less : tie.Need-loop-less Inv-loop μ-loop
 loop-less c = search needs
 
 loop-again : tie.Need-loop-again Inv-loop μ-loop
-loop-again c = 
+loop-again c =
     let l = c .before .before .before .before in
     let w = now (l .before .before .before .args .slots) in
     place-more _ _ _ _ (l .loop .inv) (omega arith) (lent (hasName _) (l .loop .i) w _ _ (c .before .has-name .ensures) (c .if1 .left))

@@ -32,7 +32,7 @@ shared-slice-read-if1 : tie.Need-shared-slice-read-if1 Inv-loop μ-loop
 shared-slice-read-if1 c = search needs
 
 returns : tie.Need-returns Inv-loop μ-loop
-returns c = 
+returns c =
     let l = c .before .before .before in
     let w = now (l .before .args .slots) in
     place-hit _ _ _ _ (l .loop .inv .0) (omega arith) (free-here (l .before .args .count - l .loop .left) w (c .if1 .taken))
@@ -44,12 +44,11 @@ loop-less : tie.Need-loop-less Inv-loop μ-loop
 loop-less c = search needs
 
 loop-again : tie.Need-loop-again Inv-loop μ-loop
-loop-again c = 
+loop-again c =
     let l = c .before .before .before in
     let w = now (l .before .args .slots) in
     let n = l .before .args .count in
-    let e : n - l .loop .left + 1 ≡ n - (l .loop .left - 1) = omega arith in
-    (
+    let e : n - l .loop .left + 1 ≡ n - (l .loop .left - 1) = omega arith in (
       rw e at (place-more _ _ _ _ (l .loop .inv .0) (omega arith) (filed-here (n - l .loop .left) w (c .if1 .left))),
       omega arith,
     )

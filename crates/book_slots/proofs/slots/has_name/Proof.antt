@@ -31,7 +31,7 @@ same-requires : tie.Need-same-requires
 same-requires c κs = search needs
 
 returns-2 : tie.Need-returns-2
-returns-2 c = 
+returns-2 c =
     let s = c .before .before .before .before .before .before in
     same-length (now (s .args .slot)) (now (s .args .form)) _ (s .pre .1) (omega arith) (c .same .ensures)
 
