@@ -25,6 +25,7 @@ extern "C" {
 #define WANLOPHENG_WORK_WORDS 2048     /* the least work area */
 #define WANLOPHENG_TABLE_WORDS 131072  /* the largest table */
 #define WANLOPHENG_FILE_BYTES 524293   /* its file */
+#define WANLOPHENG_BOOK_WORDS 16912    /* the area of a payee book */
 
 /* The numbers of the refusals; wanlopheng_text.h has these texts for a screen. */
 enum wanlopheng_refusal {
@@ -50,6 +51,12 @@ enum wanlopheng_refusal {
     WANLOPHENG_TABLE_TOO_LARGE = 22, /* the table does not fit the buffer */
     WANLOPHENG_ILL_FORMED = 30,     /* bytes that are no UTF-8 */
     WANLOPHENG_UTF8_ANSWER = 31,    /* UTF-8: the answer buffer is too small */
+    WANLOPHENG_BOOK_SIZE = 40, /* the area of the payee book has another size */
+    WANLOPHENG_BOOK_DAMAGED = 41, /* the payee book is damaged */
+    WANLOPHENG_BOOK_EMPTY_FORM = 42, /* the normal form is empty */
+    WANLOPHENG_BOOK_LONG_FORM = 43, /* the normal form has over 255 codepoints */
+    WANLOPHENG_BOOK_NOT_FILED = 44, /* the name is not filed in the payee book */
+    WANLOPHENG_BOOK_FULL = 45, /* the payee book is full */
     WANLOPHENG_FORM_TOO_LONG = 50, /* NFD, NFC: the full decomposition has too many codepoints */
     WANLOPHENG_FORM_WORK = 51, /* NFD, NFC: the work area is too small */
     WANLOPHENG_FORM_ANSWER = 52 /* NFD, NFC: the answer buffer is too small */
@@ -171,6 +178,48 @@ struct wanlopheng_emoji {
 /* Finds the emoji sequence that matches the start of a part of a label and takes most of it, each FE0F of the sequence being optional;
  * of sequences that take the same, the first. A 2E in the part is a codepoint like any other. */
 struct wanlopheng_emoji wanlopheng_emoji(const uint32_t *part, size_t part_length, const uint32_t *words, size_t words_length);
+
+/* The account of a payee. */
+struct wanlopheng_account {
+    uint32_t words[8];
+};
+
+/* What save, forget and reset of the payee book answer. */
+struct wanlopheng_book {
+    uint32_t number; /* 0: done. 40: the area has another size. 41: it is damaged. Then the name call's 1 to 15 and 17. 42: the normal form is
+                        empty. 43: it has over 255 codepoints. 44 (find, forget): the name is not filed. 45 (save): no slot is free. */
+    size_t place;    /* that of a refusal of the name call, else 0 */
+};
+
+/* What find answers. */
+struct wanlopheng_found {
+    uint32_t number;                   /* as above */
+    size_t place;                      /* as above */
+    struct wanlopheng_account account; /* zeros beside a refusal */
+};
+
+/* The payee book is an area of 16,912 words: 16 front words, which no call changes, then 64 slots of 264 words (length, 255 words of normal
+ * form, 8 words of account). A zeroed area is an empty book. A name is taken in any spelling and filed under its normal form. The answer
+ * and the work area are lent as for the name call, and both are zeros after every call. A refusal changes no word of the area. */
+
+/* Files an account under a name: a filed name's account is replaced, another name takes the lowest free slot. */
+struct wanlopheng_book wanlopheng_save(const uint32_t *name, size_t name_length, const uint32_t *words, size_t words_length,
+                                       uint32_t setting, struct wanlopheng_account account, uint32_t *area, size_t area_length,
+                                       uint32_t *answer, size_t answer_length, uint32_t *work, size_t work_length);
+
+/* Answers the account that is filed under a name. The area is only read. */
+struct wanlopheng_found wanlopheng_find(const uint32_t *name, size_t name_length, const uint32_t *words, size_t words_length,
+                                        uint32_t setting, const uint32_t *area, size_t area_length, uint32_t *answer,
+                                        size_t answer_length, uint32_t *work, size_t work_length);
+
+/* Clears the slot of a name, all 264 words, which is free again. */
+struct wanlopheng_book wanlopheng_forget(const uint32_t *name, size_t name_length, const uint32_t *words, size_t words_length,
+                                         uint32_t setting, uint32_t *area, size_t area_length, uint32_t *answer, size_t answer_length,
+                                         uint32_t *work, size_t work_length);
+
+/* Clears every slot, of a damaged book too, and both buffers, which may be of any length. It refuses 40 alone, and clears both then too. */
+struct wanlopheng_book wanlopheng_reset(uint32_t *area, size_t area_length, uint32_t *answer, size_t answer_length, uint32_t *work,
+                                        size_t work_length);
 
 /* What the calls for NFD and NFC answer. The full decomposition of the text needs room in the answer and in the work area,
  * for NFC too. */

@@ -28,6 +28,12 @@ static inline const char *wanlopheng_text(uint32_t number) {
     case 22: return "the table does not fit the buffer";
     case 30: return "bytes that are no UTF-8";
     case 31: return "UTF-8: the answer buffer is too small";
+    case 40: return "the area of the payee book has another size";
+    case 41: return "the payee book is damaged";
+    case 42: return "the normal form is empty";
+    case 43: return "the normal form has over 255 codepoints";
+    case 44: return "the name is not filed in the payee book";
+    case 45: return "the payee book is full";
     case 50: return "NFD, NFC: the full decomposition has too many codepoints";
     case 51: return "NFD, NFC: the work area is too small";
     case 52: return "NFD, NFC: the answer buffer is too small";

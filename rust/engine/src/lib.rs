@@ -5,6 +5,7 @@
 
 #![no_std]
 
+pub mod book;
 pub mod emoji;
 pub mod normal_forms;
 mod raw;

@@ -125,6 +125,39 @@ static int texts(void) {
     return 0;
 }
 
+/* The payee book: saved by one spelling, found by the other, forgotten, reset; the account by value in both directions. */
+static int book(void) {
+    const uint32_t table[] = {2, 0x61, 0x61, 0, 0, 0, 0, 3, 0x41, 1, 0x61, 0, 0, 1, 0, 0, 4, 1, 2, 0x61, 0x61, 0};
+    const uint32_t name[] = {0x41, 0x2E, 0x61, 0x62};
+    static uint32_t area[WANLOPHENG_BOOK_WORDS], work[WANLOPHENG_WORK_WORDS];
+    const struct wanlopheng_account account = {{1, 2, 3, 4, 5, 6, 7, 0xFFFFFFFF}};
+    uint32_t answer[4] = {7, 7, 7, 7};
+    area[0] = area[15] = 9;
+    struct wanlopheng_book b = wanlopheng_save(name, 1, table, 22, 0, account, area, WANLOPHENG_BOOK_WORDS, answer, 4, work, 2048);
+    if (b.number || b.place || area[16] != 1 || area[17] != 0x61 || area[18] || area[16 + 256] != 1 || area[16 + 263] != 0xFFFFFFFF) return 71;
+    if (answer[0] || answer[1] || answer[2] || answer[3]) return 72;
+    struct wanlopheng_found f = wanlopheng_find(name + 2, 1, table, 22, 0, area, WANLOPHENG_BOOK_WORDS, answer, 4, work, 2048);
+    if (f.number || f.place) return 73;
+    for (size_t i = 0; i < 8; i++) if (f.account.words[i] != account.words[i]) return 74;
+    f = wanlopheng_find(name + 2, 2, table, 22, 0, area, WANLOPHENG_BOOK_WORDS, answer, 4, work, 2048);
+    if (f.number != WANLOPHENG_DISALLOWED || f.place != 1 || f.account.words[0] || f.account.words[7]) return 75;
+    b = wanlopheng_forget(name, 3, table, 22, 0, area, WANLOPHENG_BOOK_WORDS, answer, 4, work, 2048);
+    if (b.number != WANLOPHENG_BOOK_NOT_FILED || b.place) return 76;
+    b = wanlopheng_forget(name + 2, 1, table, 22, 0, area, WANLOPHENG_BOOK_WORDS, answer, 4, work, 2048);
+    if (b.number) return 77;
+    for (size_t i = 16; i < WANLOPHENG_BOOK_WORDS; i++) if (area[i]) return 78;
+    area[16 + 263] = answer[3] = 7;
+    f = wanlopheng_find(name, 0, table, 22, 0, area, WANLOPHENG_BOOK_WORDS, answer, 4, work, 2048);
+    if (f.number != WANLOPHENG_BOOK_DAMAGED || answer[3]) return 79;
+    b = wanlopheng_reset(area, WANLOPHENG_BOOK_WORDS, answer, 4, work, 1);
+    if (b.number || b.place || area[16 + 263] || area[0] != 9 || area[15] != 9) return 80;
+    f = wanlopheng_find(name, 0, table, 22, 0, area, WANLOPHENG_BOOK_WORDS, answer, 4, work, 2048);
+    if (f.number != WANLOPHENG_BOOK_EMPTY_FORM) return 81;
+    b = wanlopheng_reset(area, WANLOPHENG_BOOK_WORDS - 1, answer, 4, work, 1);
+    if (b.number != WANLOPHENG_BOOK_SIZE) return 82;
+    return 0;
+}
+
 int main(void) {
     const uint8_t file[] = {1, 0, 0, 0, 2, 1, 2, 3, 4, 0, 0, 0, 9};
     uint32_t answer[3] = {7, 7, 7};
@@ -143,5 +176,6 @@ int main(void) {
     if (failed == 0) failed = emojis();
     if (failed == 0) failed = forms();
     if (failed == 0) failed = texts();
+    if (failed == 0) failed = book();
     return failed != 0 ? failed : trimmed();
 }

@@ -2,6 +2,7 @@
 //! structs beside those of the wrapper; and the C program of docs/USING.md, as
 //! it stands there.
 
+use engine::book::{Account, Found, Told};
 use engine::emoji::Emoji;
 use engine::normal_forms::Form;
 use engine::utf8::Utf8;
@@ -23,6 +24,7 @@ fn run(source: &Path, name: &str) -> Output {
         .arg(root().join("include"))
         .arg(source)
         .arg(root().join("target/staticlib/libboundary.a"))
+        .arg(root().join("target/staticlib/libbook_boundary.a"))
         .arg(root().join("target/staticlib/libnormal_forms.a"))
         .arg("-o")
         .arg(&program)
@@ -70,6 +72,9 @@ fn structs_of_c_and_of_the_wrapper() {
         lines!("wanlopheng_part", Part: start, length),
         lines!("wanlopheng_utf8", Utf8: number, place, length),
         lines!("wanlopheng_emoji", Emoji: number, found, taken, index, selectors),
+        lines!("wanlopheng_account", Account: words),
+        lines!("wanlopheng_book", Told: number, place),
+        lines!("wanlopheng_found", Found: number, place, account),
         lines!("wanlopheng_form", Form: number, length),
     ];
     let ran = run(&Path::new(env!("CARGO_MANIFEST_DIR")).join("tests/structs.c"), "structs");

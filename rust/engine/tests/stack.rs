@@ -5,6 +5,7 @@
 
 mod painted;
 
+use engine::book::{Account, Book, Desk, AREA};
 use engine::normal_forms::{nfc, nfd};
 use gen::worst;
 use painted::{run, traces, Traces};
@@ -61,9 +62,46 @@ const NFC: Call = Call {
     today: Limits { words: 16, in_order: 4, stack: 4 * KB },
 };
 
+/// The calls of the payee book that take a name, on an empty book: as the name
+/// call.
+const BOOK: [Call; 3] = [
+    Call {
+        what: "save",
+        number: |n, t, a, w| {
+            let mut area = vec![0; AREA];
+            Book::new(&mut area).save(n, ACCOUNT, &mut Desk { table: t, setting: 0, answer: a, work: w }).number
+        },
+        ..NAME
+    },
+    Call {
+        what: "find",
+        number: |n, t, a, w| {
+            let mut area = vec![0; AREA];
+            Book::new(&mut area).find(n, &mut Desk { table: t, setting: 0, answer: a, work: w }).number
+        },
+        ..NAME
+    },
+    Call {
+        what: "forget",
+        number: |n, t, a, w| {
+            let mut area = vec![0; AREA];
+            Book::new(&mut area).forget(n, &mut Desk { table: t, setting: 0, answer: a, work: w }).number
+        },
+        ..NAME
+    },
+];
+
+/// Eight words that nothing else is.
+const ACCOUNT: Account = Account {
+    words: [0xACC0_0001, 0xACC1_0003, 0xACC2_0005, 0xACC3_0007, 0xACC4_0009, 0xACC5_000B, 0xACC6_000D, 0xACC7_000F],
+};
+
 /// Bytes of stack of the soundness check: due, and kept to today.
 const SOUNDNESS_DUE: usize = 64 * KB;
 const SOUNDNESS_TODAY: usize = 424 * KB;
+
+/// Frames that hold an account after save and find.
+const ACCOUNT_COPIES: usize = 3;
 
 /// Bytes of stack of unpacking.
 const UNPACK: usize = KB;
@@ -222,6 +260,35 @@ fn label_today() {
 fn normal_forms_today() {
     keeps(&NFD, &NFD.today);
     keeps(&NFC, &NFC.today);
+}
+
+#[test]
+fn book_today() {
+    for call in &BOOK {
+        keeps(call, &call.today);
+    }
+}
+
+/// An account goes in and comes out by value, so that its eight words stand on
+/// the stack: in the frames that hand it on, and nowhere in parts.
+#[test]
+fn accounts() {
+    let (mut area, mut answer, mut work) = (vec![0; AREA], [0; 64], [0; 2_048]);
+    let full = standin::full().words;
+    let name = letters(20);
+    let mut copies = |what, call: fn(&mut Book, &[u32], &mut Desk) -> u32| {
+        let left = run(|| {
+            let mut desk = Desk { table: &full, setting: 0, answer: &mut answer, work: &mut work };
+            assert_eq!(call(&mut Book::new(&mut area), &name, &mut desk), 0, "{what}");
+        });
+        let traces = traces(&left, &ACCOUNT.words);
+        println!("{what}: {} words of the account, {} in order, {} bytes", traces.words, traces.in_order, left.used);
+        traces.words / 8
+    };
+    let saved = copies("save", |book, name, desk| book.save(name, ACCOUNT, desk).number);
+    let found = copies("find", |book, name, desk| book.find(name, desk).number);
+    let forgotten = copies("forget", |book, name, desk| book.forget(name, desk).number);
+    assert!(saved <= ACCOUNT_COPIES && found <= ACCOUNT_COPIES && forgotten == 0, "{saved}, {found}, {forgotten}");
 }
 
 #[test]

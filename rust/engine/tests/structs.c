@@ -45,6 +45,15 @@ int main(void) {
     FIELD(wanlopheng_emoji, taken);
     FIELD(wanlopheng_emoji, index);
     FIELD(wanlopheng_emoji, selectors);
+    STRUCT(wanlopheng_account);
+    FIELD(wanlopheng_account, words);
+    STRUCT(wanlopheng_book);
+    FIELD(wanlopheng_book, number);
+    FIELD(wanlopheng_book, place);
+    STRUCT(wanlopheng_found);
+    FIELD(wanlopheng_found, number);
+    FIELD(wanlopheng_found, place);
+    FIELD(wanlopheng_found, account);
     STRUCT(wanlopheng_form);
     FIELD(wanlopheng_form, number);
     FIELD(wanlopheng_form, length);

@@ -14,9 +14,11 @@
 //! * `soundness`: the seven rules of the soundness check.
 //! * `emoji`: which emoji it was.
 //! * `file`: table files.
+//! * `book`: the payee book.
 //! * `trim`: an input without the blanks at its ends.
 //! * `utf8`: bytes to codepoints and back, and the byte form of the name call.
 
+pub mod book;
 pub mod calls;
 pub mod emoji;
 pub mod file;

@@ -1,0 +1,4 @@
+pub mod OpenLaws
+pub mod FormLaws
+pub mod JobLaws
+pub mod CallLaws

@@ -1,0 +1,11 @@
+pub mod Map
+pub mod Entries
+pub mod SameMap
+pub mod SlotEntries
+pub mod Jobs
+pub mod MapTheorem
+pub mod FrontWords
+pub mod Found
+pub mod Never
+pub mod Runs
+pub mod Instances

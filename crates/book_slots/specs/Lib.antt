@@ -1,0 +1,4 @@
+pub mod Book
+pub mod Damage
+pub mod SlotLaws
+pub mod Walks
