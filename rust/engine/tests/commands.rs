@@ -192,7 +192,7 @@ fn usage() {
     for option in ["--hex", "--file", "--trim", "--restrict", "--table", "--json", "--plain", "--help"] {
         assert!(told.contains(&format!("\n  {option} ")), "{option}");
     }
-    for script in ["run", "install"] {
+    for script in ["run", "install", "test"] {
         let ran = command(&root().join(script), &["--help"], b"");
         let told = String::from_utf8_lossy(&ran.stdout);
         assert!(ran.status.success() && told.starts_with("usage: ") && told.contains(script), "{told}");
