@@ -35,7 +35,7 @@ struct Repository(PathBuf);
 
 impl Repository {
     fn new(name: &str) -> Repository {
-        let root = Path::new(env!("CARGO_TARGET_TMPDIR")).join(name);
+        let root = Path::new(env!("CARGO_TARGET_TMPDIR")).join("build-sh").join(name);
         let _ = fs::remove_dir_all(&root);
         let repository = Repository(root);
         repository.write("crates.txt", "low:\nother:\nboundary: low\ncounter: low\n");

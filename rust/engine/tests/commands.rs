@@ -202,7 +202,7 @@ fn usage() {
 /// From another folder, by a link; paths are the caller's.
 #[test]
 fn a_link_elsewhere() {
-    let folder = Path::new(env!("CARGO_TARGET_TMPDIR")).join("elsewhere");
+    let folder = Path::new(env!("CARGO_TARGET_TMPDIR")).join("linked");
     let _ = std::fs::remove_dir_all(&folder);
     std::fs::create_dir_all(&folder).expect("a folder");
     std::os::unix::fs::symlink(root().join("normalise"), folder.join("norm")).expect("a link");
