@@ -93,7 +93,7 @@ build_program() {
 # build_archive NAME: proves and writes target/staticlib/libNAME.a where something of it has changed: a crate below it was proved since the
 # archive was written, or its own files are newer
 build_archive() {
-    local archive=$root/target/staticlib/lib$1.a name newer=()
+    local archive=$root/target/staticlib/lib$1.a crate=$root/crates/$1 name rests_on
     if [ -n "${WANLOPHENG_BUILT:-}" ]; then
         [ -f "$archive" ] && return
         echo "$me: target/staticlib/lib$1.a is missing, and WANLOPHENG_BUILT is set" >&2
@@ -104,11 +104,11 @@ build_archive() {
     ! unproved $(below "$1") || told_first
     # shellcheck disable=SC2046
     quietly "$(reached $(below "$1") | wc -l)" rt check $(below "$1")
+    rests_on=("$root/crates.txt" "$crate/src" "$crate/specs" "$crate/proofs")
     for name in $(below "$1"); do
-        newer+=("$root/target/stamp/$name")
+        rests_on+=("$root/target/stamp/$name")
     done
-    if [ ! -f "$archive" ] ||
-        [ -n "$(find "$root/crates.txt" "$root/crates/$1/src" "$root/crates/$1/specs" "$root/crates/$1/proofs" "${newer[@]}" -newer "$archive" -print -quit)" ]; then
+    if [ ! -f "$archive" ] || [ -n "$(find "${rests_on[@]}" -newer "$archive" -print -quit)" ]; then
         told_first
         quietly 1 rt staticlib "$1"
     fi

@@ -18,8 +18,8 @@ of each label; or why it is refused, and where. Labels and places count from 0.
   --trim          take tabs, line ends and blanks off both ends, and say so
   --restrict      refuse labels of restricted scripts, as 17
   --table FILE    take this table and not data/full.tab, the full-size stand-in
-                  (docs/STANDIN.md); its scripts have the names of FILE.groups,
-                  where FILE is the table's without .tab
+                  (docs/STANDIN.md); the names of its scripts come from the
+                  file beside it: X.groups beside X.tab
   --json          write an object a line for each name, for programs
   --plain         by the plain Rust version, which needs no proof
   --help          write this text
