@@ -1,41 +1,42 @@
-//! Normalises a name given as hexadecimal codepoints, with data/names.tab:
-//! `cargo run --release --offline -p engine --example normalise -- 5F 24 41`.
+//! `./normalise`: by the proved calls.
 
+use desk::calls::{Calls, Lent};
+use engine::{Refusal, Soundness};
 use std::process::ExitCode;
 
+/// The proved calls.
+struct Proved;
+
+impl Calls for Proved {
+    fn unpack(&self, file: &[u8], words: &mut [u32]) -> Result<usize, Refusal> {
+        engine::unpack(file, words).answer()
+    }
+
+    fn soundness(&self, table: &[u32]) -> Soundness {
+        engine::soundness(table)
+    }
+
+    fn read(&self, bytes: &[u8], answer: &mut [u32]) -> Result<usize, Refusal> {
+        engine::utf8::read(bytes, answer).answer()
+    }
+
+    fn trim<'a>(&self, input: &'a [u32]) -> &'a [u32] {
+        engine::trim(input)
+    }
+
+    fn name_bytes(&self, bytes: &[u8], lent: Lent) -> Result<answers::Name, Refusal> {
+        engine::utf8::name(bytes, lent.table, lent.setting, lent.answer, lent.work).answer()
+    }
+
+    fn name(&self, input: &[u32], lent: Lent) -> Result<answers::Name, Refusal> {
+        engine::name(input, lent.table, lent.setting, lent.answer, lent.work).answer()
+    }
+
+    fn label(&self, input: &[u32], lent: Lent) -> Result<answers::Label, Refusal> {
+        engine::label(input, lent.table, lent.setting, lent.answer, lent.work).answer()
+    }
+}
+
 fn main() -> ExitCode {
-    let mut words: Vec<String> = std::env::args().skip(1).collect();
-    let restrict = words.first().is_some_and(|a| a == "--restrict");
-    let setting = u32::from(restrict);
-    if restrict {
-        words.remove(0);
-    }
-    let name: Result<Vec<u32>, _> = words.iter().map(|a| u32::from_str_radix(a, 16)).collect();
-    let Some(name) = name.ok().filter(|n| !n.is_empty()) else {
-        eprintln!("usage: normalise [--restrict] HEX HEX ..");
-        return ExitCode::from(2);
-    };
-    let path = concat!(env!("CARGO_MANIFEST_DIR"), "/../../data/names.tab");
-    let file = std::fs::read(path).expect("data/names.tab");
-    let mut words = vec![0; file.len() / 4];
-    let unpacked = engine::unpack(&file, &mut words);
-    assert_eq!(unpacked.number, 0, "data/names.tab unpacks");
-    let table = &words[..unpacked.count];
-    let mut answer = [0; 1_024];
-    let mut work = [0; 2_048];
-    let r = engine::name(&name, table, setting, &mut answer, &mut work);
-    if r.number != 0 {
-        println!("no {} {}", r.number, r.place);
-        return ExitCode::FAILURE;
-    }
-    let form: Vec<String> = answer[..r.length].iter().map(|c| format!("{c:X}")).collect();
-    println!("ok {}", form.join(" "));
-    for label in answer[..r.length].split(|&c| c == 0x2E).filter(|l| !l.is_empty()) {
-        let mut part = [0; 1_024];
-        let kind = engine::label(label, table, setting, &mut part, &mut work)
-            .kind()
-            .expect("a label of an answer is accepted");
-        println!("   {kind:?}");
-    }
-    ExitCode::SUCCESS
+    ExitCode::from(desk::normalise::main(&Proved, std::env::args_os().skip(1)))
 }

@@ -5,7 +5,9 @@
 #[repr(C)]
 #[derive(Clone, Copy, Debug, PartialEq, Eq)]
 pub struct Emoji {
+    /// 0, or 1 for a layout fault.
     pub number: u32,
+    /// 1 where a sequence matches.
     pub found: u32,
     /// How much of the part it takes.
     pub taken: usize,

@@ -27,7 +27,9 @@ fn unless<T>(number: u32, place: usize, found: T) -> Result<T, Refusal> {
 #[repr(C)]
 #[derive(Clone, Copy, Debug, PartialEq, Eq)]
 pub struct Unpacked {
+    /// 0, 20, 21 or 22.
     pub number: u32,
+    /// The number of words.
     pub count: usize,
 }
 
@@ -54,9 +56,13 @@ pub fn layout_fault(words: &[u32]) -> bool {
 #[repr(C)]
 #[derive(Clone, Copy, Debug, PartialEq, Eq)]
 pub struct Name {
+    /// 0, or the number of the refusal.
     pub number: u32,
+    /// The place that the refusal names, else 0.
     pub place: usize,
+    /// Codepoints of the normal form.
     pub length: usize,
+    /// The number of labels.
     pub labels: usize,
 }
 

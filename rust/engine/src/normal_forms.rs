@@ -7,7 +7,9 @@ use crate::raw;
 #[repr(C)]
 #[derive(Clone, Copy, Debug, PartialEq, Eq)]
 pub struct Form {
+    /// 0, 1, 50, 51 or 52.
     pub number: u32,
+    /// Codepoints of the form.
     pub length: usize,
 }
 

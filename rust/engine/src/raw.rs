@@ -10,11 +10,17 @@ use crate::{Name, Unpacked};
 #[repr(C)]
 #[derive(Clone, Copy, Debug, PartialEq, Eq)]
 pub struct Label {
+    /// 0, or the number of the refusal.
     pub number: u32,
+    /// The place that the refusal names, else 0.
     pub place: usize,
+    /// Codepoints of the normal form.
     pub length: usize,
+    /// 1 emoji, 2 ASCII, 3 a group; `kind()` gives it as an enum.
     pub kind: u32,
+    /// The number of the group, from 0.
     pub group: usize,
+    /// 1 where the group is restricted.
     pub restricted: u32,
 }
 
@@ -25,12 +31,19 @@ pub struct Label {
 #[repr(C)]
 #[derive(Clone, Copy, Debug, PartialEq, Eq)]
 pub struct Group {
+    /// 0, 1 or 3.
     pub number: u32,
+    /// 0.
     pub place: usize,
+    /// 1 where a group holds the text.
     pub found: u32,
+    /// The number of the group, from 0.
     pub group: usize,
+    /// 1 where the group is restricted.
     pub restricted: u32,
+    /// 1 where its combining marks are whitelisted.
     pub whitelisted: u32,
+    /// How often it was asked whether a group holds a character.
     pub asked: usize,
 }
 
@@ -39,7 +52,9 @@ pub struct Group {
 #[repr(C)]
 #[derive(Clone, Copy, Debug, PartialEq, Eq)]
 pub struct Checked {
+    /// 1 or 0.
     pub sound: u32,
+    /// The lowest broken rule, or 0.
     pub rule: u32,
 }
 
@@ -47,7 +62,9 @@ pub struct Checked {
 #[repr(C)]
 #[derive(Clone, Copy, Debug, PartialEq, Eq)]
 pub struct Part {
+    /// The index of its first element.
     pub start: usize,
+    /// The number of its elements.
     pub length: usize,
 }
 

@@ -7,8 +7,11 @@ use crate::{unless, Name, Refusal};
 #[repr(C)]
 #[derive(Clone, Copy, Debug, PartialEq, Eq)]
 pub struct Utf8 {
+    /// 0, 30 or 31; 0, 4 or 31 for the writer.
     pub number: u32,
+    /// The byte or the codepoint that the refusal names, else 0.
     pub place: usize,
+    /// Codepoints read, or bytes written.
     pub length: usize,
 }
 

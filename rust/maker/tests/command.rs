@@ -37,6 +37,8 @@ fn makes_the_committed_tables() {
         assert_eq!(run.status.code(), Some(0), "{said}");
         assert!(said.ends_with("\nsound\n"), "{said}");
         assert!(std::fs::read(&out).unwrap() == std::fs::read(data(file)).unwrap(), "data/{file}");
+        let names = |table: &Path| std::fs::read_to_string(table.with_extension("groups")).unwrap();
+        assert_eq!(names(&out), names(&data(file)), "the names of the groups of data/{file}");
     }
     let out = temporary("nf.tab");
     let run = maketable(&["--nf", path(&nf), path(&out)]);
@@ -89,7 +91,8 @@ fn a_small_table_word_by_word() {
     let mut file = vec![1];
     file.extend((words.len() as u32).to_be_bytes());
     file.extend(words.iter().flat_map(|w| w.to_be_bytes()));
-    assert_eq!(std::fs::read(out).unwrap(), file);
+    assert_eq!(std::fs::read(&out).unwrap(), file);
+    assert_eq!(std::fs::read_to_string(out.with_extension("groups")).unwrap(), "Latin\nOther\n");
 }
 
 #[test]

@@ -14,17 +14,31 @@ fn main() -> Result<(), Box<dyn std::error::Error>> {
 }
 "#;
 
-/// A package in a folder of its own.
+const WITHOUT_STD: &str = r#"
+#![no_std]
+/// The number of labels of a name, or the number of the refusal.
+pub fn labels(words: &[u32], buffers: &mut wanlopheng::Buffers, name: &str) -> Result<usize, u32> {
+    let table = wanlopheng::Table::new(words);
+    buffers.name(table, name).map(|form| form.labels()).map_err(|refusal| refusal.number)
+}
+"#;
+
+/// A program in a folder of its own.
 fn package(name: &str) -> PathBuf {
+    package_of(name, "", "src/main.rs", MAIN)
+}
+
+/// A package that has the library with these features, and this one file.
+fn package_of(name: &str, features: &str, file: &str, text: &str) -> PathBuf {
     let folder = Path::new(env!("CARGO_TARGET_TMPDIR")).join(name);
     fs::create_dir_all(folder.join("src")).expect("a folder");
     let manifest = format!(
         "[package]\nname = \"{name}\"\nversion = \"0.1.0\"\nedition = \"2021\"\n\n\
-         [dependencies]\nwanlopheng = {{ path = {:?} }}\n\n[workspace]\n",
+         [dependencies]\nwanlopheng = {{ path = {:?}{features} }}\n\n[workspace]\n",
         env!("CARGO_MANIFEST_DIR")
     );
     fs::write(folder.join("Cargo.toml"), manifest).expect("a manifest");
-    fs::write(folder.join("src/main.rs"), MAIN).expect("a program");
+    fs::write(folder.join(file), text).expect("a source");
     folder
 }
 
@@ -49,6 +63,23 @@ fn runs(name: &str, library: Option<&str>) {
 #[test]
 fn a_program_elsewhere() {
     runs("elsewhere", None);
+}
+
+/// A library without `std` and without a heap: every crate that it is built
+/// from is without them.
+#[test]
+fn a_library_without_std() {
+    let folder = package_of("without-std", ", default-features = false", "src/lib.rs", WITHOUT_STD);
+    let ran = cargo(&folder, &["build", "-q", "--offline"], None);
+    assert!(ran.status.success(), "{}", String::from_utf8_lossy(&ran.stderr));
+    let tree = cargo(&folder, &["tree", "-q", "--offline", "--prefix", "none", "--format", "{p}"], None);
+    let tree = String::from_utf8_lossy(&tree.stdout).into_owned();
+    let built: Vec<&str> = tree.lines().filter_map(|line| line.split(' ').next()).skip(1).collect();
+    assert!(built.contains(&"wanlopheng") && built.contains(&"engine") && built.contains(&"answers"), "{tree}");
+    for name in built {
+        let source = Path::new(env!("CARGO_MANIFEST_DIR")).join("..").join(name).join("src/lib.rs");
+        assert!(fs::read_to_string(source).expect(name).contains("\n#![no_std]\n"), "{name}");
+    }
 }
 
 #[test]

@@ -14,7 +14,8 @@ usage: maketable [OPTIONS] SPEC NF OUT
        maketable --nf NF OUT
 
 Makes the table file OUT, of version 1, from files of the published shapes of
-spec.json and nf.json. With --nf it makes one for NFC and NFD alone. OUT is
+spec.json and nf.json, and beside it, as OUT.groups without .tab, the names of
+the groups, one a line. With --nf it makes one for NFC and NFD alone. OUT is
 replaced only by a whole table that is sound.
 
   --groups NAMES     keep these groups alone: Latin,Greek
@@ -79,20 +80,31 @@ fn wanted(words: Vec<String>) -> Wanted {
     wanted
 }
 
-/// The table that is wanted, the file that it goes to, and what is told of it.
-fn made(wanted: &Wanted) -> Result<(TableBuilder, &Path, String), String> {
+/// The table that is wanted.
+struct Made<'a> {
+    builder: TableBuilder,
+    out: &'a Path,
+    /// The names of its groups, one a line.
+    names: Option<String>,
+    /// What is told of it.
+    told: String,
+}
+
+fn made(wanted: &Wanted) -> Result<Made<'_>, String> {
     let cut = Reduction::from_options(&wanted.cut)?;
     let read_nf = |path: &str| Nf::read(&text(path)?).map_err(|e| format!("{path}: {e}"));
     match wanted.paths.as_slice() {
         [nf, out] if wanted.nf_alone && wanted.cut.is_empty() => {
-            Ok((maker::make_nf(&read_nf(nf)?), Path::new(out), String::new()))
+            let builder = maker::make_nf(&read_nf(nf)?);
+            Ok(Made { builder, out: Path::new(out), names: None, told: String::new() })
         }
         [spec, nf, out] if !wanted.nf_alone => {
             let nf = read_nf(nf)?;
             let spec = Spec::read(&text(spec)?).map_err(|e| format!("{spec}: {e}"))?;
             let told = spec.unicode.iter().map(|version| format!("Unicode {version}\n")).collect();
             let (spec, nf) = cut.apply(&spec, &nf)?;
-            Ok((maker::make(&spec, &nf), Path::new(out), told))
+            let names = spec.groups.iter().map(|group| format!("{}\n", group.name)).collect();
+            Ok(Made { builder: maker::make(&spec, &nf), out: Path::new(out), names: Some(names), told })
         }
         _ => Err(HELP.lines().take(2).collect::<Vec<_>>().join("\n") + "\n       maketable --help"),
     }
@@ -133,17 +145,28 @@ fn sized(builder: &TableBuilder, told: &mut String) -> Result<Vec<u32>, String> 
     Ok(words)
 }
 
+/// Writes the table, and the names of its groups beside it where it is a file.
+fn write(out: &Path, file: &[u8], names: Option<String>) -> std::io::Result<()> {
+    let beside = out.with_extension("groups");
+    let mut files = vec![(out, file)];
+    match &names {
+        Some(names) if !out.exists() || out.is_file() => files.push((&beside, names.as_bytes())),
+        _ => {}
+    }
+    write_whole(&files)
+}
+
 /// Does what is wanted: what to tell, and whether the table is sound.
 fn run(wanted: &Wanted) -> Result<(String, bool), String> {
     if wanted.help {
         return Ok((HELP.into(), true));
     }
-    let (builder, out, mut told) = made(wanted)?;
+    let Made { builder, out, names, mut told } = made(wanted)?;
     let words = sized(&builder, &mut told)?;
     let fault = plain::soundness_report(&words);
     if fault.is_none() || wanted.unsound {
         let file = plain::pack(&words);
-        write_whole(out, &file).map_err(|e| format!("{}: {e}", out.display()))?;
+        write(out, &file, names).map_err(|e| format!("{}: {e}", out.display()))?;
         let _ = writeln!(told, "{}: {} words, {} bytes", out.display(), words.len(), file.len());
     } else {
         let _ = writeln!(told, "{} is not written (--unsound would)", out.display());

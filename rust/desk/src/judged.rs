@@ -1,0 +1,96 @@
+//! What the calls answer for one name.
+
+use crate::calls::{Calls, Lent};
+use crate::options::Input;
+use answers::{Kind, Refusal};
+use plain::{limits, STOP};
+
+/// A table and what the calls are told.
+pub struct Desk<'a, C> {
+    pub calls: &'a C,
+    pub table: &'a [u32],
+    pub setting: u32,
+    pub trim: bool,
+}
+
+/// A label of an accepted name.
+#[derive(Clone, Debug, PartialEq, Eq)]
+pub struct Part {
+    pub form: Vec<u32>,
+    pub kind: Kind,
+}
+
+/// What is answered for a name.
+#[derive(Clone, Debug, PartialEq, Eq)]
+pub struct Judged {
+    /// The codepoints that were judged, without what was trimmed; `None` where
+    /// the bytes are no UTF-8.
+    pub codepoints: Option<Vec<u32>>,
+    /// How many blanks were taken off, at the front and at the back.
+    pub blanks: (usize, usize),
+    /// The normal form and its labels, or the refusal.
+    pub found: Result<(Vec<u32>, Vec<Part>), Refusal>,
+}
+
+impl<C: Calls> Desk<'_, C> {
+    /// Judges a name. Bytes go to the byte form of the name call; where blanks
+    /// are to be taken off, to the reader, and what is left to the name call.
+    pub fn judge(&self, input: &Input) -> Judged {
+        match input {
+            Input::Text(bytes) => match self.read(bytes) {
+                Ok(codepoints) => self.judge_codepoints(&codepoints, (!self.trim).then_some(bytes)),
+                Err(refusal) => Judged { codepoints: None, blanks: (0, 0), found: Err(refusal) },
+            },
+            Input::Numbers(codepoints) => self.judge_codepoints(codepoints, None),
+        }
+    }
+
+    fn read(&self, bytes: &[u8]) -> Result<Vec<u32>, Refusal> {
+        let mut codepoints = vec![0; bytes.len()];
+        let length = self.calls.read(bytes, &mut codepoints)?;
+        codepoints.truncate(length);
+        Ok(codepoints)
+    }
+
+    /// Judges codepoints, by their bytes where these are given.
+    fn judge_codepoints(&self, codepoints: &[u32], bytes: Option<&Vec<u8>>) -> Judged {
+        let left = if self.trim { self.calls.trim(codepoints) } else { codepoints };
+        let front = codepoints.len() - codepoints.iter().skip_while(|c| self.trim && plain::BLANKS.contains(c)).count();
+        let found = self.form(left, bytes).map(|form| (form, self.parts(left)));
+        Judged { codepoints: Some(left.to_vec()), blanks: (front, codepoints.len() - front - left.len()), found }
+    }
+
+    fn form(&self, codepoints: &[u32], bytes: Option<&Vec<u8>>) -> Result<Vec<u32>, Refusal> {
+        self.with_buffers(|lent| match bytes {
+            Some(bytes) => self.calls.name_bytes(bytes, lent).map(|name| name.length),
+            None => self.calls.name(codepoints, lent).map(|name| name.length),
+        })
+        .map(|(_, form)| form)
+    }
+
+    /// The labels of an accepted name: the label call accepts each of them.
+    fn parts(&self, codepoints: &[u32]) -> Vec<Part> {
+        let labels = codepoints.split(|&c| c == STOP).filter(|_| !codepoints.is_empty());
+        let part = |label| {
+            let mut kind = Kind::Ascii;
+            let call = |lent: Lent| {
+                let answer = self.calls.label(label, lent)?;
+                kind = answer.kind;
+                Ok(answer.length)
+            };
+            let (_, form) = self.with_buffers(call).expect("a label of an accepted name is accepted");
+            Part { form, kind }
+        };
+        labels.map(part).collect()
+    }
+
+    /// Lends a call buffers of the sizes that hold every name: the length, and
+    /// the answer.
+    fn with_buffers(&self, call: impl FnOnce(Lent) -> Result<usize, Refusal>) -> Result<(usize, Vec<u32>), Refusal> {
+        let (mut answer, mut work) = (vec![0; limits::WORKED], vec![0; limits::WORK_WORDS]);
+        let lent = Lent { table: self.table, setting: self.setting, answer: &mut answer, work: &mut work };
+        let length = call(lent)?;
+        answer.truncate(length);
+        Ok((length, answer))
+    }
+}
