@@ -3,7 +3,7 @@ use Prim.Native.Nat.{ℕ}
 use mathlib.Core.List.{List}
 use mathlib.Core.Option.{Option}
 use Rattle.lists.specs.Lists.{onSome, andThen}
-use Rattle.lines.specs.Writing.{badLine}
+use Rattle.line_writing.specs.Writing.{badLine}
 use Rattle.lines.specs.Splitting.{linesOf, output}
 use Rattle.serving.specs.Serving.{tableWords, replyLine}
 

@@ -64,7 +64,7 @@ fn read_piece(table: &[u32], line: &mut [u8], state: State) -> Step
 
 // Reads to the end of the input. A proved loop has to end, so it counts its turns down, from a number that no run uses up.
 fn run(table: &[u32]) {
-    let mut line = [0u8; lines::MOST_LINE];
+    let mut line = [0u8; line_reading::MOST_LINE];
     let mut state = State { held: 0, names: 0 };
     let mut turns: u64 = 1 << 50;
     while turns > 0 {

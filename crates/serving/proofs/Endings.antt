@@ -12,9 +12,9 @@ use borrow.Rule.Slice.PartMut.{midOf, putMid}
 use Rattle.lists.specs.Lists.{onSome, isSome}
 use Rattle.buffers.specs.Writes.{Writes}
 use Rattle.buffers.proofs.Written.{writes-within, writes-part, left-behind, written-same}
-use Rattle.lines.specs.Reading.{readLine}
-use Rattle.lines.specs.Writing.{endLine, badLine, mostEndLine}
-use Rattle.lines.specs.Splitting.{firstAt, linesOf, output}
+use Rattle.line_reading.specs.Reading.{readLine, firstAt}
+use Rattle.line_writing.specs.Writing.{endLine, badLine, mostEndLine}
+use Rattle.lines.specs.Splitting.{linesOf, output}
 use Rattle.lines.proofs.Pieces.{lines-none, lines-last}
 use Rattle.serving.specs.Serving.{replyLine, lineReply, replyRoom}
 use Rattle.serving.specs.Promise.{Replies, LastLine}

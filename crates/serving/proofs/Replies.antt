@@ -11,12 +11,13 @@ use Rattle.answers.specs.Values.{NameValues}
 use Rattle.ending.specs.Ending.{Result}
 use Rattle.ending.specs.Ends.{Ends, result-fits}
 use Rattle.name.specs.Name.{nameAnswering, nameBefore15, nameVerdict, nameResult, nameCall}
-use Rattle.lines.specs.Reading.{readLine}
+use Rattle.line_reading.specs.Reading.{readLine}
 use Rattle.buffers.specs.Writes.{Writes}
-use Rattle.lines.specs.Writing.{answerLine, badLine}
-use Rattle.lines.specs.Promise.{Read, Reads, AnswerRoom}
-use Rattle.lines.specs.declared.reading.Line.{Line}
-use Rattle.lines.specs.declared.reading.Line.the-variants.{Numbers, Unreadable}
+use Rattle.line_writing.specs.Writing.{answerLine, badLine}
+use Rattle.line_reading.specs.Promise.{Read, Reads}
+use Rattle.line_writing.specs.Promise.{AnswerRoom}
+use Rattle.line_reading.specs.declared.reading.Line.{Line}
+use Rattle.line_reading.specs.declared.reading.Line.the-variants.{Numbers, Unreadable}
 use Rattle.serving.specs.Serving.{replyLine, lineReply, replyRoom}
 use Rattle.serving.specs.Promise.{Replies}
 

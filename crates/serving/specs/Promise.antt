@@ -8,8 +8,7 @@ use Rattle.lists.specs.Lists.{isSome}
 use Rattle.answers.specs.declared.Unpacked.{Unpacked}
 use Rattle.answers.specs.declared.Unpacked.the-variants.{Words, WrongVersion, WrongLength, TooLittleRoom}
 use Rattle.buffers.specs.Writes.{Writes}
-use Rattle.lines.specs.Reading.{readLine}
-use Rattle.lines.specs.Splitting.{firstAt}
+use Rattle.line_reading.specs.Reading.{readLine, firstAt}
 use Rattle.serving.specs.Serving.{tableWords, lineReply, endingRoom}
 use Rattle.serving.specs.declared.replying.Reply.{Reply}
 

@@ -11,8 +11,8 @@ use Rattle.lists.specs.Lists.{onSome}
 use Rattle.answers.specs.Verdict.{Verdict, accepted, refused}
 use Rattle.unpack.specs.Unpack.{fileWords}
 use Rattle.name.specs.Name.{nameCall}
-use Rattle.lines.specs.Reading.{readLine}
-use Rattle.lines.specs.Writing.{answerLine, badLine, mostNoLine, mostEndLine}
+use Rattle.line_reading.specs.Reading.{readLine}
+use Rattle.line_writing.specs.Writing.{answerLine, badLine, mostNoLine, mostEndLine}
 
 -- "reads the table file `names.tab` of at most 32,768 bytes"
 abbrev pub mostFile : ℕ

@@ -13,13 +13,13 @@ pub fn write_ending(table: &[u32], line: &[u8], names: u64, text: &mut [u8]) -> 
         (now (text .entry)) (now (text .exit)) r ⌝ }
 {
     if line.len() == 0 {
-        return lines::write_end(names, text);
+        return line_writing::write_end(names, text);
     }
     let reply = write_reply(table, line, &mut text[..REPLY_ROOM]);
     let n = reply.length;
     if !reply.readable {
         return n;
     }
-    let k = lines::write_end(names + 1, &mut text[n..]);
+    let k = line_writing::write_end(names + 1, &mut text[n..]);
     n + k
 }

@@ -15,6 +15,6 @@ pub const MOST_FILE: usize = 32768;
 pub const MOST_TABLE: usize = MOST_FILE / 4;
 
 // Room for the line for a name, and for all that is written once the input has ended.
-pub const REPLY_ROOM: usize = 9 * limits::MOST_WORKED + lines::MOST_NO_LINE;
+pub const REPLY_ROOM: usize = 9 * limits::MOST_WORKED + line_writing::MOST_NO_LINE;
 
-pub const ENDING_ROOM: usize = REPLY_ROOM + lines::MOST_END_LINE;
+pub const ENDING_ROOM: usize = REPLY_ROOM + line_writing::MOST_END_LINE;

@@ -1,5 +1,5 @@
 // The line for one line of input. specs/Serving.antt states what it is.
-use lines::Line;
+use line_reading::Line;
 use name::name_call::name;
 ghost use Prim.Native.Nat.{_≤_};
 ghost use lib.ListN.{length};
@@ -17,10 +17,10 @@ pub fn write_reply(table: &[u32], line: &[u8], text: &mut [u8]) -> Reply
     requires { ⌜ replyRoom ≤ length (now text) ⌝ }
     ensures { λ r. ⌜ Replies (now (table .entry)) (now (line .entry)) (now (text .entry)) (now (text .exit)) r ⌝ }
 {
-    let mut numbers = [0u32; lines::MOST_NUMBERS];
-    let read = lines::read_line(line, &mut numbers);
+    let mut numbers = [0u32; line_reading::MOST_NUMBERS];
+    let read = line_reading::read_line(line, &mut numbers);
     let Line::Numbers(n) = read else {
-        let k = lines::write_bad(text);
+        let k = line_writing::write_bad(text);
         return Reply {
             length: k,
             readable: false,
@@ -29,7 +29,7 @@ pub fn write_reply(table: &[u32], line: &[u8], text: &mut [u8]) -> Reply
     let mut answer = [0u32; limits::MOST_WORKED];
     let mut work = [0u32; limits::LEAST_WORK];
     let given = name(&numbers[..n], table, 0, &mut answer, &mut work);
-    let k = lines::write_answer(given, &answer, text);
+    let k = line_writing::write_answer(given, &answer, text);
     Reply {
         length: k,
         readable: true,

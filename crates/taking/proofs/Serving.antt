@@ -10,7 +10,7 @@ use borrow.Rule.Slice.PartMut.{midOf}
 use Rattle.buffers.proofs.Parts.{mid-tail, length-tail}
 use Rattle.lists.specs.Lists.{isSome}
 use Rattle.lists.specs.Laws.{Every, every-append}
-use Rattle.lines.specs.Reading.{readLine}
+use Rattle.line_reading.specs.Reading.{readLine}
 use Rattle.lines.specs.Splitting.{linesOf}
 use Rattle.lines.specs.Promise as lines
 use Rattle.lines.specs.Promise.{Holding, LineEnded, PieceHeld}

@@ -6,7 +6,7 @@ use mathlib.Core.List.{List, _++_}
 use lib.ListN.{length, take}
 use Rattle.lists.specs.Lists.{isSome}
 use Rattle.lists.specs.Laws.{Every}
-use Rattle.lines.specs.Reading.{readLine}
+use Rattle.line_reading.specs.Reading.{readLine}
 use Rattle.lines.specs.Splitting.{linesOf}
 use Rattle.lines.specs.Promise.{Holding}
 use Rattle.taking.specs.declared.State.{State}

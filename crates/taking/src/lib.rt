@@ -23,7 +23,7 @@ pub enum Step {
 // Where a line is too long or there is no table, `bad` is the last that is written.
 pub fn bad() {
     let mut text = [0u8; 4];
-    let n = lines::write_bad(&mut text);
+    let n = line_writing::write_bad(&mut text);
     io::write_all(STDOUT_FILENO, &text[..n]);
 }
 
