@@ -1,4 +1,2 @@
 pub mod Loading
-pub mod Replies
-pub mod Endings
-pub mod Serving
+pub mod Pieces

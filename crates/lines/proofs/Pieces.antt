@@ -13,11 +13,11 @@ use borrow.Rule.Slice.PartMut.{midOf, putMid}
 use Rattle.buffers.proofs.Parts.{length-tail, put-tail}
 use Rattle.lists.specs.Lists.{split, isEmpty}
 use Rattle.lists.specs.Splits.{split-some}
-use Rattle.lines.specs.Reading.{mostLine}
-use Rattle.lines.specs.Splitting.{firstAt, withoutEnd, linesOf}
+use Rattle.line_reading.specs.Reading.{mostLine, firstAt}
+use Rattle.lines.specs.Splitting.{withoutEnd, linesOf}
 use Rattle.buffers.specs.Writes.{Writes}
 use Rattle.lines.specs.Promise.{Holding, LineEnded, PieceHeld, firstLine}
-use Rattle.lines.proofs.Splits.{first-inside, split-whole, split-first}
+use Rattle.line_reading.proofs.Splits.{first-inside, split-whole, split-first}
 use Rattle.buffers.proofs.Written.{written-same}
 
 -- where b stands in a text that goes on

@@ -8,13 +8,13 @@ use mathlib.Core.Option.{none, some}
 use lib.ListN.{length, take, drop}
 use lib.Seq.{length-take-le}
 use Rattle.lists.specs.Lists.{joined, onSome}
-use Rattle.lines.specs.Reading.{mostLine, readLine}
-use Rattle.lines.specs.Writing.{endLine, badLine}
+use Rattle.line_reading.specs.Reading.{mostLine, readLine}
+use Rattle.line_writing.specs.Writing.{endLine, badLine}
 use Rattle.lines.specs.Splitting.{linesOf, output}
 use Rattle.lines.specs.Promise.{Holding, LineEnded, PieceHeld, LineTooLong, firstLine}
 use Rattle.lines.specs.Running.{Runs}
 use Rattle.lines.specs.Running as run
-use Rattle.lines.proofs.Readings.{long-line}
+use Rattle.line_reading.proofs.Readings.{long-line}
 use Rattle.lines.proofs.Pieces.{lines-last, lines-none}
 
 module _ (reply : List ℕ → List ℕ) (n : ℕ) where

@@ -7,8 +7,8 @@ use mathlib.Core.Option.{none, some}
 use lib.ListN.{replicate}
 use Rattle.lists.specs.Lists.{joined}
 use Rattle.lists.specs.Text.{bytes}
-use Rattle.lines.specs.Reading.{readLine}
-use Rattle.lines.specs.Writing.{okLine, noLine, endLine, badLine}
+use Rattle.line_reading.specs.Reading.{readLine}
+use Rattle.line_writing.specs.Writing.{okLine, noLine, endLine, badLine}
 use Rattle.lines.specs.Splitting.{linesOf, output}
 
 -- lines that can be read: the empty one, leading zeros up to 8 digits, the largest number

@@ -1,5 +1,3 @@
-pub mod Reading
-pub mod Writing
 pub mod Splitting
 pub mod Promise
 pub mod Running

@@ -6,8 +6,8 @@ use mathlib.Core.Path.{_≡_}
 use mathlib.Core.List.{List, [], _∷_, _++_}
 use mathlib.Core.Option.{none, some}
 use lib.ListN.{take, drop}
-use Rattle.lines.specs.Reading.{readLine}
-use Rattle.lines.specs.Writing.{endLine, badLine}
+use Rattle.line_reading.specs.Reading.{readLine}
+use Rattle.line_writing.specs.Writing.{endLine, badLine}
 use Rattle.lines.specs.Promise.{Holding, LineEnded, PieceHeld, LineTooLong}
 
 -- n names are done; `reply` gives the line for a name

@@ -1,17 +1,11 @@
 -- How input is split into lines, whatever the pieces that it comes in. 01, "Names at the counter": "A line ends at byte 0A, which isn't
 -- counted in its length, and the last one also at the end of input; nothing stands after a final 0A." Assumes nothing.
-use Prim.Native.Nat.{ℕ, zero, suc}
+use Prim.Native.Nat.{ℕ, suc}
 use mathlib.Core.Bool.{cond}
 use mathlib.Core.List.{List, [], _∷_, _++_}
-use lib.Dec.{eqb}
 use Rattle.lists.specs.Lists.{isEmpty, onSome, split}
-use Rattle.lines.specs.Reading.{readLine}
-use Rattle.lines.specs.Writing.{endLine, badLine}
-
--- the place of the first b, or the length where there is none
-unfoldable pub firstAt : ℕ → List ℕ → ℕ
-firstAt b [] = zero
-firstAt b (x ∷ s) = let later = firstAt b s in cond (eqb x b) zero (suc later)
+use Rattle.line_reading.specs.Reading.{readLine}
+use Rattle.line_writing.specs.Writing.{endLine, badLine}
 
 -- all parts but a last one that is empty
 abbrev pub withoutEnd : List (List ℕ) → List (List ℕ)

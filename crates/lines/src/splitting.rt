@@ -1,7 +1,7 @@
 // Splitting input into lines, piece by piece. specs/Splitting.antt states what the lines are.
-use crate::MOST_LINE;
-use crate::reading::find;
-use crate::writing::write_word;
+use line_reading::MOST_LINE;
+use line_reading::find;
+use line_writing::write_word;
 ghost use lib.ListN.{take};
 ghost use Rattle.lines.specs.Promise.{Holding, Takes};
 

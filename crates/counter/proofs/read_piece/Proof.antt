@@ -1,6 +1,6 @@
 -- `read_piece`: at most as many bytes came as io's buffer has. Assumes nothing.
 use lib.ListN.{length-take}
-use Rattle.counter.proofs.Serving.{takes-read}
+use Rattle.counter.proofs.Pieces.{takes-read}
 use native.Mathlib.Omega.{arith}
 use borrow.Author.Needs.{needs}
 use Rattle.counter.proofs.read_piece.Statement.{statement}

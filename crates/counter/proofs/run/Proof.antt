@@ -3,8 +3,8 @@ use Prim.Native.Nat.{_+_, _*_, _^_, _≤_}
 use mathlib.Core.Path.{refl, sym}
 use Rattle.lines.specs.Promise.{Holding}
 use Rattle.lines.proofs.Pieces.{holding-none}
-use Rattle.counter.specs.Promise.{mostPiece}
-use Rattle.counter.proofs.Serving.{reads-on, read-few}
+use Rattle.taking.specs.Promise.{mostPiece}
+use Rattle.counter.proofs.Pieces.{reads-on, read-few}
 use native.Mathlib.Omega.{arith}
 use borrow.Author.Needs.{needs}
 use Rattle.counter.proofs.run.Statement.{statement}

@@ -1,0 +1,3 @@
+pub mod TableFile
+pub mod Replies
+pub mod Endings
