@@ -1,3 +1,1 @@
 pub mod Told
-pub mod FieldLaws
-pub mod GroupLaws

@@ -5,19 +5,14 @@ use mathlib.Core.Bool.{cond}
 use mathlib.Core.List.{List}
 use lib.ListN.{length}
 use Rattle.lists.specs.Lists.{isSome}
-use Rattle.answers.specs.Values.{UnpackValues}
 use Rattle.unpack.specs.Unpack.{unpackCall}
 use Rattle.table.specs.Layout.{parse}
 use Rattle.name.specs.Label.{labelCall}
 use Rattle.name.specs.Name.{nameCall}
-use Rattle.boundary.specs.declared.WanlophengUnpack.{WanlophengUnpack}
-use Rattle.boundary.specs.declared.fields.WanlophengName.{WanlophengName}
-use Rattle.boundary.specs.declared.fields.WanlophengLabel.{WanlophengLabel}
-use Rattle.boundary.specs.Fields.{nameFields, labelFields, labelNumbers}
-
--- the values that the fields stand for
-abbrev pub unpackFields : WanlophengUnpack → UnpackValues
-unpackFields r = record { number = r .number; count = r .count }
+use Rattle.fields.specs.declared.WanlophengUnpack.{WanlophengUnpack}
+use Rattle.fields.specs.declared.WanlophengName.{WanlophengName}
+use Rattle.fields.specs.declared.WanlophengLabel.{WanlophengLabel}
+use Rattle.fields.specs.Fields.{unpackFields, nameFields, labelFields, labelNumbers}
 
 -- The unpack call: both fields of its answer r, and every word of the answer buffer, `before` at the call and `after` it.
 pub record UnpackCrosses (file before after : List ℕ) (r : WanlophengUnpack) : Type 0 where

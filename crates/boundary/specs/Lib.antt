@@ -1,6 +1,3 @@
 pub mod Crossing
-pub mod Fields
 pub mod Trimming
-pub mod EmojiFields
-pub mod GroupFields
-pub mod Utf8Fields
+pub mod Utf8Crossing

@@ -1,51 +1,23 @@
 // The calls for C and Rust, each with the promise of the call that it hands on. include/wanlopheng.h declares them.
 // A slice crosses as a pointer and a number of elements, an answer as a struct of plain numbers.
 pub mod emoji;
-pub mod fields;
 pub mod group;
 pub mod trimming;
 pub mod utf8_calls;
 
-use crate::fields::WanlophengLabel;
-use crate::fields::WanlophengName;
-use crate::fields::WanlophengSoundness;
-use crate::fields::label_fields;
-use crate::fields::name_fields;
-use crate::fields::soundness_fields;
-use answers::Unpacked;
+use fields::WanlophengLabel;
+use fields::WanlophengName;
+use fields::WanlophengSoundness;
+use fields::WanlophengUnpack;
+use fields::label_fields;
+use fields::name_fields;
+use fields::soundness_fields;
+use fields::unpack_fields;
 use table::Layout;
 ghost use mathlib.Core.Path.{_≡_};
-ghost use Rattle.answers.specs.Values.{unpackValues};
 ghost use Rattle.soundness.specs.Soundness.{soundnessOf};
-ghost use Rattle.boundary.specs.Fields.{soundnessNumbers, soundnessFields};
-ghost use Rattle.boundary.specs.Crossing.{unpackFields, UnpackCrosses, NameCrosses, LabelCrosses, layoutFault};
-
-// The refusal number, 0 where the file is unpacked, and the number of words.
-#[repr(C)]
-pub struct WanlophengUnpack {
-    pub number: u32,
-    pub count: usize,
-}
-
-fn unpack_fields(answer: Unpacked) -> WanlophengUnpack
-    ensures { λ r. ⌜ unpackFields r ≡ unpackValues answer ⌝ }
-{
-    match answer {
-        Unpacked::Words(count) => WanlophengUnpack { number: 0, count },
-        Unpacked::WrongVersion => WanlophengUnpack {
-            number: 20,
-            count: 0,
-        },
-        Unpacked::WrongLength => WanlophengUnpack {
-            number: 21,
-            count: 0,
-        },
-        Unpacked::TooLittleRoom => WanlophengUnpack {
-            number: 22,
-            count: 0,
-        },
-    }
-}
+ghost use Rattle.fields.specs.Fields.{soundnessNumbers, soundnessFields};
+ghost use Rattle.boundary.specs.Crossing.{UnpackCrosses, NameCrosses, LabelCrosses, layoutFault};
 
 // Unpacks a table file.
 #[no_mangle]

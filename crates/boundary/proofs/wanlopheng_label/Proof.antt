@@ -1,7 +1,7 @@
 -- `wanlopheng_label`: the promise of the call, with its values in the fields. Assumes nothing.
 use mathlib.Core.Path.{_∙_, ap}
 use borrow.Author.Needs.{needs}
-use Rattle.boundary.specs.Fields.{labelNumbers}
+use Rattle.fields.specs.Fields.{labelNumbers}
 use Rattle.boundary.proofs.wanlopheng_label.Statement.{statement}
 use Rattle.boundary.proofs.wanlopheng_label.Tie as tie
 

@@ -1,7 +1,7 @@
 -- `wanlopheng_soundness`: the promise of the check, as two numbers. Assumes nothing.
 use mathlib.Core.Path.{_∙_, ap}
 use borrow.Author.Needs.{needs}
-use Rattle.boundary.specs.Fields.{soundnessNumbers}
+use Rattle.fields.specs.Fields.{soundnessNumbers}
 use Rattle.boundary.proofs.wanlopheng_soundness.Statement.{statement}
 use Rattle.boundary.proofs.wanlopheng_soundness.Tie as tie
 

@@ -1,6 +1,6 @@
 -- `boundary::group::wanlopheng_group`: the promise of the call, with its values in the fields. Assumes nothing.
 use mathlib.Core.Path.{_∙_, ap}
-use Rattle.boundary.specs.GroupFields.{groupNumbers}
+use Rattle.call_fields.specs.GroupFields.{groupNumbers}
 use borrow.Author.Needs.{needs}
 use Rattle.boundary.proofs.group.wanlopheng_group.Statement.{statement}
 use Rattle.boundary.proofs.group.wanlopheng_group.Tie as tie

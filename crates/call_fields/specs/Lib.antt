@@ -1,0 +1,3 @@
+pub mod EmojiFields
+pub mod GroupFields
+pub mod Utf8Fields
