@@ -1,0 +1,4 @@
+pub mod Permutation
+pub mod Rows
+pub mod Tables
+pub mod Tabulate
