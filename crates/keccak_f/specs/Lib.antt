@@ -1,3 +1,4 @@
+pub mod Lengths
 pub mod Permutation
 pub mod Rows
 pub mod Tables

@@ -1,0 +1,6 @@
+pub mod Blocks
+pub mod Promise
+pub mod Sponge
+pub mod State
+pub mod Taken
+pub mod Xor
