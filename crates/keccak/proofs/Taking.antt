@@ -9,7 +9,7 @@ use lib.Seq.{drop-cons, drop-length}
 use Rattle.keccak_f.specs.Permutation.{keccakF}
 use Rattle.keccak.specs.declared.sponge.Keccak256.{Keccak256}
 use Rattle.keccak.specs.Sponge.{rate, squeezed}
-use Rattle.keccak.specs.State.{addByte, state, filled, taken, digested}
+use Rattle.keccak.specs.State.{xorByte, state, filled, taken, digested}
 use Rattle.keccak.specs.Taken.{block-full, block-open}
 use Rattle.keccak.specs.Blocks.{Bytes}
 
@@ -21,11 +21,11 @@ pub record Taking (k : Keccak256) (m s : List ℕ) (n i : ℕ) : Type 0 where
 
 module _ {k : Keccak256} {m s : List ℕ} {n i : ℕ} (t : Taking k m s n i) where
   -- one byte is taken
-  next : i < length m → taken (filled (addByte s n (getD m i 0)) (n + 1)) (drop (i + 1) m) ≡ k
+  next : i < length m → taken (filled (xorByte s n (getD m i 0)) (n + 1)) (drop (i + 1) m) ≡ k
   unfolding taken
   next h = rw (add-one i) (sym (ap (taken (state s n)) (drop-cons m i 0 h)) ∙ t .rest)
 
-  module _ {s′ s″ : List ℕ} {n″ : ℕ} (h : i < length m) (e : s′ ≡ addByte s n (getD m i 0)) where
+  module _ {s′ s″ : List ℕ} {n″ : ℕ} (h : i < length m) (e : s′ ≡ xorByte s n (getD m i 0)) where
     pub take-full : n + 1 ≡ rate → s″ ≡ keccakF s′ → n″ ≡ 0 → Taking k m s″ n″ (i + 1)
     take-full f g z =
         record {
@@ -33,7 +33,7 @@ module _ {k : Keccak256} {m s : List ℕ} {n i : ℕ} (t : Taking k m s n i) whe
           within = omega arith;
           rest =
               ap₂ (λ (x : List ℕ) (y : ℕ). taken (state x y) (drop (i + 1) m)) (g ∙ ap keccakF e) z
-              ∙ sym (ap (λ (x : Keccak256). taken x (drop (i + 1) m)) (block-full (addByte s n (getD m i 0)) (n + 1) f))
+              ∙ sym (ap (λ (x : Keccak256). taken x (drop (i + 1) m)) (block-full (xorByte s n (getD m i 0)) (n + 1) f))
               ∙ next h;
         }
 
@@ -44,7 +44,7 @@ module _ {k : Keccak256} {m s : List ℕ} {n i : ℕ} (t : Taking k m s n i) whe
           within = omega arith;
           rest =
               ap₂ (λ (x : List ℕ) (y : ℕ). taken (state x y) (drop (i + 1) m)) (g ∙ e) z
-              ∙ sym (ap (λ (x : Keccak256). taken x (drop (i + 1) m)) (block-open (addByte s n (getD m i 0)) (n + 1) f))
+              ∙ sym (ap (λ (x : Keccak256). taken x (drop (i + 1) m)) (block-open (xorByte s n (getD m i 0)) (n + 1) f))
               ∙ next h;
         }
 
@@ -55,10 +55,10 @@ module _ {k : Keccak256} {m s : List ℕ} {n i : ℕ} (t : Taking k m s n i) whe
       let e : i ≡ length m = omega (arith, t .within) in
       sym (ap (taken (state s n)) (ap (λ (j : ℕ). drop j m) e ∙ drop-length m)) ∙ t .rest
 
-pub finish : (k : Keccak256) (s t u d : List ℕ) → s ≡ addByte (k .lanes) (k .fill % rate) 0x01 → t ≡ addByte s (rate - 1) 0x80
+pub finish : (k : Keccak256) (s t u d : List ℕ) → s ≡ xorByte (k .lanes) (k .fill % rate) 0x01 → t ≡ xorByte s (rate - 1) 0x80
     → u ≡ keccakF t → d ≡ squeezed u → d ≡ digested k
 unfolding digested
-finish k s t u d e f g h = h ∙ ap squeezed (g ∙ ap keccakF (f ∙ ap (λ (x : List ℕ). addByte x (rate - 1) 0x80) e))
+finish k s t u d e f g h = h ∙ ap squeezed (g ∙ ap keccakF (f ∙ ap (λ (x : List ℕ). xorByte x (rate - 1) 0x80) e))
 
 -- a list whose every element is below 256 is bytes
 pub all-bytes : (m : List ℕ) → ((i : ℕ) → getD m i 0 < 256) → Bytes m

@@ -1,4 +1,5 @@
 pub mod Blocks
+pub mod Examples
 pub mod Promise
 pub mod Sponge
 pub mod State

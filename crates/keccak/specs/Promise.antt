@@ -11,7 +11,7 @@ use Rattle.lists.specs.Laws.{every-append}
 use Rattle.keccak_f.specs.Permutation.{keccakF}
 use Rattle.keccak.specs.declared.sponge.Keccak256.{Keccak256}
 use Rattle.keccak.specs.Sponge.{rate, padding, squeezed, keccak256}
-use Rattle.keccak.specs.State.{state, fresh, addByte, filled, taken, absorbed, digested}
+use Rattle.keccak.specs.State.{state, fresh, xorByte, filled, taken, absorbed, digested}
 use Rattle.keccak.specs.Blocks.{Bytes}
 use Rattle.keccak.specs.Taken.{full-or-open, taken-append, blocks-taken, Fed, fed, padding-length, padded-digest, padding-bytes}
 
@@ -25,8 +25,8 @@ below : (k : Keccak256) (m : List ℕ) → k .fill < rate → taken k m .fill < 
 unfolding taken
 below k [] l = l
 below k (b ∷ m) l =
-    below (filled (addByte (k .lanes) (k .fill) b) (k .fill + 1)) m
-    (full-or-open (λ x. x .fill < rate) (addByte (k .lanes) (k .fill) b) (k .fill + 1) (λ e. omega arith) (λ e. omega (arith, e)))
+    below (filled (xorByte (k .lanes) (k .fill) b) (k .fill + 1)) m
+    (full-or-open (λ x. x .fill < rate) (xorByte (k .lanes) (k .fill) b) (k .fill + 1) (λ e. omega arith) (λ e. omega (arith, e)))
 
 -- two pieces are one
 pub two-pieces : (k : Keccak256) (a b : List ℕ) → absorbed (absorbed k a) b ≡ absorbed k (a ++ b)
@@ -41,7 +41,7 @@ two-pieces k a b =
 settled : (k : Keccak256) → digested (absorbed k []) ≡ digested k
 unfolding absorbed taken digested
 settled k =
-    ap (λ (q : ℕ). squeezed (keccakF (addByte (addByte (k .lanes) q 0x01) (rate - 1) 0x80))) (omega arith)
+    ap (λ (q : ℕ). squeezed (keccakF (xorByte (xorByte (k .lanes) q 0x01) (rate - 1) 0x80))) (omega arith)
 
 -- the digest after any pieces is that after all their bytes
 pub pieces-joined : (k : Keccak256) (ms : List (List ℕ)) → digested (absorbedAll k ms) ≡ digested (absorbed k (joined ms))

@@ -12,7 +12,7 @@ use Rattle.keccak_f.specs.Permutation.{_⊕_, keccakF}
 abbrev pub rate : ℕ
 rate = 136
 
--- the padding behind n bytes (pad10*1): 01, then zeros up to a multiple of the rate, with 80 added to the last byte
+-- the padding behind n bytes (pad10*1): 01, then zeros up to a multiple of the rate, with 80 xored into the last byte
 unfoldable pub padding : ℕ → List ℕ
 padding n =
     let room = rate - n % rate in
@@ -23,15 +23,15 @@ unfoldable pub number : List ℕ → ℕ
 number [] = 0
 number (b ∷ bs) = b + 256 * number bs
 
--- a block added to the state: to each lane the number of the next eight bytes, and nothing behind the block's end
-unfoldable pub addBlock : List ℕ → List ℕ → List ℕ
-addBlock [] block = []
-addBlock (a ∷ s) block = (a ⊕ number (take 8 block)) ∷ addBlock s (drop 8 block)
+-- a block xored into the state: into each lane the number of the next eight bytes, and nothing behind the block's end
+unfoldable pub xorBlock : List ℕ → List ℕ → List ℕ
+xorBlock [] block = []
+xorBlock (a ∷ s) block = (a ⊕ number (take 8 block)) ∷ xorBlock s (drop 8 block)
 
--- absorbing: each block in turn is added, and the state permuted
+-- absorbing: each block in turn is xored into the state, which is then permuted
 unfoldable pub absorbBlocks : ℕ → List ℕ → List ℕ → List ℕ
 absorbBlocks zero s p = s
-absorbBlocks (suc n) s p = absorbBlocks n (keccakF (addBlock s (take rate p))) (drop rate p)
+absorbBlocks (suc n) s p = absorbBlocks n (keccakF (xorBlock s (take rate p))) (drop rate p)
 
 -- byte i of the state: byte i % 8 of lane i / 8, the lowest first
 abbrev pub byteAt : List ℕ → ℕ → ℕ

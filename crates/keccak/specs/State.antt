@@ -8,6 +8,7 @@ use Rattle.keccak_f.specs.Permutation.{_⊕_, keccakF}
 use Rattle.keccak.specs.declared.sponge.Keccak256.{Keccak256}
 use Rattle.keccak.specs.Sponge.{rate, squeezed}
 
+-- the lanes, and how many bytes of the next block are in them
 abbrev pub state : List ℕ → ℕ → Keccak256
 state s n = record { lanes = s; fill = n }
 
@@ -15,9 +16,9 @@ state s n = record { lanes = s; fill = n }
 abbrev pub fresh : Keccak256
 fresh = state (replicate 25 0) 0
 
--- the byte b added at place p of the state: byte p % 8 of lane p / 8
-unfoldable pub addByte : List ℕ → ℕ → ℕ → List ℕ
-addByte s p b = set s (p / 8) (getD s (p / 8) 0 ⊕ b * 2 ^ (8 * (p % 8)))
+-- the byte b xored into place p of the state: into byte p % 8 of lane p / 8
+unfoldable pub xorByte : List ℕ → ℕ → ℕ → List ℕ
+xorByte s p b = set s (p / 8) (getD s (p / 8) 0 ⊕ b * 2 ^ (8 * (p % 8)))
 
 -- lanes with n bytes of a block in them; a full block is permuted
 abbrev pub filled : List ℕ → ℕ → Keccak256
@@ -26,12 +27,12 @@ filled s n = cond (eqb n rate) (state (keccakF s) 0) (state s n)
 -- bytes taken one after another by a state whose fill is below the rate
 unfoldable pub taken : Keccak256 → List ℕ → Keccak256
 taken k [] = k
-taken k (b ∷ m) = taken (filled (addByte (k .lanes) (k .fill) b) (k .fill + 1)) m
+taken k (b ∷ m) = taken (filled (xorByte (k .lanes) (k .fill) b) (k .fill + 1)) m
 
--- a piece taken
+-- a piece taken; the fill counts modulo the rate
 unfoldable pub absorbed : Keccak256 → List ℕ → Keccak256
 absorbed k m = taken (state (k .lanes) (k .fill % rate)) m
 
--- the digest: 01 added behind the bytes taken and 80 to the last byte of the block
+-- the digest: 01 xored in behind the bytes taken and 80 into the last byte of the block, then permuted and squeezed
 unfoldable pub digested : Keccak256 → List ℕ
-digested k = squeezed (keccakF (addByte (addByte (k .lanes) (k .fill % rate) 0x01) (rate - 1) 0x80))
+digested k = squeezed (keccakF (xorByte (xorByte (k .lanes) (k .fill % rate) 0x01) (rate - 1) 0x80))

@@ -3,7 +3,7 @@ use keccak_f::permute::permute;
 ghost use mathlib.Core.Path.{_≡_};
 ghost use Prim.Native.Nat.{_<_};
 ghost use Rattle.keccak.specs.Sponge.{squeezed};
-ghost use Rattle.keccak.specs.State.{addByte, fresh, absorbed, digested};
+ghost use Rattle.keccak.specs.State.{xorByte, fresh, absorbed, digested};
 
 // The bytes of a block.
 const RATE: usize = 136;
@@ -19,14 +19,15 @@ pub struct Keccak256 {
     pub fill: usize,
 }
 
+// The digest.
 pub struct Digest {
     pub bytes: [u8; 32],
 }
 
-// A byte added at its place in the state.
-fn add_byte(lanes: &mut [u64; 25], place: usize, byte: u8)
+// A byte xored into its place in the state.
+fn xor_byte(lanes: &mut [u64; 25], place: usize, byte: u8)
     requires { ⌜ place < 136 ⌝ }
-    ensures { λ _. ⌜ now (lanes .exit) ≡ addByte (now (lanes .entry)) place byte ⌝ }
+    ensures { λ _. ⌜ now (lanes .exit) ≡ xorByte (now (lanes .entry)) place byte ⌝ }
 {
     let shift = 8 * (place % 8);
     lanes[place / 8] = lanes[place / 8] ^ (byte as u64) << shift as u64;
@@ -65,7 +66,7 @@ impl Keccak256 {
         let mut fill = self.fill % RATE;
         let mut i = 0;
         while i < bytes.len() {
-            add_byte(&mut lanes, fill, bytes[i]);
+            xor_byte(&mut lanes, fill, bytes[i]);
             fill += 1;
             if fill == RATE {
                 lanes = permute(lanes);
@@ -79,13 +80,13 @@ impl Keccak256 {
     }
 
     // Finishes: the digest of all bytes taken.
-    pub fn digest(self) -> Digest
+    pub fn digest(mut self) -> Digest
         ensures { λ r. ⌜ r .bytes ≡ digested self ⌝ }
     {
-        let mut lanes = self.lanes;
         let place = self.fill % RATE;
-        add_byte(&mut lanes, place, PADDING);
-        add_byte(&mut lanes, RATE - 1, LAST);
+        xor_byte(&mut self.lanes, place, PADDING);
+        xor_byte(&mut self.lanes, RATE - 1, LAST);
+        let lanes = self.lanes;
         let last = permute(lanes);
         squeeze(&last)
     }

@@ -58,7 +58,7 @@ pub const SOURCES: [usize; 25] = [
     21,
 ];
 
-// What iota adds in each round.
+// What iota xors into lane (0, 0) in each round.
 pub const ROUND_CONSTANTS: [u64; 24] = [
     0x0000000000000001,
     0x0000000000008082,

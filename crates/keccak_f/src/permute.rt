@@ -29,7 +29,7 @@ fn parities(a: &[u64; 25]) -> [u64; 5]
     c
 }
 
-// What the parities of the columns on both sides add to each column.
+// What is xored into each column: the parities of the columns on both sides.
 fn effects(c: &[u64; 5]) -> [u64; 5]
     ensures { λ r. ⌜ r ≡ effects (now (c .entry)) ⌝ }
 {

@@ -20,11 +20,11 @@ loop-holds : tie.Need-loop-holds Inv-loop μ-loop
 unfolding absorbed
 loop-holds c = record { below = omega arith; within = omega arith; rest = refl }
 
-shared-slice-read-add-byte : tie.Need-shared-slice-read-add-byte Inv-loop μ-loop
-shared-slice-read-add-byte c = omega arith
+shared-slice-read-xor-byte : tie.Need-shared-slice-read-xor-byte Inv-loop μ-loop
+shared-slice-read-xor-byte c = omega arith
 
-add-byte-requires : tie.Need-add-byte-requires Inv-loop μ-loop
-add-byte-requires c κs = search needs
+xor-byte-requires : tie.Need-xor-byte-requires Inv-loop μ-loop
+xor-byte-requires c κs = search needs
 
 add-fill : tie.Need-add-fill Inv-loop μ-loop
 add-fill c = omega arith
@@ -43,8 +43,8 @@ loop-again c =
     let b = c .before in
     let l = b .before .before .before .before in
     ⊎-elim
-    (λ w. take-full (l .loop .inv) (omega arith) (b .add-byte .ensures) (w .0 .taken) (w .2 ∙ w .1 .ensures) (w .3))
-    (λ w. take-open (l .loop .inv) (omega arith) (b .add-byte .ensures) (w .0 .left) (w .1) (w .2))
+    (λ w. take-full (l .loop .inv) (omega arith) (b .xor-byte .ensures) (w .0 .taken) (w .2 ∙ w .1 .ensures) (w .3))
+    (λ w. take-open (l .loop .inv) (omega arith) (b .xor-byte .ensures) (w .0 .left) (w .1) (w .2))
     (c .if1 .came)
 
 returns : tie.Need-returns Inv-loop μ-loop
@@ -57,8 +57,8 @@ absorb-spec =
     Inv-loop
     μ-loop
     loop-holds
-    shared-slice-read-add-byte
-    add-byte-requires
+    shared-slice-read-xor-byte
+    xor-byte-requires
     add-fill
     permute-requires
     add-i

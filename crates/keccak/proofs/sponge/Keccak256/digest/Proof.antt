@@ -4,14 +4,14 @@ use Rattle.keccak.proofs.Taking.{finish}
 use Rattle.keccak.proofs.sponge.Keccak256.digest.Statement.{statement}
 use Rattle.keccak.proofs.sponge.Keccak256.digest.Tie as tie
 
-add-byte-requires : tie.Need-add-byte-requires
-add-byte-requires c κs = search needs
+xor-byte-requires : tie.Need-xor-byte-requires
+xor-byte-requires c κs = search needs
 
-sub-add-byte : tie.Need-sub-add-byte
-sub-add-byte c = search needs
+sub-xor-byte : tie.Need-sub-xor-byte
+sub-xor-byte c = search needs
 
-add-byte-requires-2 : tie.Need-add-byte-requires-2
-add-byte-requires-2 c κs = search needs
+xor-byte-requires-2 : tie.Need-xor-byte-requires-2
+xor-byte-requires-2 c κs = search needs
 
 permute-requires : tie.Need-permute-requires
 permute-requires c κs = search needs
@@ -23,8 +23,8 @@ returns : tie.Need-returns
 returns c =
     let p = c .before .before in
     finish _ _ _ _ _
-    (p .before .before .before .add-byte .ensures)
-    (p .before .add-byte2 .ensures)
+    (p .before .before .before .before .xor-byte .ensures)
+    (p .before .before .xor-byte2 .ensures)
     (p .permute .ensures)
     (c .squeeze .ensures)
 
@@ -32,9 +32,9 @@ pub digest-spec : {M : Type 1} → statement M
 digest-spec =
     tie.close
     (tie.spec
-    add-byte-requires
-    sub-add-byte
-    add-byte-requires-2
+    xor-byte-requires
+    sub-xor-byte
+    xor-byte-requires-2
     permute-requires
     squeeze-requires
     returns)

@@ -1,4 +1,4 @@
--- `add_byte`: the byte fits its place in the lane. Assumes nothing.
+-- `xor_byte`: the byte fits its place in the lane. Assumes nothing.
 use Prim.Native.Nat.{ℕ, _*_, _/_, _%_}
 use native.Mathlib.Omega.{arith}
 use mathlib.Core.Path.{ap}
@@ -6,9 +6,9 @@ use lib.ListN.{getD, set}
 use lib.Pow.{shl-exact}
 use borrow.Author.Needs.{needs}
 use Rattle.keccak_f.specs.Permutation.{_⊕_}
-use Rattle.keccak.specs.State.{addByte}
-use Rattle.keccak.proofs.sponge.add_byte.Statement.{statement}
-use Rattle.keccak.proofs.sponge.add_byte.Tie as tie
+use Rattle.keccak.specs.State.{xorByte}
+use Rattle.keccak.proofs.sponge.xor_byte.Statement.{statement}
+use Rattle.keccak.proofs.sponge.xor_byte.Tie as tie
 
 mul-shift : tie.Need-mul-shift
 mul-shift c = search needs
@@ -29,14 +29,14 @@ element-write-lanes : tie.Need-element-write-lanes
 element-write-lanes c = search needs
 
 returns : tie.Need-returns
-unfolding addByte
+unfolding xorByte
 returns c =
     let s = c .before .args .lanes .now in
     let k = c .before .args .place in
     ap (λ (v : ℕ). set s (k / 8) (getD s (k / 8) 0 ⊕ v)) (shl-exact 8 (8 * (k % 8)) 64 (c .before .fits .byte .fits) (omega arith))
 
-pub add-byte-spec : {M : Type 1} → statement M
-add-byte-spec =
+pub xor-byte-spec : {M : Type 1} → statement M
+xor-byte-spec =
     tie.close
     (tie.spec
     mul-shift
