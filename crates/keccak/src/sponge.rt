@@ -14,12 +14,14 @@ const PADDING: u8 = 0x01;
 const LAST: u8 = 0x80;
 
 // The lanes, and how many bytes of the next block are in them: counted modulo 136.
+#[repr(C)]
 pub struct Keccak256 {
     pub lanes: [u64; 25],
     pub fill: usize,
 }
 
 // The digest.
+#[repr(C)]
 pub struct Digest {
     pub bytes: [u8; 32],
 }

@@ -7,6 +7,7 @@
 
 pub mod book;
 pub mod emoji;
+pub mod keccak;
 pub mod normal_forms;
 mod raw;
 pub mod utf8;

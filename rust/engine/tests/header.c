@@ -155,6 +155,18 @@ static int book(void) {
     if (f.number != WANLOPHENG_BOOK_EMPTY_FORM) return 81;
     b = wanlopheng_reset(area, WANLOPHENG_BOOK_WORDS - 1, answer, 4, work, 1);
     if (b.number != WANLOPHENG_BOOK_SIZE) return 82;
+/* Keccak-256 of "abc", whole and in two pieces, and a fill that counts modulo 136. */
+static int hashes(void) {
+    const uint8_t abc[] = {0x61, 0x62, 0x63};
+    struct wanlopheng_digest d = wanlopheng_keccak256(abc, 3);
+    if (d.bytes[0] != 0x4E || d.bytes[1] != 0x03 || d.bytes[30] != 0x6C || d.bytes[31] != 0x45) return 51;
+    struct wanlopheng_sponge s = wanlopheng_sponge_absorb(wanlopheng_sponge_absorb(wanlopheng_sponge_new(), abc, 2), abc + 2, 1);
+    struct wanlopheng_digest e = wanlopheng_sponge_digest(s);
+    if (s.fill != 3 || s.lanes[0] != 0x636261 || s.lanes[24] != 0) return 52;
+    for (size_t i = 0; i < 32; i++) if (e.bytes[i] != d.bytes[i]) return 53;
+    s.fill += 136;
+    e = wanlopheng_sponge_digest(s);
+    for (size_t i = 0; i < 32; i++) if (e.bytes[i] != d.bytes[i]) return 54;
     return 0;
 }
 
@@ -174,6 +186,7 @@ int main(void) {
     int failed = calls();
     if (failed == 0) failed = fields();
     if (failed == 0) failed = emojis();
+    if (failed == 0) failed = hashes();
     if (failed == 0) failed = forms();
     if (failed == 0) failed = texts();
     if (failed == 0) failed = book();

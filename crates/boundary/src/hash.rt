@@ -1,0 +1,38 @@
+// Keccak-256 (02, Item 10): the sponge, its state by value, and the digest of a slice.
+use keccak::sponge::Digest;
+use keccak::sponge::Keccak256;
+ghost use mathlib.Core.Path.{_≡_};
+ghost use Rattle.keccak.specs.Sponge.{keccak256};
+ghost use Rattle.keccak.specs.State.{fresh, absorbed, digested};
+
+// A sponge that has taken nothing.
+#[no_mangle]
+pub extern "C" fn wanlopheng_sponge_new() -> Keccak256
+    ensures { λ r. ⌜ r ≡ fresh ⌝ }
+{
+    Keccak256::new()
+}
+
+// The sponge with a piece taken.
+#[no_mangle]
+pub extern "C" fn wanlopheng_sponge_absorb(sponge: Keccak256, bytes: &[u8]) -> Keccak256
+    ensures { λ r. ⌜ r ≡ absorbed sponge (now (bytes .entry)) ⌝ }
+{
+    sponge.absorb(bytes)
+}
+
+// The digest of all bytes taken.
+#[no_mangle]
+pub extern "C" fn wanlopheng_sponge_digest(sponge: Keccak256) -> Digest
+    ensures { λ r. ⌜ r .bytes ≡ digested sponge ⌝ }
+{
+    sponge.digest()
+}
+
+// The digest of a slice.
+#[no_mangle]
+pub extern "C" fn wanlopheng_keccak256(bytes: &[u8]) -> Digest
+    ensures { λ r. ⌜ r .bytes ≡ keccak256 (now (bytes .entry)) ⌝ }
+{
+    keccak::keccak256(bytes)
+}
