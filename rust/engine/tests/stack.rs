@@ -106,6 +106,9 @@ const ACCOUNT_COPIES: usize = 3;
 /// Bytes of stack of unpacking.
 const UNPACK: usize = KB;
 
+/// Bytes of stack of Keccak-256, whole or a piece.
+const KECCAK: usize = 4 * KB;
+
 /// A name, the words of the answer buffer, and the number that is due from the
 /// name call.
 struct Case {
@@ -305,6 +308,19 @@ fn unpacking() {
     });
     println!("unpack: {} bytes of stack", left.used);
     assert!(left.used <= UNPACK);
+}
+
+#[test]
+fn hashing() {
+    let message = vec![0x61; 1_000];
+    let whole = run(|| {
+        black_box(engine::keccak::keccak256(&message));
+    });
+    let pieces = run(|| {
+        black_box(engine::keccak::Sponge::new().absorb(&message).absorb(&message).digest());
+    });
+    println!("keccak256: {} bytes of stack, in pieces {}", whole.used, pieces.used);
+    assert!(whole.used <= KECCAK && pieces.used <= KECCAK);
 }
 
 #[test]
