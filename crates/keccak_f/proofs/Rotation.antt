@@ -1,29 +1,22 @@
--- A rotation by two shifts. Assumes nothing.
+-- A rotation by shifts. Assumes nothing.
 use Prim.Native.Nat.{ℕ, _+_, _-_, _*_, _/_, _%_, _^_, _<_}
-use native.Mathlib.Nat.{add-zero, mul-mod-left}
 use native.Mathlib.Omega.{arith}
 use mathlib.Core.Path.{_≡_, sym, ap, ap₂, _∙_, subst}
-use lib.Pow.{mod-pow-add, shl-shr, shr-shr, shr-lt}
-use lib.Bits.{bitOr, or-shifted}
+use lib.Pow.{shr-shr}
+use lib.Bits.{bitOr}
+use Rattle.bits.specs.Fields.{shifted-out, turned}
 use Rattle.keccak_f.specs.Permutation.{rotate}
 
--- what is shifted up keeps its low bits
-kept : (a n j : ℕ) → n + j ≡ 64 → a * 2 ^ n % 2 ^ 64 ≡ a % 2 ^ j * 2 ^ n
-kept a n j e =
-    let split : 64 ≡ j + n = omega arith in
-    ap (λ (w : ℕ). a * 2 ^ n % 2 ^ w) split
-    ∙ mod-pow-add (a * 2 ^ n) j n
-    ∙ ap₂ (λ (q r : ℕ). q % 2 ^ j * 2 ^ n + r) (shl-shr a n) (mul-mod-left a (2 ^ n))
-    ∙ add-zero (a % 2 ^ j * 2 ^ n)
-
+-- down by 64 - n places in two shifts, each below the width
 pub shifts-rotate : (a n : ℕ) → a < 2 ^ 64 → n < 64 → bitOr (a * 2 ^ n % 2 ^ 64) (a / 2 / 2 ^ (63 - n)) ≡ rotate a n
 unfolding rotate
 shifts-rotate a n h l =
-    let e : n + (64 - n) ≡ 64 = omega arith in
-    let down : a / 2 / 2 ^ (63 - n) ≡ a / 2 ^ (64 - n) =
-    shr-shr a 1 (63 - n) ∙ ap (λ (k : ℕ). a / 2 ^ k) (omega arith) in
-    let low : a / 2 ^ (64 - n) < 2 ^ n = shr-lt n (64 - n) (subst (λ (w : ℕ). a < 2 ^ w) (sym e) h) in
-    let up = kept a n (64 - n) e in
+    let j = 64 - n in
+    let width : 64 ≡ j + n = omega arith in
+    let other : 64 ≡ n + j = omega arith in
+    let small : a < 2 ^ (n + j) = subst (λ (w : ℕ). a < 2 ^ w) other h in
+    let up : a * 2 ^ n % 2 ^ 64 ≡ a * 2 ^ n % 2 ^ (j + n) = ap (λ (w : ℕ). a * 2 ^ n % 2 ^ w) width in
+    let down : a / 2 / 2 ^ (63 - n) ≡ a / 2 ^ j = shr-shr a 1 (63 - n) ∙ ap (λ (k : ℕ). a / 2 ^ k) (omega arith) in
     ap₂ bitOr up down
-    ∙ or-shifted (a % 2 ^ (64 - n)) n (a / 2 ^ (64 - n)) low
-    ∙ ap (λ (x : ℕ). x + a / 2 ^ (64 - n)) (sym up)
+    ∙ turned j n small
+    ∙ ap (λ (x : ℕ). x + a / 2 ^ j) (sym (up ∙ shifted-out j n a))
