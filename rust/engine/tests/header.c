@@ -155,18 +155,21 @@ static int book(void) {
     if (f.number != WANLOPHENG_BOOK_EMPTY_FORM) return 81;
     b = wanlopheng_reset(area, WANLOPHENG_BOOK_WORDS - 1, answer, 4, work, 1);
     if (b.number != WANLOPHENG_BOOK_SIZE) return 82;
+    return 0;
+}
+
 /* Keccak-256 of "abc", whole and in two pieces, and a fill that counts modulo 136. */
 static int hashes(void) {
     const uint8_t abc[] = {0x61, 0x62, 0x63};
     struct wanlopheng_digest d = wanlopheng_keccak256(abc, 3);
-    if (d.bytes[0] != 0x4E || d.bytes[1] != 0x03 || d.bytes[30] != 0x6C || d.bytes[31] != 0x45) return 51;
+    if (d.bytes[0] != 0x4E || d.bytes[1] != 0x03 || d.bytes[30] != 0x6C || d.bytes[31] != 0x45) return 91;
     struct wanlopheng_sponge s = wanlopheng_sponge_absorb(wanlopheng_sponge_absorb(wanlopheng_sponge_new(), abc, 2), abc + 2, 1);
     struct wanlopheng_digest e = wanlopheng_sponge_digest(s);
-    if (s.fill != 3 || s.lanes[0] != 0x636261 || s.lanes[24] != 0) return 52;
-    for (size_t i = 0; i < 32; i++) if (e.bytes[i] != d.bytes[i]) return 53;
+    if (s.fill != 3 || s.lanes[0] != 0x636261 || s.lanes[24] != 0) return 92;
+    for (size_t i = 0; i < 32; i++) if (e.bytes[i] != d.bytes[i]) return 93;
     s.fill += 136;
     e = wanlopheng_sponge_digest(s);
-    for (size_t i = 0; i < 32; i++) if (e.bytes[i] != d.bytes[i]) return 54;
+    for (size_t i = 0; i < 32; i++) if (e.bytes[i] != d.bytes[i]) return 94;
     return 0;
 }
 
