@@ -246,6 +246,19 @@ struct wanlopheng_digest wanlopheng_sponge_digest(struct wanlopheng_sponge spong
 /* Keccak-256 of bytes that stand together. */
 struct wanlopheng_digest wanlopheng_keccak256(const uint8_t *bytes, size_t bytes_length);
 
+/* What the name hash answers: what the name call answers, and 32 bytes, zeros beside a refusal. */
+struct wanlopheng_namehash {
+    struct wanlopheng_name name;
+    struct wanlopheng_digest node;
+};
+
+/* The name hash of EIP-137 of a name's normal form; everything else as for wanlopheng_name. Refusal 4 can also come last, its place an index
+ * of the normal form: with a table that is not sound, that may hold a number that is no Unicode scalar value. The empty normal form has 32
+ * zero bytes. */
+struct wanlopheng_namehash wanlopheng_namehash(const uint32_t *input, size_t input_length, const uint32_t *words, size_t words_length,
+                                               uint32_t setting, uint32_t *answer, size_t answer_length, uint32_t *work,
+                                               size_t work_length);
+
 /* What the calls for NFD and NFC answer. The full decomposition of the text needs room in the answer and in the work area,
  * for NFC too. */
 struct wanlopheng_form {

@@ -8,6 +8,7 @@
 pub mod book;
 pub mod emoji;
 pub mod keccak;
+pub mod namehash;
 pub mod normal_forms;
 mod raw;
 pub mod utf8;

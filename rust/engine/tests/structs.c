@@ -59,6 +59,9 @@ int main(void) {
     FIELD(wanlopheng_sponge, fill);
     STRUCT(wanlopheng_digest);
     FIELD(wanlopheng_digest, bytes);
+    STRUCT(wanlopheng_namehash);
+    FIELD(wanlopheng_namehash, name);
+    FIELD(wanlopheng_namehash, node);
     STRUCT(wanlopheng_form);
     FIELD(wanlopheng_form, number);
     FIELD(wanlopheng_form, length);

@@ -16,6 +16,7 @@
 //! * `file`: table files.
 //! * `book`: the payee book.
 //! * `keccak`: Keccak-256.
+//! * `namehash`: the name hash of EIP-137.
 //! * `trim`: an input without the blanks at its ends.
 //! * `utf8`: bytes to codepoints and back, and the byte form of the name call.
 
@@ -27,6 +28,7 @@ pub mod groups;
 pub mod keccak;
 pub mod label;
 pub mod lookup;
+pub mod namehash;
 pub mod ranges;
 pub mod soundness;
 pub mod table;
