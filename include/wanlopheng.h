@@ -220,6 +220,44 @@ struct wanlopheng_book wanlopheng_forget(const uint32_t *name, size_t name_lengt
 /* Clears every slot, of a damaged book too, and both buffers, which may be of any length. It refuses 40 alone, and clears both then too. */
 struct wanlopheng_book wanlopheng_reset(uint32_t *area, size_t area_length, uint32_t *answer, size_t answer_length, uint32_t *work,
                                         size_t work_length);
+/* The state of a sponge of Keccak-256. It goes in and comes back by value: keep what a call gives, and hand it to the next. Every value is
+ * a state, the fill counting modulo 136. */
+struct wanlopheng_sponge {
+    uint64_t lanes[25];
+    size_t fill; /* how many bytes of the next block are in the lanes */
+};
+
+/* A digest. */
+struct wanlopheng_digest {
+    uint8_t bytes[32];
+};
+
+/* Keccak-256 (the original, with padding byte 01, not SHA-3) of bytes that are taken in pieces of any size; the cutting never changes the
+ * digest:
+ *     struct wanlopheng_sponge s = wanlopheng_sponge_new();
+ *     s = wanlopheng_sponge_absorb(s, first, first_length);
+ *     s = wanlopheng_sponge_absorb(s, second, second_length);
+ *     struct wanlopheng_digest d = wanlopheng_sponge_digest(s);
+ * The state is not wiped: less than a block, it holds the bytes taken. */
+struct wanlopheng_sponge wanlopheng_sponge_new(void);
+struct wanlopheng_sponge wanlopheng_sponge_absorb(struct wanlopheng_sponge sponge, const uint8_t *bytes, size_t bytes_length);
+struct wanlopheng_digest wanlopheng_sponge_digest(struct wanlopheng_sponge sponge);
+
+/* Keccak-256 of bytes that stand together. */
+struct wanlopheng_digest wanlopheng_keccak256(const uint8_t *bytes, size_t bytes_length);
+
+/* What the name hash answers: what the name call answers, and 32 bytes, zeros beside a refusal. */
+struct wanlopheng_namehash {
+    struct wanlopheng_name name;
+    struct wanlopheng_digest node;
+};
+
+/* The name hash of EIP-137 of a name's normal form; everything else as for wanlopheng_name. Refusal 4 can also come last, its place an index
+ * of the normal form: with a table that is not sound, that may hold a number that is no Unicode scalar value. The empty normal form has 32
+ * zero bytes. */
+struct wanlopheng_namehash wanlopheng_namehash(const uint32_t *input, size_t input_length, const uint32_t *words, size_t words_length,
+                                               uint32_t setting, uint32_t *answer, size_t answer_length, uint32_t *work,
+                                               size_t work_length);
 
 /* What the calls for NFD and NFC answer. The full decomposition of the text needs room in the answer and in the work area,
  * for NFC too. */

@@ -1,3 +1,4 @@
 pub mod Crossing
 pub mod Trimming
 pub mod Utf8Crossing
+pub mod HashFields

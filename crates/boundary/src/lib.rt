@@ -2,6 +2,7 @@
 // A slice crosses as a pointer and a number of elements, an answer as a struct of plain numbers.
 pub mod emoji;
 pub mod group;
+pub mod hash;
 pub mod trimming;
 pub mod utf8_calls;
 

@@ -19,6 +19,7 @@ pub trait Calls {
     fn name_bytes(&self, bytes: &[u8], lent: Lent) -> Result<Name, Refusal>;
     fn name(&self, input: &[u32], lent: Lent) -> Result<Name, Refusal>;
     fn label(&self, input: &[u32], lent: Lent) -> Result<Label, Refusal>;
+    fn namehash(&self, input: &[u32], lent: Lent) -> Result<[u8; 32], Refusal>;
 }
 
 /// The plain version.
@@ -51,5 +52,10 @@ impl Calls for Plain {
 
     fn label(&self, input: &[u32], lent: Lent) -> Result<Label, Refusal> {
         plain::label_with(input, lent.table, lent.setting, lent.answer, lent.work)
+    }
+
+    fn namehash(&self, input: &[u32], lent: Lent) -> Result<[u8; 32], Refusal> {
+        let (named, hash) = plain::namehash::namehash_with(input, lent.table, lent.setting, lent.answer, lent.work);
+        named.map(|_| hash)
     }
 }

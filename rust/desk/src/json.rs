@@ -3,6 +3,7 @@
 use crate::judged::{Judged, Part};
 use crate::names::Names;
 use crate::options::Input;
+use crate::told::digits;
 use answers::{Kind, Place, Refusal};
 use std::fmt::Write;
 
@@ -75,7 +76,12 @@ pub fn object(line: Option<usize>, given: &Input, judged: &Judged, names: &Names
         }
         Err(found) => format!("\"accepted\":false,{}", refusal(*found)),
     };
-    format!("{{{line}\"input\":{},\"blanks\":[{front},{back}],{found}}}", input(given))
+    let hash = match judged.hash {
+        Some(Ok(node)) => format!(",\"hash\":\"{}\"", digits(&node)),
+        Some(Err(refusal)) => format!(",\"hash\":null,\"hash_refusal\":{}", refusal.number),
+        None => String::new(),
+    };
+    format!("{{{line}\"input\":{},\"blanks\":[{front},{back}],{found}{hash}}}", input(given))
 }
 
 /// The object for a line that holds no numbers.

@@ -11,6 +11,8 @@ pub struct Desk<'a, C> {
     pub table: &'a [u32],
     pub setting: u32,
     pub trim: bool,
+    /// The name hash is asked for too.
+    pub hash: bool,
 }
 
 /// A label of an accepted name.
@@ -30,6 +32,8 @@ pub struct Judged {
     pub blanks: (usize, usize),
     /// The normal form and its labels, or the refusal.
     pub found: Result<(Vec<u32>, Vec<Part>), Refusal>,
+    /// The name hash of an accepted name, or its own refusal, where it is asked for.
+    pub hash: Option<Result<[u8; 32], Refusal>>,
 }
 
 impl<C: Calls> Desk<'_, C> {
@@ -39,7 +43,7 @@ impl<C: Calls> Desk<'_, C> {
         match input {
             Input::Text(bytes) => match self.read(bytes) {
                 Ok(codepoints) => self.judge_codepoints(&codepoints, (!self.trim).then_some(bytes)),
-                Err(refusal) => Judged { codepoints: None, blanks: (0, 0), found: Err(refusal) },
+                Err(refusal) => Judged { codepoints: None, blanks: (0, 0), found: Err(refusal), hash: None },
             },
             Input::Numbers(codepoints) => self.judge_codepoints(codepoints, None),
         }
@@ -57,7 +61,8 @@ impl<C: Calls> Desk<'_, C> {
         let left = if self.trim { self.calls.trim(codepoints) } else { codepoints };
         let front = codepoints.len() - codepoints.iter().skip_while(|c| self.trim && plain::BLANKS.contains(c)).count();
         let found = self.form(left, bytes).map(|form| (form, self.parts(left)));
-        Judged { codepoints: Some(left.to_vec()), blanks: (front, codepoints.len() - front - left.len()), found }
+        let hash = (self.hash && found.is_ok()).then(|| self.hashed(left));
+        Judged { codepoints: Some(left.to_vec()), blanks: (front, codepoints.len() - front - left.len()), found, hash }
     }
 
     fn form(&self, codepoints: &[u32], bytes: Option<&Vec<u8>>) -> Result<Vec<u32>, Refusal> {
@@ -66,6 +71,15 @@ impl<C: Calls> Desk<'_, C> {
             None => self.calls.name(codepoints, lent).map(|name| name.length),
         })
         .map(|(_, form)| form)
+    }
+
+    fn hashed(&self, codepoints: &[u32]) -> Result<[u8; 32], Refusal> {
+        let mut node = [0; 32];
+        let call = |lent: Lent| {
+            node = self.calls.namehash(codepoints, lent)?;
+            Ok(0)
+        };
+        self.with_buffers(call).map(|_| node)
     }
 
     /// The labels of an accepted name: the label call accepts each of them.

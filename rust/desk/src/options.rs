@@ -20,6 +20,7 @@ of each label; or why it is refused, and where. Labels and places count from 0.
   --table FILE    take this table and not data/full.tab, the full-size stand-in
                   (docs/STANDIN.md); the names of its scripts come from the
                   file beside it: X.groups beside X.tab
+  --hash          show the name hash of EIP-137 too
   --json          write an object a line for each name, for programs
   --plain         by the plain Rust version, which needs no proof
   --help          write this text
@@ -51,6 +52,7 @@ pub struct Options {
     pub hex: bool,
     pub trim: bool,
     pub restrict: bool,
+    pub hash: bool,
     pub json: bool,
     pub table: Option<PathBuf>,
     pub source: Source,
@@ -82,8 +84,15 @@ fn one(words: &[OsString], hex: bool) -> Result<Input, String> {
 
 /// Reads the command line; `None` where help is asked for.
 pub fn options(words: impl IntoIterator<Item = OsString>) -> Result<Option<Options>, String> {
-    let mut found =
-        Options { hex: false, trim: false, restrict: false, json: false, table: None, source: Source::Standard };
+    let mut found = Options {
+        hex: false,
+        trim: false,
+        restrict: false,
+        hash: false,
+        json: false,
+        table: None,
+        source: Source::Standard,
+    };
     let (mut file, mut rest) = (None, Vec::new());
     let mut words = words.into_iter();
     while let Some(word) = words.next() {
@@ -93,6 +102,7 @@ pub fn options(words: impl IntoIterator<Item = OsString>) -> Result<Option<Optio
             b"--hex" => found.hex = true,
             b"--trim" => found.trim = true,
             b"--restrict" => found.restrict = true,
+            b"--hash" => found.hash = true,
             b"--json" => found.json = true,
             b"--table" => found.table = Some(value("--table")?),
             b"--file" => file = Some(value("--file")?),

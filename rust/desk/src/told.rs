@@ -26,6 +26,11 @@ pub fn lines(input: &Input, judged: &Judged, names: &Names) -> Vec<String> {
         Ok((form, parts)) => accepted(form, parts, names),
         Err(refusal) => refused(input, judged, *refusal),
     };
+    match judged.hash {
+        Some(Ok(node)) => lines.push(format!("hash {}", digits(&node))),
+        Some(Err(refusal)) => lines.push(format!("no hash: {}", sentence(refusal))),
+        None => {}
+    }
     if judged.blanks != (0, 0) {
         let (front, back) = judged.blanks;
         lines.push(format!("blanks taken off: {front} at the front, {back} at the back"));
@@ -44,6 +49,11 @@ fn accepted(form: &[u32], parts: &[Part], names: &Names) -> Vec<String> {
     let mut lines = vec![format!("ok {}", readable(form)), hex(form)];
     lines.extend(parts.iter().enumerate().map(label));
     lines
+}
+
+/// Bytes in lower-case hexadecimal, as hashes are written.
+pub fn digits(bytes: &[u8]) -> String {
+    bytes.iter().map(|b| format!("{b:02x}")).collect()
 }
 
 /// The refusal without its first word: `5 at codepoint 1: ..`.

@@ -35,6 +35,10 @@ impl Calls for Proved {
     fn label(&self, input: &[u32], lent: Lent) -> Result<answers::Label, Refusal> {
         engine::label(input, lent.table, lent.setting, lent.answer, lent.work).answer()
     }
+
+    fn namehash(&self, input: &[u32], lent: Lent) -> Result<[u8; 32], Refusal> {
+        engine::namehash::namehash(input, lent.table, lent.setting, lent.answer, lent.work).answer()
+    }
 }
 
 fn main() -> ExitCode {

@@ -7,6 +7,8 @@
 
 pub mod book;
 pub mod emoji;
+pub mod keccak;
+pub mod namehash;
 pub mod normal_forms;
 mod raw;
 pub mod utf8;

@@ -67,6 +67,20 @@ fn a_name_as_text() {
     both(&["--", "--a"], 0, "ok --a\n   2D 2D 61\n   label 0: --a, ASCII\n");
 }
 
+/// EIP-137's own example, and its 32 zero bytes for the empty name.
+#[test]
+fn the_hash() {
+    let node = "de9b09fd7c5f901e23a3f19fecc54828e9c848539801e86591bd9801b019f84f";
+    let form = "ok foo.eth\n   66 6F 6F 2E 65 74 68\n   label 0: foo, ASCII\n   label 1: eth, ASCII\n";
+    both(&["--hash", "Foo.ETH"], 0, &format!("{form}   hash {node}\n"));
+    let zeros = "0".repeat(64);
+    both(&["--hash", ""], 0, &format!("ok\n   the empty name, which has no labels\n   hash {zeros}\n"));
+    let (status, json) = normalise(&["--hash", "--json", "Foo.ETH"]);
+    assert!(status == Some(0) && json.ends_with(&format!(",\"hash\":\"{node}\"}}\n")), "{json}");
+    let (status, refused) = normalise(&["--hash", "a..b"]);
+    assert!(status == Some(1) && !refused.contains("hash"), "{refused}");
+}
+
 #[test]
 fn a_name_as_numbers() {
     let form = "ok _$a\n   5F 24 61\n   label 0: _$a, ASCII\n";

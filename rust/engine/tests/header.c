@@ -158,6 +158,29 @@ static int book(void) {
     return 0;
 }
 
+/* Keccak-256 of "abc", whole and in two pieces; the name hash of "eth"; and a fill that counts modulo 136. */
+static int hashes(void) {
+    const uint8_t abc[] = {0x61, 0x62, 0x63};
+    struct wanlopheng_digest d = wanlopheng_keccak256(abc, 3);
+    if (d.bytes[0] != 0x4E || d.bytes[1] != 0x03 || d.bytes[30] != 0x6C || d.bytes[31] != 0x45) return 91;
+    struct wanlopheng_sponge s = wanlopheng_sponge_absorb(wanlopheng_sponge_absorb(wanlopheng_sponge_new(), abc, 2), abc + 2, 1);
+    struct wanlopheng_digest e = wanlopheng_sponge_digest(s);
+    if (s.fill != 3 || s.lanes[0] != 0x636261 || s.lanes[24] != 0) return 92;
+    for (size_t i = 0; i < 32; i++) if (e.bytes[i] != d.bytes[i]) return 93;
+    const uint32_t table[] = {2, 0x65, 0x74, 0, 0, 0, 0, 0, 0, 0, 1, 0, 0, 4, 0, 2, 0x65, 0x74, 0};
+    const uint32_t eth[] = {0x65, 0x74, 0x68}, disallowed[] = {0x40};
+    uint32_t answer[4] = {7, 7, 7, 7}, work[2048] = {7};
+    struct wanlopheng_namehash h = wanlopheng_namehash(eth, 3, table, 19, 0, answer, 4, work, 2048);
+    if (h.name.number != 0 || h.name.place != 0 || h.name.length != 3 || h.name.labels != 1 || answer[2] != 0x68 || answer[3] || work[0]) return 95;
+    if (h.node.bytes[0] != 0x93 || h.node.bytes[1] != 0xCD || h.node.bytes[30] != 0xC4 || h.node.bytes[31] != 0xAE) return 96;
+    h = wanlopheng_namehash(disallowed, 1, table, 19, 0, answer, 4, work, 2048);
+    if (h.name.number != 5 || h.name.place != 0 || h.name.length != 0 || h.name.labels != 0 || answer[0] || h.node.bytes[0]) return 97;
+    s.fill += 136;
+    e = wanlopheng_sponge_digest(s);
+    for (size_t i = 0; i < 32; i++) if (e.bytes[i] != d.bytes[i]) return 94;
+    return 0;
+}
+
 int main(void) {
     const uint8_t file[] = {1, 0, 0, 0, 2, 1, 2, 3, 4, 0, 0, 0, 9};
     uint32_t answer[3] = {7, 7, 7};
@@ -174,6 +197,7 @@ int main(void) {
     int failed = calls();
     if (failed == 0) failed = fields();
     if (failed == 0) failed = emojis();
+    if (failed == 0) failed = hashes();
     if (failed == 0) failed = forms();
     if (failed == 0) failed = texts();
     if (failed == 0) failed = book();

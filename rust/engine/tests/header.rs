@@ -4,6 +4,8 @@
 
 use engine::book::{Account, Found, Told};
 use engine::emoji::Emoji;
+use engine::keccak::{Digest, Sponge};
+use engine::namehash::Namehash;
 use engine::normal_forms::Form;
 use engine::utf8::Utf8;
 use engine::{Checked, Group, Label, Name, Part, Unpacked};
@@ -75,6 +77,9 @@ fn structs_of_c_and_of_the_wrapper() {
         lines!("wanlopheng_account", Account: words),
         lines!("wanlopheng_book", Told: number, place),
         lines!("wanlopheng_found", Found: number, place, account),
+        lines!("wanlopheng_sponge", Sponge: lanes, fill),
+        lines!("wanlopheng_digest", Digest: bytes),
+        lines!("wanlopheng_namehash", Namehash: name, node),
         lines!("wanlopheng_form", Form: number, length),
     ];
     let ran = run(&Path::new(env!("CARGO_MANIFEST_DIR")).join("tests/structs.c"), "structs");

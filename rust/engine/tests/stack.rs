@@ -6,9 +6,11 @@
 mod painted;
 
 use engine::book::{Account, Book, Desk, AREA};
+use engine::namehash::namehash;
 use engine::normal_forms::{nfc, nfd};
 use gen::worst;
 use painted::{run, traces, Traces};
+use std::collections::HashSet;
 use std::hint::black_box;
 
 const KB: usize = 1 << 10;
@@ -43,6 +45,13 @@ const NAME: Call = Call {
 const LABEL: Call = Call {
     what: "label",
     number: |n, t, a, w| engine::label(n, t, 0, a, w).number,
+    due: Limits { words: 16, in_order: 1, stack: 48 * KB },
+    today: Limits { words: 1_024, in_order: 1_024, stack: 152 * KB },
+};
+
+const NAMEHASH: Call = Call {
+    what: "name hash",
+    number: |n, t, a, w| namehash(n, t, 0, a, w).name.number,
     due: Limits { words: 16, in_order: 1, stack: 48 * KB },
     today: Limits { words: 1_024, in_order: 1_024, stack: 152 * KB },
 };
@@ -105,6 +114,9 @@ const ACCOUNT_COPIES: usize = 3;
 
 /// Bytes of stack of unpacking.
 const UNPACK: usize = KB;
+
+/// Bytes of stack of Keccak-256, whole or a piece.
+const KECCAK: usize = 4 * KB;
 
 /// A name, the words of the answer buffer, and the number that is due from the
 /// name call.
@@ -187,7 +199,7 @@ fn keeps(call: &Call, limits: &Limits) {
     let (mut over, mut most) = (Vec::new(), 0);
     for Case { what, name, room, number: due } in cases() {
         let (number, used, Traces { words, in_order }) = left_by(call, &name, room, &full);
-        if call.what == NAME.what {
+        if [NAME.what, NAMEHASH.what].contains(&call.what) {
             assert_eq!(number, due, "{what}");
         }
         println!("{}, {what} ({number}): {words} words, {in_order} in order, {used} bytes", call.what);
@@ -252,6 +264,11 @@ fn name_today() {
 }
 
 #[test]
+fn namehash_today() {
+    keeps(&NAMEHASH, &NAMEHASH.today);
+}
+
+#[test]
 fn label_today() {
     keeps(&LABEL, &LABEL.today);
 }
@@ -308,9 +325,46 @@ fn unpacking() {
 }
 
 #[test]
+fn hashing() {
+    let message = vec![0x61; 1_000];
+    let whole = run(|| {
+        black_box(engine::keccak::keccak256(&message));
+    });
+    let pieces = run(|| {
+        black_box(engine::keccak::Sponge::new().absorb(&message).absorb(&message).digest());
+    });
+    println!("keccak256: {} bytes of stack, in pieces {}", whole.used, pieces.used);
+    assert!(whole.used <= KECCAK && pieces.used <= KECCAK);
+}
+
+/// The lanes of a block that is not full are the bytes of a label themselves;
+/// after the call no nine in order stand on the stack.
+#[test]
+fn namehash_bytes() {
+    let table = standin::full().words;
+    let (mut answer, mut work) = (vec![0; 1_024], vec![0; 16_384]);
+    for length in [14, 100, 300] {
+        let name = letters(length);
+        let label: Vec<u8> = name.iter().map(|&c| c as u8).collect();
+        let parts: HashSet<&[u8]> = label.windows(9).collect();
+        let left = run(|| {
+            black_box(namehash(&name, &table, 0, &mut answer, &mut work));
+        });
+        let bytes: Vec<u8> = left.words.iter().flat_map(|w| w.to_le_bytes()).collect();
+        assert!(!bytes.windows(9).any(|w| parts.contains(w)), "{length} codepoints");
+    }
+}
+
+#[test]
 #[ignore = "local arrays hold text that some paths leave; the look-alike test has large ones"]
 fn name_due() {
     keeps(&NAME, &NAME.due);
+}
+
+#[test]
+#[ignore = "as for the name call"]
+fn namehash_due() {
+    keeps(&NAMEHASH, &NAMEHASH.due);
 }
 
 #[test]

@@ -54,6 +54,14 @@ int main(void) {
     FIELD(wanlopheng_found, number);
     FIELD(wanlopheng_found, place);
     FIELD(wanlopheng_found, account);
+    STRUCT(wanlopheng_sponge);
+    FIELD(wanlopheng_sponge, lanes);
+    FIELD(wanlopheng_sponge, fill);
+    STRUCT(wanlopheng_digest);
+    FIELD(wanlopheng_digest, bytes);
+    STRUCT(wanlopheng_namehash);
+    FIELD(wanlopheng_namehash, name);
+    FIELD(wanlopheng_namehash, node);
     STRUCT(wanlopheng_form);
     FIELD(wanlopheng_form, number);
     FIELD(wanlopheng_form, length);

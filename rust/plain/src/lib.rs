@@ -15,6 +15,8 @@
 //! * `emoji`: which emoji it was.
 //! * `file`: table files.
 //! * `book`: the payee book.
+//! * `keccak`: Keccak-256.
+//! * `namehash`: the name hash of EIP-137.
 //! * `trim`: an input without the blanks at its ends.
 //! * `utf8`: bytes to codepoints and back, and the byte form of the name call.
 
@@ -23,8 +25,10 @@ pub mod calls;
 pub mod emoji;
 pub mod file;
 pub mod groups;
+pub mod keccak;
 pub mod label;
 pub mod lookup;
+pub mod namehash;
 pub mod ranges;
 pub mod soundness;
 pub mod table;
@@ -37,6 +41,7 @@ pub use answers::{Kind, Label, Name, Refusal, Soundness};
 pub use calls::{judge_label, judge_label_with, judge_name, judge_name_with};
 pub use calls::{label, label_with, labels_kinds, name, name_with};
 pub use file::{pack, unpack};
+pub use keccak::keccak256;
 pub use label::LabelForm;
 pub use lookup::{Index, Lookup};
 pub use ranges::Ranges;

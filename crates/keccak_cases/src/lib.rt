@@ -1,0 +1,1 @@
+// Published digests of Keccak-256.

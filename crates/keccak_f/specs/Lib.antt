@@ -1,0 +1,5 @@
+pub mod Lengths
+pub mod Permutation
+pub mod Rows
+pub mod Tables
+pub mod Tabulate

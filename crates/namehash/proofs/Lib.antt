@@ -1,0 +1,4 @@
+pub mod Calling
+pub mod Taking
+pub mod Walk
+pub mod Writing

@@ -1,0 +1,3 @@
+pub mod Namehash
+pub mod Octets
+pub mod Promise
