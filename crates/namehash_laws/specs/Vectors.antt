@@ -1,6 +1,6 @@
--- Nodes that EIP-137 gives, computed by the definition: of the empty name and of "eth". Assumes nothing.
+-- Nodes that EIP-137 gives, computed by the definition: of the empty name and of "eth"; what an answer is split into. Assumes nothing.
 use mathlib.Core.Path.{_≡_, refl}
-use mathlib.Core.List.{[], _∷_}
+use mathlib.Core.List.{[], _∷_, map}
 use lib.ListN.{replicate}
 use Rattle.keccak_f.specs.Permutation.{keccakF}
 use Rattle.keccak.specs.Sponge.{padding, number, xorBlock, absorbBlocks, squeezed, keccak256}
@@ -11,6 +11,11 @@ use Rattle.namehash.specs.Namehash.{node}
 pub empty : node (labelsOf []) ≡ replicate 32 0
 unfolding node labelsOf
 empty = refl
+
+-- the empty answer has no labels, and one that is a stop has two empty ones
+pub split-answers : map labelsOf ([] ∷ (0x2E ∷ []) ∷ []) ≡ [] ∷ ([] ∷ [] ∷ []) ∷ []
+unfolding labelsOf
+split-answers = refl
 
 pub eth : node (labelsOf (0x65 ∷ 0x74 ∷ 0x68 ∷ [])) ≡
     0x93 ∷ 0xcd ∷ 0xeb ∷ 0x70 ∷ 0x8b ∷ 0x75 ∷ 0x45 ∷ 0xdc

@@ -2,7 +2,7 @@
 //! stand-in for rt writes the stamps and archives that rt would.
 
 use std::fs;
-use std::path::{Path, PathBuf};
+use std::path::PathBuf;
 use std::process::{Command, Output};
 
 /// `rt check NAME ..` and `rt staticlib NAME` for crates of one level: a crate
@@ -33,9 +33,16 @@ esac
 /// A repository of two libraries and a program, and the stand-in for rt.
 struct Repository(PathBuf);
 
+impl Drop for Repository {
+    fn drop(&mut self) {
+        let _ = fs::remove_dir_all(&self.0);
+    }
+}
+
 impl Repository {
     fn new(name: &str) -> Repository {
-        let root = Path::new(env!("CARGO_TARGET_TMPDIR")).join("build-sh").join(name);
+        // Not below the repository, where a source of no listed crate is a fault.
+        let root = std::env::temp_dir().join(format!("wanlopheng-build-{}-{name}", std::process::id()));
         let _ = fs::remove_dir_all(&root);
         let repository = Repository(root);
         repository.write("crates.txt", "low:\nother:\nboundary: low\ncounter: low\n");

@@ -46,6 +46,15 @@ impl Buffers {
         Ok(Form { codepoints: &self.answer[..given.length], labels: given.labels })
     }
 
+    /// The normal form of a name, and its hash by EIP-137.
+    pub fn namehash(&mut self, table: Table, name: &str) -> Result<(Form<'_>, [u8; 32]), Refusal> {
+        let length = self.read(name);
+        let given = table.namehash_with(0, &self.input[..length], &mut self.answer, &mut self.work);
+        self.input[..length].fill(0);
+        let (given, node) = given?;
+        Ok((Form { codepoints: &self.answer[..given.length], labels: given.labels }, node))
+    }
+
     /// The normal form of one label, and its kind.
     pub fn label(&mut self, table: Table, label: &str) -> Result<(Form<'_>, Kind), Refusal> {
         let length = self.read(label);

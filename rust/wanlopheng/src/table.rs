@@ -55,6 +55,20 @@ impl<'w> Table<'w> {
         engine::name(input, self.0, setting, answer, work).answer()
     }
 
+    /// The name call with a setting, and the name hash of EIP-137 of its
+    /// normal form. By a table that breaks soundness rule 1, refusal 4 can come
+    /// last, with its index in the normal form.
+    pub fn namehash_with(
+        &self,
+        setting: u32,
+        input: &[u32],
+        answer: &mut [u32],
+        work: &mut [u32],
+    ) -> Result<(Name, [u8; 32]), Refusal> {
+        let given = engine::namehash::namehash(input, self.0, setting, answer, work);
+        Ok((given.name.answer()?, given.answer()?))
+    }
+
     /// The label call on codepoints, the buffers as for a name. A full stop is
     /// refused with 5.
     pub fn label(&self, input: &[u32], answer: &mut [u32], work: &mut [u32]) -> Result<Label, Refusal> {
@@ -77,6 +91,13 @@ impl<'w> Table<'w> {
     pub fn normalise(&self, name: &str) -> Result<alloc::string::String, Refusal> {
         let mut buffers = alloc::boxed::Box::new(crate::Buffers::new());
         Ok(buffers.name(*self, name)?.chars().collect())
+    }
+
+    /// The name hash of EIP-137 of the normal form of a name.
+    #[cfg(feature = "alloc")]
+    pub fn namehash(&self, name: &str) -> Result<[u8; 32], Refusal> {
+        let mut buffers = alloc::boxed::Box::new(crate::Buffers::new());
+        Ok(buffers.namehash(*self, name)?.1)
     }
 
     /// The kind of a label.

@@ -2,6 +2,7 @@
 
 use gen::{Rng, Vocabulary};
 use plain::limits;
+use plain::namehash::namehash_with;
 use wanlopheng::{Buffers, Form, Kind, Refusal, Table};
 
 /// The small table of the cases, lent for one job.
@@ -24,6 +25,9 @@ fn names_and_labels() {
         assert_eq!(table.normalise("Ab.CD").as_deref(), Ok("ab.cd"));
         assert_eq!(table.normalise("a..b"), Err(Refusal::new(6, 1)));
         assert_eq!(table.normalise("ab!"), Err(Refusal::new(5, 2)));
+        assert_eq!(table.namehash("AB"), Ok(plain::namehash::node(&["ab".to_string()])));
+        assert_eq!(table.namehash(""), Ok([0; 32]));
+        assert_eq!(table.namehash("a..b"), Err(Refusal::new(6, 1)));
         assert_eq!(table.kind("AB"), Ok(Kind::Ascii));
         assert_eq!(table.kind("\u{1F4A9}"), Ok(Kind::Emoji));
         assert_eq!(table.kind("\u{1318F}"), Ok(Kind::Group { number: gen::small::EGYPTIAN, restricted: true }));
@@ -63,6 +67,10 @@ fn random_names_as_the_plain_version() {
             let given = buffers.name(Table::new(&made.words), &name);
             let shape = |f: Form| (f.codepoints().to_vec(), f.labels());
             assert_eq!(given.map(shape), due.map(|n| (answer[..n.length].to_vec(), n.labels)), "{name:?}");
+            let (due, node) = namehash_with(&codepoints, &made.words, 0, &mut answer, &mut work);
+            let given = buffers.namehash(Table::new(&made.words), &name);
+            let shape = |(f, node): (Form, [u8; 32])| (f.codepoints().to_vec(), f.labels(), node);
+            assert_eq!(given.map(shape), due.map(|n| (answer[..n.length].to_vec(), n.labels, node)), "{name:?}");
             let due = plain::label(&codepoints, &made.words, &mut answer, &mut work);
             let given = buffers.label(Table::new(&made.words), &name);
             let shape = |(f, kind): (Form, Kind)| (f.codepoints().to_vec(), kind);
