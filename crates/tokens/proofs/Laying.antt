@@ -12,7 +12,7 @@ use Rattle.table.specs.Table.{Table}
 use Rattle.text.specs.Decomposition.{fourRounds}
 use Rattle.text.proofs.Rounds.{rounds-join, rounds-four}
 use Rattle.tokens.specs.declared.cells.Run.{Run}
-use Rattle.tokens.specs.Emoji.{Found}
+use Rattle.finder.specs.Emoji.{Found}
 use Rattle.tokens.specs.Scan as scan
 use Rattle.tokens.specs.Scan.{Step}
 use Rattle.tokens.specs.Tokens.{emoji, text, worked}

@@ -1,5 +1,3 @@
-pub mod Taking
-pub mod Finding
 pub mod Alone
 pub mod Putting
 pub mod Marking

@@ -13,8 +13,8 @@ use Rattle.table.specs.Table.{Table}
 use Rattle.table.specs.Lookup.{inRanges, itemsOf}
 use Rattle.table.specs.Laid.{within}
 use Rattle.tokens.specs.declared.cells.Run.{Run}
-use Rattle.tokens.specs.declared.emoji.Match as match
-use Rattle.tokens.specs.declared.emoji.Match.{Match}
+use Rattle.finder.specs.declared.emoji.Match as match
+use Rattle.finder.specs.declared.emoji.Match.{Match}
 use Rattle.tokens.specs.declared.single.Single as single
 use Rattle.tokens.specs.declared.single.Single.{Single}
 use Rattle.tokens.specs.declared.scan.Which as which
@@ -22,10 +22,10 @@ use Rattle.tokens.specs.declared.scan.Which.{Which}
 use Rattle.tokens.specs.declared.scan.Stepped as stepped
 use Rattle.tokens.specs.declared.scan.Stepped.{Stepped}
 use Rattle.tokens.specs.declared.scan.Scanned as scanned
-use Rattle.tokens.specs.Emoji.{Found, strip, find}
-use Rattle.tokens.specs.Matching.{takes-fits}
-use Rattle.tokens.specs.Finding.{find-best}
-use Rattle.tokens.specs.Match.{SequenceFits, FoundBy}
+use Rattle.finder.specs.Emoji.{Found, strip, find}
+use Rattle.finder.specs.Matching.{takes-fits}
+use Rattle.finder.specs.Finding.{find-best}
+use Rattle.finder.specs.Match.{SequenceFits, FoundBy}
 use Rattle.tokens.specs.Scan.{Step, emoji, text, ignored, disallowed, width, codepointStep, stepAt, stepsFrom, steps, firstDisallowed}
 use Rattle.tokens.specs.Single.{ItemsThere, SingleFound}
 use Rattle.tokens.specs.Tokens.{tokensOf, worked}

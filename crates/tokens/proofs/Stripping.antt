@@ -15,8 +15,8 @@ use Rattle.table.specs.declared.Span.{Span}
 use Rattle.table.specs.Layout.{mostItems}
 use Rattle.table.specs.Laid.{within}
 use Rattle.tokens.specs.declared.cells.Run.{Run}
-use Rattle.tokens.specs.Emoji.{selector, strip}
-use Rattle.tokens.specs.Match.{SequenceFits}
+use Rattle.finder.specs.Emoji.{selector, strip}
+use Rattle.finder.specs.Match.{SequenceFits}
 use Rattle.text.specs.Rounds.{placed, Appended}
 use Rattle.text.proofs.Rounds.{placed-join}
 use Rattle.tokens.specs.Laying.{MarksPut, EmojiPut}

@@ -12,7 +12,7 @@ use Rattle.table.specs.Laid.{within}
 use Rattle.text.specs.Decomposition.{fourRounds}
 use Rattle.text.specs.Rounds.{placed}
 use Rattle.tokens.specs.declared.cells.Run.{Run}
-use Rattle.tokens.specs.Emoji.{Found, strip}
+use Rattle.finder.specs.Emoji.{Found, strip}
 use Rattle.tokens.specs.Scan.{Step, emoji, text, ignored, disallowed}
 
 -- n marks: one, and then others

@@ -12,8 +12,8 @@ ghost use Rattle.limits.specs.Limits.{mostWorked, leastWork};
 ghost use Rattle.table.specs.Layout.{mostItems};
 ghost use Rattle.table.specs.Laid.{Laid, theTable, within};
 ghost use Rattle.text.specs.Rounds.{Appended};
-ghost use Rattle.tokens.specs.Emoji.{strip};
-ghost use Rattle.tokens.specs.Match.{SequenceFits};
+ghost use Rattle.finder.specs.Emoji.{strip};
+ghost use Rattle.finder.specs.Match.{SequenceFits};
 ghost use Rattle.tokens.specs.Single.{ItemsThere};
 ghost use Rattle.tokens.specs.Laying.{nextMark, MarksPut, EmojiPut, TextPut, ItemsPut};
 

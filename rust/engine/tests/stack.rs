@@ -33,31 +33,18 @@ struct Call {
     limits: Limits,
 }
 
-/// The stack is nearly all of the look-alike test: 48 KB are due.
-const NAME: Call = Call {
-    what: "name",
-    number: |n, t, a, w| engine::name(n, t, 0, a, w).number,
-    due: Limits { words: 16, in_order: 1, stack: 48 * KB },
-    today: Limits { words: 1_024, in_order: 1_024, stack: 48 * KB },
-    limits: Limits { words: 16, in_order: 1, stack: 152 * KB },
-};
+/// Words of a text, its order and the stack, on every path of a call that takes
+/// a name.
+const OF_A_NAME: Limits = Limits { words: 16, in_order: 1, stack: 48 * KB };
 
-const LABEL: Call = Call {
-    what: "label",
-    number: |n, t, a, w| engine::label(n, t, 0, a, w).number,
-    due: Limits { words: 16, in_order: 1, stack: 48 * KB },
-    today: Limits { words: 1_024, in_order: 1_024, stack: 48 * KB },
-};
+const NAME: Call =
+    Call { what: "name", number: |n, t, a, w| engine::name(n, t, 0, a, w).number, limits: OF_A_NAME };
 
-const NAMEHASH: Call = Call {
-    what: "name hash",
-    number: |n, t, a, w| namehash(n, t, 0, a, w).name.number,
-    due: Limits { words: 16, in_order: 1, stack: 48 * KB },
-    today: Limits { words: 1_024, in_order: 1_024, stack: 152 * KB },
-    limits: Limits { words: 16, in_order: 1, stack: 152 * KB },
-};
+const LABEL: Call =
+    Call { what: "label", number: |n, t, a, w| engine::label(n, t, 0, a, w).number, limits: OF_A_NAME };
 
-const NAME_DUE: usize = 48 * KB;
+const NAMEHASH: Call =
+    Call { what: "name hash", number: |n, t, a, w| namehash(n, t, 0, a, w).name.number, limits: OF_A_NAME };
 
 const NFD: Call = Call {
     what: "nfd",
@@ -106,9 +93,6 @@ const ACCOUNT: Account = Account {
     words: [0xACC0_0001, 0xACC1_0003, 0xACC2_0005, 0xACC3_0007, 0xACC4_0009, 0xACC5_000B, 0xACC6_000D, 0xACC7_000F],
 };
 
-/// Bytes of stack of the soundness check: due, and kept to today.
-const SOUNDNESS_DUE: usize = 64 * KB;
-const SOUNDNESS_TODAY: usize = 424 * KB;
 /// Bytes of stack of the soundness check.
 const SOUNDNESS: usize = 64 * KB;
 
@@ -271,13 +255,11 @@ fn name() {
 }
 
 #[test]
-fn namehash_today() {
-    keeps(&NAMEHASH, &NAMEHASH.today);
+fn name_hash() {
+    keeps(&NAMEHASH);
 }
 
 #[test]
-fn label_today() {
-    keeps(&LABEL, &LABEL.today);
 fn label() {
     keeps(&LABEL);
 }
@@ -289,9 +271,9 @@ fn normal_forms() {
 }
 
 #[test]
-fn book_today() {
+fn book() {
     for call in &BOOK {
-        keeps(call, &call.today);
+        keeps(call);
     }
 }
 
@@ -318,8 +300,6 @@ fn accounts() {
 }
 
 #[test]
-fn soundness_today() {
-    assert!(soundness_stack() <= SOUNDNESS_TODAY);
 fn soundness() {
     assert!(soundness_stack() <= SOUNDNESS);
 }
@@ -364,38 +344,4 @@ fn namehash_bytes() {
         let bytes: Vec<u8> = left.words.iter().flat_map(|w| w.to_le_bytes()).collect();
         assert!(!bytes.windows(9).any(|w| parts.contains(w)), "{length} codepoints");
     }
-}
-
-#[test]
-#[ignore = "local arrays hold text that some paths leave; the look-alike test has large ones"]
-fn name_due() {
-    keeps(&NAME, &NAME.due);
-}
-
-#[test]
-#[ignore = "as for the name call"]
-fn namehash_due() {
-    keeps(&NAMEHASH, &NAMEHASH.due);
-}
-
-#[test]
-#[ignore = "as for the name call"]
-fn label_due() {
-    keeps(&LABEL, &LABEL.due);
-}
-
-#[test]
-#[ignore = "the decomposition of one codepoint is handed on by value"]
-fn normal_forms_due() {
-    keeps(&NFD, &NFD.due);
-    keeps(&NFC, &NFC.due);
-}
-
-#[test]
-#[ignore = "sets of codepoints stand in local arrays"]
-fn soundness_due() {
-    assert!(soundness_stack() <= SOUNDNESS_DUE);
-#[ignore = "the look-alike test has large arrays"]
-fn name_and_label_due() {
-    assert!(keeps(&NAME).max(keeps(&LABEL)) <= NAME_DUE);
 }

@@ -9,7 +9,7 @@ use lib.ListN.{length, getD}
 use lib.Dec.{leb, ltb}
 use borrow.Author.Tests.{leb-true, leb-false, ltb-true, ltb-false, lt-ltb, le-ltb}
 use Rattle.lists.specs.Lists.{onSome}
-use Rattle.tokens.specs.Emoji.{strip, Taken, takes, Found, found, longer, findFrom, find}
+use Rattle.finder.specs.Emoji.{strip, Taken, takes, Found, found, longer, findFrom, find}
 
 -- no record takes a codepoint
 abbrev pub NoMatch : List (List ℕ) → List ℕ → Type 0

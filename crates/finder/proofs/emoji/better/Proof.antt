@@ -1,8 +1,8 @@
 -- `tokens::emoji::better` meets its contract: the second match counts only where it takes more. Assumes nothing.
 use borrow.Author.Needs.{needs}
 use borrow.Author.Tests.{lt-ltb, le-ltb}
-use Rattle.tokens.proofs.emoji.better.Tie as tie
-use Rattle.tokens.proofs.emoji.better.Statement.{statement}
+use Rattle.finder.proofs.emoji.better.Tie as tie
+use Rattle.finder.proofs.emoji.better.Statement.{statement}
 
 enum-known-a : tie.Need-enum-known-a
 enum-known-a c = search needs

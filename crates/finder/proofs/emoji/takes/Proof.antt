@@ -5,9 +5,9 @@ use mathlib.Core.Logic.{⊎-elim}
 use lib.ListN.{length}
 use borrow.Author.Needs.{needs}
 use borrow.Author.Tests.{eqb-true, eqb-false}
-use Rattle.tokens.proofs.Taking.{Walk, walk-start, more-selector, more-same, more-left, walk-fails, walk-end}
-use Rattle.tokens.proofs.emoji.takes.Tie as tie
-use Rattle.tokens.proofs.emoji.takes.Statement.{statement}
+use Rattle.finder.proofs.Taking.{Walk, walk-start, more-selector, more-same, more-left, walk-fails, walk-end}
+use Rattle.finder.proofs.emoji.takes.Tie as tie
+use Rattle.finder.proofs.emoji.takes.Statement.{statement}
 
 abbrev Inv-loop : tie.InvT-loop
 Inv-loop seq rest i₀ at₀ selectors₀ i at selectors = Walk seq rest i at selectors

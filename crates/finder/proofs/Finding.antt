@@ -19,14 +19,14 @@ use Rattle.table.specs.Part.{SequencesAt, SequenceHere, countedAt}
 use Rattle.table.proofs.SectionLaws.{laid-fits, laid-reads}
 use Rattle.table.proofs.Lookups.{behind, within-within, behind-fits}
 use Rattle.table.proofs.Records.{sequences-step, sequences-end, records-start, sequence-items}
-use Rattle.tokens.specs.declared.emoji.Taking as taking
-use Rattle.tokens.specs.declared.emoji.Taking.{Taking}
-use Rattle.tokens.specs.declared.emoji.Match as match
-use Rattle.tokens.specs.declared.emoji.Match.{Match}
-use Rattle.tokens.specs.Emoji.{Found, takes, strip, found, longer, findFrom, find}
-use Rattle.tokens.specs.Matching.{takes-fits}
-use Rattle.tokens.specs.Finding.{find-best, longer-assoc}
-use Rattle.tokens.specs.Match.{takenOf, foundOf, matchOf, betterOf, onward, SequenceFits, MatchFits, MatchTakes, FoundBy, Sequences, sequencesOf}
+use Rattle.finder.specs.declared.emoji.Taking as taking
+use Rattle.finder.specs.declared.emoji.Taking.{Taking}
+use Rattle.finder.specs.declared.emoji.Match as match
+use Rattle.finder.specs.declared.emoji.Match.{Match}
+use Rattle.finder.specs.Emoji.{Found, takes, strip, found, longer, findFrom, find}
+use Rattle.finder.specs.Matching.{takes-fits}
+use Rattle.finder.specs.Finding.{find-best, longer-assoc}
+use Rattle.finder.specs.Match.{takenOf, foundOf, matchOf, betterOf, onward, SequenceFits, MatchFits, MatchTakes, FoundBy, Sequences, sequencesOf}
 
 -- the match of a record, as the definition has it
 match-found : (ws : List ℕ) (n : ℕ) (s : Span) (k : Taking) → foundOf ws (matchOf n s k) ≡ onSome (takenOf k) (found n (within s ws)) none

@@ -13,7 +13,7 @@ use lib.Dec.{eqb, leb}
 use borrow.Author.Tests.{eq-eqb, ne-eqb, leb-true, leb-false}
 use Rattle.lists.specs.Lists.{isSome}
 use Rattle.table.proofs.Lookups.{false-true}
-use Rattle.tokens.specs.Emoji.{selector, Taken, oneMore, oneSelector, takes}
+use Rattle.finder.specs.Emoji.{selector, Taken, oneMore, oneSelector, takes}
 
 -- so many codepoints and FE0F more
 abbrev ahead : ℕ → ℕ → Option Taken → Option Taken

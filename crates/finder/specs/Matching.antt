@@ -9,7 +9,7 @@ use mathlib.Core.Option.{Option, none, some, Option·map, map-eq-some-iff}
 use lib.ListN.{length, take}
 use lib.Dec.{eqb}
 use borrow.Author.Tests.{eqb-true, eqb-false, eq-eqb, ne-eqb}
-use Rattle.tokens.specs.Emoji.{selector, strip, Taken, oneMore, oneSelector, takes}
+use Rattle.finder.specs.Emoji.{selector, strip, Taken, oneMore, oneSelector, takes}
 
 -- One way to take a sequence from the start of an input: n codepoints, s of them FE0F. A codepoint of the sequence is taken where the
 -- input has it, and an FE0F of the sequence may be left out.

@@ -1,9 +1,9 @@
 -- `tokens::emoji::misses` meets its contract. Assumes nothing.
 use native.Mathlib.Omega.{arith}
 use borrow.Author.Needs.{needs}
-use Rattle.tokens.proofs.Taking.{misses-selector, misses-empty, misses-first}
-use Rattle.tokens.proofs.emoji.misses.Statement.{statement}
-use Rattle.tokens.proofs.emoji.misses.Tie as tie
+use Rattle.finder.proofs.Taking.{misses-selector, misses-empty, misses-first}
+use Rattle.finder.proofs.emoji.misses.Statement.{statement}
+use Rattle.finder.proofs.emoji.misses.Tie as tie
 
 returns : tie.Need-returns
 returns c = misses-selector _ _ (c .if1 .taken)

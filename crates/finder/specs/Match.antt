@@ -9,11 +9,11 @@ use lib.Dec.{eqb, ltb}
 use Rattle.table.specs.declared.Span.{Span}
 use Rattle.table.specs.Layout.{mostItems, sequences}
 use Rattle.table.specs.Laid.{within}
-use Rattle.tokens.specs.declared.emoji.Taking as taking
-use Rattle.tokens.specs.declared.emoji.Taking.{Taking}
-use Rattle.tokens.specs.declared.emoji.Match as match
-use Rattle.tokens.specs.declared.emoji.Match.{Match}
-use Rattle.tokens.specs.Emoji.{Taken, Found, strip}
+use Rattle.finder.specs.declared.emoji.Taking as taking
+use Rattle.finder.specs.declared.emoji.Taking.{Taking}
+use Rattle.finder.specs.declared.emoji.Match as match
+use Rattle.finder.specs.declared.emoji.Match.{Match}
+use Rattle.finder.specs.Emoji.{Taken, Found, strip}
 
 -- what a sequence takes
 abbrev pub takenOf : Taking → Option Taken

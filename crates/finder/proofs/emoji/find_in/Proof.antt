@@ -4,10 +4,10 @@ use native.Mathlib.Omega.{arith}
 use mathlib.Core.Path.{sym, _∙_}
 use lib.ListN.{length}
 use borrow.Author.Needs.{needs}
-use Rattle.tokens.proofs.Finding.{Finder, finder-start, finder-here, finder-past, finder-more, finder-end}
-use Rattle.tokens.proofs.Taking.{takes-none}
-use Rattle.tokens.proofs.emoji.find_in.Statement.{statement}
-use Rattle.tokens.proofs.emoji.find_in.Tie as tie
+use Rattle.finder.proofs.Finding.{Finder, finder-start, finder-here, finder-past, finder-more, finder-end}
+use Rattle.finder.proofs.Taking.{takes-none}
+use Rattle.finder.proofs.emoji.find_in.Statement.{statement}
+use Rattle.finder.proofs.emoji.find_in.Tie as tie
 
 abbrev Inv-loop : tie.InvT-loop
 Inv-loop part rest best₀ number₀ at₀ best number at = Finder part rest best number at

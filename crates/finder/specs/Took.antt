@@ -9,9 +9,9 @@ use lib.ListN.{length, getD, take}
 use lib.Seq.{length-take-le}
 use lib.Dec.{eqb}
 use Rattle.lists.specs.Lists.{countWith}
-use Rattle.tokens.specs.Emoji.{selector, strip, Found, find}
-use Rattle.tokens.specs.Matching.{takes-fits}
-use Rattle.tokens.specs.Finding.{find-best}
+use Rattle.finder.specs.Emoji.{selector, strip, Found, find}
+use Rattle.finder.specs.Matching.{takes-fits}
+use Rattle.finder.specs.Finding.{find-best}
 
 -- the FE0F of a text
 abbrev pub selectorsIn : List ℕ → ℕ

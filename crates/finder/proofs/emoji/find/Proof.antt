@@ -2,9 +2,9 @@
 use native.Mathlib.Omega.{arith}
 use borrow.Author.Needs.{needs}
 use Rattle.table.proofs.SectionLaws.{laid-fits}
-use Rattle.tokens.proofs.Finding.{emoji-sequences, found-at, found-nothing}
-use Rattle.tokens.proofs.emoji.find.Statement.{statement}
-use Rattle.tokens.proofs.emoji.find.Tie as tie
+use Rattle.finder.proofs.Finding.{emoji-sequences, found-at, found-nothing}
+use Rattle.finder.proofs.emoji.find.Statement.{statement}
+use Rattle.finder.proofs.emoji.find.Tie as tie
 
 mul-find-in : tie.Need-mul-find-in
 mul-find-in c =

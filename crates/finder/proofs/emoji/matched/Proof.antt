@@ -1,8 +1,8 @@
 -- `tokens::emoji::matched` meets its contract: what takes no codepoint is no match. Assumes nothing.
 use borrow.Author.Tests.{ne-eqb}
 use borrow.Author.Needs.{needs}
-use Rattle.tokens.proofs.emoji.matched.Tie as tie
-use Rattle.tokens.proofs.emoji.matched.Statement.{statement}
+use Rattle.finder.proofs.emoji.matched.Tie as tie
+use Rattle.finder.proofs.emoji.matched.Statement.{statement}
 
 enum-known-taking : tie.Need-enum-known-taking
 enum-known-taking c = search needs

@@ -7,8 +7,8 @@ ghost use mathlib.Core.Bool.{not};
 ghost use mathlib.Core.List.{[], _∷_};
 ghost use Rattle.lists.specs.Lists.{isSome};
 ghost use Rattle.table.specs.Laid.{Laid, theTable};
-ghost use Rattle.tokens.specs.Emoji.{takes, find};
-ghost use Rattle.tokens.specs.Match.{takenOf, matchOf, betterOf, FoundBy, Sequences, sequencesOf};
+ghost use Rattle.finder.specs.Emoji.{takes, find};
+ghost use Rattle.finder.specs.Match.{takenOf, matchOf, betterOf, FoundBy, Sequences, sequencesOf};
 
 // What a sequence takes of an input: so many codepoints, with so many FE0F among them.
 pub enum Taking {
