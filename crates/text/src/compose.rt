@@ -152,8 +152,9 @@ fn table_pair(words: &[u32], ix: Sections, unpaired: &mut [u32], a: u32, b: u32)
     pair_in(words, ix, unpaired, &words[from..to], a, b)
 }
 
-// What a and b compose to: Hangul first, then the table's pairs.
-fn pair_of(words: &[u32], ix: Sections, unpaired: &mut [u32], a: u32, b: u32) -> Composed
+// What a and b compose to: Hangul first, then the table's pairs. The two do not stand side by side among the arguments: what is spilled of them on
+// the stack would.
+fn pair_of(words: &[u32], ix: Sections, a: u32, unpaired: &mut [u32], b: u32) -> Composed
     requires { ⌜ Laid (now words) ix ⌝ }
     requires { ⌜ Unpaired (theTable (now words)) (now unpaired) ⌝ }
     ensures { λ r. ⌜ PairFound (theTable (now (words .entry))) (now (unpaired .exit)) (pair (theTable (now (words .entry))) a b) r ⌝ }
@@ -179,10 +180,10 @@ fn taken_up(
     ensures { λ r. ⌜ PairFound (theTable (now (words .entry))) (now (unpaired .exit)) (cond (free last class) (pair (theTable (now (words .entry))) s c) none) r ⌝ }
 {
     if last == 0 {
-        return pair_of(words, ix, unpaired, s, c);
+        return pair_of(words, ix, s, unpaired, c);
     }
     if last < class {
-        return pair_of(words, ix, unpaired, s, c);
+        return pair_of(words, ix, s, unpaired, c);
     }
     Composed::Nothing
 }
