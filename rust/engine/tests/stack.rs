@@ -9,7 +9,7 @@ use engine::book::{Account, Book, Desk, AREA};
 use engine::namehash::namehash;
 use engine::normal_forms::{nfc, nfd};
 use gen::worst;
-use painted::{run, traces, Traces};
+use painted::{run, traces, Left, Traces};
 use std::collections::HashSet;
 use std::hint::black_box;
 
@@ -25,67 +25,82 @@ struct Limits {
     stack: usize,
 }
 
-/// A call that is lent a text, a table and both buffers, and answers a number;
-/// and what it has to keep to.
+/// What a call is handed: the name, as UTF-8 too where it has one, a table, the
+/// setting, both buffers, and the area of a payee book.
+struct Lent<'a> {
+    name: &'a [u32],
+    bytes: &'a [u8],
+    table: &'a [u32],
+    setting: u32,
+    answer: &'a mut [u32],
+    work: &'a mut [u32],
+    area: &'a mut [u32],
+}
+
+impl Lent<'_> {
+    /// One call on the book.
+    fn book(&mut self, call: fn(&mut Book, &[u32], &mut Desk) -> u32) -> u32 {
+        let mut desk = Desk { table: self.table, setting: self.setting, answer: self.answer, work: self.work };
+        call(&mut Book::new(self.area), self.name, &mut desk)
+    }
+}
+
+/// A call that answers a number, and what it has to keep to.
 struct Call {
     what: &'static str,
-    number: fn(&[u32], &[u32], &mut [u32], &mut [u32]) -> u32,
+    number: fn(&mut Lent) -> u32,
     limits: Limits,
 }
 
-/// Words of a text, its order and the stack, on every path of a call that takes
-/// a name.
-const OF_A_NAME: Limits = Limits { words: 16, in_order: 1, stack: 48 * KB };
+/// At most single words of a text, never two neighbours in order, and so much
+/// stack.
+const fn within(stack: usize) -> Limits {
+    Limits { words: 16, in_order: 1, stack }
+}
 
-const NAME: Call =
-    Call { what: "name", number: |n, t, a, w| engine::name(n, t, 0, a, w).number, limits: OF_A_NAME };
-
-const LABEL: Call =
-    Call { what: "label", number: |n, t, a, w| engine::label(n, t, 0, a, w).number, limits: OF_A_NAME };
-
-const NAMEHASH: Call =
-    Call { what: "name hash", number: |n, t, a, w| namehash(n, t, 0, a, w).name.number, limits: OF_A_NAME };
-
-const NFD: Call = Call {
-    what: "nfd",
-    number: |n, t, a, w| nfd(n, t, a, w).number,
-    limits: Limits { words: 16, in_order: 1, stack: 4 * KB },
+const NAME: Call = Call {
+    what: "name",
+    number: |l| engine::name(l.name, l.table, l.setting, l.answer, l.work).number,
+    limits: within(48 * KB),
 };
+
+const LABEL: Call = Call {
+    what: "label",
+    number: |l| engine::label(l.name, l.table, l.setting, l.answer, l.work).number,
+    limits: within(48 * KB),
+};
+
+const NAMEHASH: Call = Call {
+    what: "name hash",
+    number: |l| namehash(l.name, l.table, l.setting, l.answer, l.work).name.number,
+    limits: within(48 * KB),
+};
+
+/// The codepoints take an array beside what the name call uses.
+const BYTES: Call = Call {
+    what: "name from bytes",
+    number: |l| engine::utf8::name(l.bytes, l.table, l.setting, l.answer, l.work).number,
+    limits: within(48 * KB + 4 * (plain::limits::INPUT + 1) + 256),
+};
+
+const NFD: Call =
+    Call { what: "nfd", number: |l| nfd(l.name, l.table, l.answer, l.work).number, limits: within(4 * KB) };
 
 /// A bit for each record of the table takes 5.5 KB.
-const NFC: Call = Call {
-    what: "nfc",
-    number: |n, t, a, w| nfc(n, t, a, w).number,
-    limits: Limits { words: 16, in_order: 1, stack: 8 * KB },
-};
+const NFC: Call =
+    Call { what: "nfc", number: |l| nfc(l.name, l.table, l.answer, l.work).number, limits: within(8 * KB) };
 
-/// The calls of the payee book that take a name, on an empty book: as the name
-/// call.
+/// Calls that only look at a text.
+const LOOKS: [Call; 2] = [
+    Call { what: "group", number: |l| engine::group(l.name, l.table).number, limits: within(4 * KB) },
+    Call { what: "emoji", number: |l| engine::emoji::emoji(l.name, l.table).number, limits: within(4 * KB) },
+];
+
+/// The calls of the payee book that take a name: as the name call.
 const BOOK: [Call; 3] = [
-    Call {
-        what: "save",
-        number: |n, t, a, w| {
-            let mut area = vec![0; AREA];
-            Book::new(&mut area).save(n, ACCOUNT, &mut Desk { table: t, setting: 0, answer: a, work: w }).number
-        },
-        ..NAME
-    },
-    Call {
-        what: "find",
-        number: |n, t, a, w| {
-            let mut area = vec![0; AREA];
-            Book::new(&mut area).find(n, &mut Desk { table: t, setting: 0, answer: a, work: w }).number
-        },
-        ..NAME
-    },
-    Call {
-        what: "forget",
-        number: |n, t, a, w| {
-            let mut area = vec![0; AREA];
-            Book::new(&mut area).forget(n, &mut Desk { table: t, setting: 0, answer: a, work: w }).number
-        },
-        ..NAME
-    },
+    Call { what: "save", number: |l| l.book(|b, n, d| b.save(n, ACCOUNT, d).number), limits: within(48 * KB) },
+    Call { what: "find", number: |l| l.book(|b, n, d| b.find(n, d).number), limits: within(48 * KB) },
+    Call { what: "forget", number: |l| l.book(|b, n, d| b.forget(n, d).number), limits: within(48 * KB) },
 ];
 
 /// Eight words that nothing else is.
@@ -105,11 +120,12 @@ const UNPACK: usize = KB;
 /// Bytes of stack of Keccak-256, whole or a piece.
 const KECCAK: usize = 4 * KB;
 
-/// A name, the words of the answer buffer, and the number that is due from the
-/// name call.
+/// A name, the setting, the words of the answer buffer, and the number that is
+/// due from the name call.
 struct Case {
     what: &'static str,
     name: Vec<u32>,
+    setting: u32,
     room: usize,
     number: u32,
 }
@@ -130,7 +146,7 @@ fn letters(count: usize) -> Vec<u32> {
 }
 
 fn cases() -> Vec<Case> {
-    let case = |what, number, name: &[&[u32]]| Case { what, name: name.concat(), room: 1_024, number };
+    let case = |what, number, name: &[&[u32]]| Case { what, name: name.concat(), setting: 0, room: 1_024, number };
     let capitals: Vec<u32> = letters(40).iter().map(|c| c - 0x20).collect();
     let cyrillic = [0x43C, 0x438, 0x440, 0x436, 0x44B, 0x448];
     let family = [0x1F468, 0x200D, 0x2764, 0xFE0F, 0x200D, 0x1F468];
@@ -163,49 +179,70 @@ fn cases() -> Vec<Case> {
         case("14, two codepoints", 14, &[&[0x30, 0x445]]),
         case("14, 300 codepoints", 14, &[&[0x445, 0x430, 0x440, 0x435, 0x43E, 0x441].repeat(50)]),
         Case { room: 100, ..case("15", 15, &[&letters(300)]) },
+        Case { setting: 1, ..case("17, behind a label", 17, &[&cyrillic, &stop, &row(0x13000, 12)]) },
     ]
 }
 
 /// What a call on a name leaves: the number that it answers, the bytes that it
 /// uses, and what stays of the name, of its normal form or of its NFD, which
 /// are worked with too.
-fn left_by(call: &Call, name: &[u32], room: usize, table: &[u32]) -> (u32, usize, Traces) {
-    let (mut answer, mut work) = (vec![0; room], vec![0; 16_384]);
+fn left_by(call: &Call, case: &Case, table: &[u32], area: &mut [u32]) -> (u32, usize, Traces) {
+    let name = &case.name[..];
+    let (mut answer, mut work) = (vec![0; case.room], vec![0; 16_384]);
+    let bytes = utf8(name);
+    let mut lent =
+        Lent { name, bytes: &bytes, table, setting: case.setting, answer: &mut answer, work: &mut work, area };
     let mut number = 0;
-    let left = run(|| number = black_box((call.number)(name, table, &mut answer, &mut work)));
+    let left = run(|| number = black_box((call.number)(&mut lent)));
     let form = answer.split(|&c| c == 0).next().unwrap_or_default();
     let mut decomposed = vec![0; 4_096];
     let length = nfd(name, table, &mut decomposed, &mut work).length;
     let stay = [name, form, &decomposed[..length]].map(|text| traces(&left, text));
     let most = |of: fn(&Traces) -> usize| stay.iter().map(of).max().unwrap_or(0);
+    for bytes in [bytes, utf8(form)] {
+        assert!(!bytes_stay(&left, &bytes), "{}, {}: bytes of the name stay", call.what, case.what);
+    }
     (number, left.used, Traces { words: most(|t| t.words), in_order: most(|t| t.in_order) })
 }
 
+/// The name as UTF-8; numbers that are no scalar values as a byte that is none.
+fn utf8(name: &[u32]) -> Vec<u8> {
+    name.iter().flat_map(|&c| plain::utf8::encode(&[c]).unwrap_or(vec![0xFF])).collect()
+}
+
+/// Whether nine bytes of these stand there in order: one word more than a
+/// register holds.
+fn bytes_stay(left: &Left, bytes: &[u8]) -> bool {
+    let parts: HashSet<&[u8]> = bytes.windows(9).collect();
+    let all: Vec<u8> = left.words.iter().flat_map(|w| w.to_le_bytes()).collect();
+    all.windows(9).any(|w| parts.contains(w))
+}
+
 /// Each case within the limits of the call, on the full-size table; of the
-/// stack alone also tables made to reach far into 13 and 14. Answers the most
-/// bytes of stack.
-fn keeps(call: &Call) -> usize {
+/// stack alone also tables made to reach far into 13 and 14. The book is empty.
+fn keeps(call: &Call) {
     let full = standin::full().words;
     let (mut over, mut most) = (Vec::new(), 0);
-    for Case { what, name, room, number: due } in cases() {
-        let (number, used, Traces { words, in_order }) = left_by(call, &name, room, &full);
+    for case in cases() {
+        let (number, used, Traces { words, in_order }) = left_by(call, &case, &full, &mut vec![0; AREA]);
         if [NAME.what, NAMEHASH.what].contains(&call.what) {
-            assert_eq!(number, due, "{what}");
+            assert_eq!(number, case.number, "{}", case.what);
         }
-        println!("{}, {what} ({number}): {words} words, {in_order} in order, {used} bytes", call.what);
+        println!("{}, {} ({number}): {words} words, {in_order} in order, {used} bytes", call.what, case.what);
         if words > call.limits.words || in_order > call.limits.in_order {
-            over.push(what);
+            over.push(case.what);
         }
         most = most.max(used);
     }
     let deep = worst::deep_text(vec![(worst::DEEP_TEXT, worst::DEEP_TEXT + 8)], 230).to_words();
     let wide = worst::wide_whole().to_words();
-    most = most.max(left_by(call, &[worst::DEEP_TEXT; 4], 1_024, &deep).1);
-    most = most.max(left_by(call, &worst::confused(16), 1_024, &wide).1);
+    for (name, table) in [(vec![worst::DEEP_TEXT; 4], deep), (worst::confused(16), wide)] {
+        let case = Case { what: "far", name, setting: 0, room: 1_024, number: 0 };
+        most = most.max(left_by(call, &case, &table, &mut vec![0; AREA]).1);
+    }
     println!("{}: {most} bytes of stack", call.what);
     assert!(over.is_empty(), "{}: text stays after {over:?}", call.what);
     assert!(most <= call.limits.stack, "{}: {most} bytes of stack", call.what);
-    most
 }
 
 fn soundness_stack() -> usize {
@@ -260,6 +297,16 @@ fn name_hash() {
 }
 
 #[test]
+fn name_from_bytes() {
+    keeps(&BYTES);
+}
+
+#[test]
+fn group_and_emoji() {
+    LOOKS.iter().for_each(keeps);
+}
+
+#[test]
 fn label() {
     keeps(&LABEL);
 }
@@ -272,8 +319,33 @@ fn normal_forms() {
 
 #[test]
 fn book() {
-    for call in &BOOK {
-        keeps(call);
+    BOOK.iter().for_each(keeps);
+}
+
+/// The book on a name that is filed, and on one more where it is full: nothing
+/// of the name, nor of the names that are filed.
+#[test]
+fn filed_names_and_a_full_book() {
+    let full = standin::full().words;
+    let case = |name: Vec<u32>| Case { what: "filed", name, setting: 0, room: 1_024, number: 0 };
+    let payees: Vec<Case> = (0..64).map(|i| case(row(0x4E00 + 100 * i, 20))).collect();
+    let mut area = vec![0; AREA];
+    for payee in &payees {
+        assert_eq!(left_by(&BOOK[0], payee, &full, &mut area).0, 0);
+    }
+    let more = case(row(0x9000, 30));
+    for (call, case, due) in [
+        (&BOOK[0], &more, 45),
+        (&BOOK[1], &more, 44),
+        (&BOOK[2], &more, 44),
+        (&BOOK[0], &payees[40], 0),
+        (&BOOK[1], &payees[40], 0),
+        (&BOOK[2], &payees[40], 0),
+    ] {
+        let (number, used, Traces { words, in_order }) = left_by(call, case, &full, &mut area);
+        println!("{}, {number}: {words} words, {in_order} in order, {used} bytes", call.what);
+        assert_eq!(number, due, "{}", call.what);
+        assert!(words <= call.limits.words && in_order <= call.limits.in_order && used <= call.limits.stack);
     }
 }
 
@@ -326,22 +398,4 @@ fn hashing() {
     });
     println!("keccak256: {} bytes of stack, in pieces {}", whole.used, pieces.used);
     assert!(whole.used <= KECCAK && pieces.used <= KECCAK);
-}
-
-/// The lanes of a block that is not full are the bytes of a label themselves;
-/// after the call no nine in order stand on the stack.
-#[test]
-fn namehash_bytes() {
-    let table = standin::full().words;
-    let (mut answer, mut work) = (vec![0; 1_024], vec![0; 16_384]);
-    for length in [14, 100, 300] {
-        let name = letters(length);
-        let label: Vec<u8> = name.iter().map(|&c| c as u8).collect();
-        let parts: HashSet<&[u8]> = label.windows(9).collect();
-        let left = run(|| {
-            black_box(namehash(&name, &table, 0, &mut answer, &mut work));
-        });
-        let bytes: Vec<u8> = left.words.iter().flat_map(|w| w.to_le_bytes()).collect();
-        assert!(!bytes.windows(9).any(|w| parts.contains(w)), "{length} codepoints");
-    }
 }
