@@ -44,8 +44,7 @@ const fn long(
 }
 
 /// Where a row says "in random order", each comparison's branch is a guess.
-pub const TEXTS: [Long; 38] = [
-pub const TEXTS: [Long; 34] = [
+pub const TEXTS: [Long; 43] = [
     long("scan: emoji of one codepoint", Call::Name, emoji_beside, letter_a, [16, INPUT], 0),
     long("scan: long emoji that start alike", Call::Name, emoji_alike, letter_a, [16, INPUT], 0),
     long("scan: emoji that match, in random order", Call::Name, emoji_matching, letter_a, [16, INPUT], 0),
@@ -82,12 +81,6 @@ pub const TEXTS: [Long; 34] = [
     long("14: 64 wholes in turn", Call::Name, wholes_in_turn::<64>, labels_in_turn::<64>, [127, WORKED], 0),
     long("14: a whole for each codepoint", Call::Name, whole_each, in_turn::<WORKED>, [16, WORKED], 0),
     long("14: a codepoint of many confused lists", Call::Name, wholes_alike, own, [16, WORKED], 0),
-    long("NFD: a codepoint that becomes 256", Call::Nfd, valid_deep, deep, [1, FORM], 0),
-    long("NFD: classes, in random order", Call::Nfd, classes_random, letter_a, [16, FORM], 0),
-    long("NFD: classes that fall", Call::Nfd, falling_classes, falling, [1_024, FORM], 0),
-    long("NFC: pairs whose head has a class", Call::Nfc, pairs_with_class, letter_a, [2, FORM], 0),
-    long("NFC: pairs whose head is excluded", Call::Nfc, pairs_excluded_equal, letter_a, [2, FORM], 0),
-    long("NFC: one codepoint that becomes 256 in such pairs", Call::Nfc, deep_pairs, deep, [1, FORM], 0),
     long("NFD: a codepoint that becomes 256", Call::Nfd, valid_deep, deep, [1, DEEP], 0),
     long("NFD: a codepoint that becomes another four times", Call::Nfd, valid_chain, deep, [16, WORKED], 0),
     long("NFD: classes, in random order", Call::Nfd, classes_random, letter_a, [16, WORKED], 0),
