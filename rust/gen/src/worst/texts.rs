@@ -44,9 +44,10 @@ const fn long(
 }
 
 /// Where a row says "in random order", each comparison's branch is a guess.
-pub const TEXTS: [Long; 43] = [
+pub const TEXTS: [Long; 45] = [
     long("scan: emoji of one codepoint", Call::Name, emoji_beside, letter_a, [16, INPUT], 0),
     long("scan: long emoji that start alike", Call::Name, emoji_alike, letter_a, [16, INPUT], 0),
+    long("scan: emoji that start with FE0F", Call::Name, emoji_of_selectors, letter_a, [16, INPUT], 0),
     long("scan: emoji that match, in random order", Call::Name, emoji_matching, letter_a, [16, INPUT], 0),
     long("scan: valid behind others", Call::Name, valid_last, letter_a, [16, INPUT], 0),
     long("scan: valid, in random order", Call::Name, valid_random, letter_a, [16, INPUT], 0),
@@ -77,6 +78,7 @@ pub const TEXTS: [Long; 43] = [
     long("14: 2 wholes in turn", Call::Name, wholes_in_turn::<2>, labels_in_turn::<2>, [3, WORKED], 0),
     long("14: 17 wholes in turn", Call::Name, wholes_in_turn::<17>, labels_in_turn::<17>, [33, WORKED], 0),
     long("14: 17 wholes in turn, one label", Call::Name, wholes_in_turn::<17>, in_turn::<17>, [17, WORKED], 0),
+    long("14: the same, members that fall", Call::Name, wholes_falling::<17>, in_turn::<17>, [17, WORKED], 0),
     long("14: the same, pairs that hold a member", Call::Name, wholes_held::<17>, in_turn::<17>, [17, WORKED], 0),
     long("14: 64 wholes in turn", Call::Name, wholes_in_turn::<64>, labels_in_turn::<64>, [127, WORKED], 0),
     long("14: a whole for each codepoint", Call::Name, whole_each, in_turn::<WORKED>, [16, WORKED], 0),
@@ -184,6 +186,12 @@ fn emoji_beside() -> TableBuilder {
 
 fn emoji_alike() -> TableBuilder {
     let emoji = (0..fit(33, 4)).map(|i| [&[0x61; 31][..], &[FIRST + i]].concat()).collect();
+    TableBuilder { emoji, ..ascii() }
+}
+
+/// None is passed over by its first codepoint.
+fn emoji_of_selectors() -> TableBuilder {
+    let emoji = (0..fit(33, 4)).map(|i| [&[0xFE0F; 31][..], &[FIRST + i]].concat()).collect();
     TableBuilder { emoji, ..ascii() }
 }
 
@@ -402,6 +410,16 @@ fn wholes_of<const COUNT: usize>(pairs: Vec<(u32, u32)>) -> TableBuilder {
 /// With pairs between the members: more wholes than are remembered.
 fn wholes_in_turn<const COUNT: usize>() -> TableBuilder {
     wholes_of::<COUNT>(shuffled(singles(FIRST + 1, 32_600, 4)))
+}
+
+/// The same, the members from the highest down: each is put in order before all
+/// that were read.
+fn wholes_falling<const COUNT: usize>() -> TableBuilder {
+    let mut table = wholes_in_turn::<COUNT>();
+    for (valid, _) in &mut table.wholes {
+        valid.sort_unstable_by(|a, b| b.cmp(a));
+    }
+    table
 }
 
 /// With pairs of one member each, or between two.
