@@ -4,10 +4,12 @@
 
 use answers::Refusal;
 use gen::wholes::item_6::{table, A, B, C, E};
-use gen::wholes::{chained, chained_name};
+use gen::wholes::{chained, chained_name, chained_of};
 use gen::Rng;
+use plain::label::extent;
 use plain::limits::{WORKED, WORK_WORDS};
-use plain::{TableBuilder, STOP};
+use plain::{Lookup, Table, TableBuilder, Whole, STOP};
+use std::collections::BTreeSet;
 
 /// The name call of both versions, every word of both buffers.
 fn same(name: &[u32], words: &[u32], why: &str) -> Result<plain::Name, Refusal> {
@@ -20,14 +22,41 @@ fn same(name: &[u32], words: &[u32], why: &str) -> Result<plain::Name, Refusal> 
     given
 }
 
+/// How many wholes were met of each kind that matters to the extent.
+#[derive(Debug, Default)]
+struct Met {
+    /// Whose members join their groups to more than one component.
+    parted: u64,
+    /// With a member in no group.
+    with_nowhere: u64,
+    /// The most groups that hold a member of one extent.
+    longest: usize,
+}
+
+impl Met {
+    fn add(&mut self, table: &Table, whole: Whole) {
+        let members: BTreeSet<u32> = whole.members().collect();
+        let holding = |c: u32| (0..table.group_count()).filter(move |&g| table.group_holds(g, c));
+        let Some(&c) = members.iter().find(|&&c| holding(c).next().is_some()) else { return };
+        let inside = extent(table, whole, c);
+        let groups: BTreeSet<usize> = inside.iter().flat_map(|&m| holding(m)).collect();
+        self.longest = self.longest.max(groups.len());
+        self.parted += u64::from(members.iter().any(|&m| !inside.contains(&m) && holding(m).next().is_some()));
+        self.with_nowhere += u64::from(members.iter().any(|&m| holding(m).next().is_none()));
+    }
+}
+
+/// Chains of every length; then of any, short ones more often.
 #[test]
 fn chains_of_groups() {
-    let (mut lengths, mut accepted, mut refused) = ([false; 257], 0, [0; 18]);
+    let (mut met, mut accepted, mut refused) = (Met::default(), 0, [0; 18]);
     for seed in 1..=2_000 {
         let mut rng = Rng::new(seed);
-        let of = chained(&mut rng);
-        lengths[of.table.groups.len()] = true;
+        let of = if seed <= 256 { chained_of(&mut rng, seed as usize) } else { chained(&mut rng) };
+        assert!(seed > 256 || of.table.groups.len() == seed as usize);
         let words = of.table.to_words();
+        let table = plain::parse(&words).expect("layout");
+        table.wholes.iter().take(2).for_each(|&whole| met.add(&table, whole));
         for _ in 0..25 {
             let name = chained_name(&mut rng, &of);
             match same(&name, &words, &format!("seed {seed}")) {
@@ -36,10 +65,9 @@ fn chains_of_groups() {
             }
         }
     }
-    let met = lengths[1..].iter().filter(|&&met| met).count();
-    assert!(met > 150 && lengths[1] && lengths[256], "chains of {met} lengths alone");
-    println!("{accepted} accepted, refused by number {refused:?}");
+    println!("{accepted} accepted, refused by number {refused:?}, {met:?}");
     assert!(accepted > 10_000 && refused[14] > 10_000, "{accepted} accepted, {refused:?}");
+    assert!(met.parted > 500 && met.with_nowhere > 500 && met.longest == 256, "{met:?}");
 }
 
 /// The whole of 02, Item 6: A is accepted, and E beside it is 14.

@@ -55,6 +55,11 @@ fn pairs(rng: &mut Rng, held: &[u32]) -> Vec<(u32, u32)> {
 /// next group unless the chain is cut there.
 pub fn chained(rng: &mut Rng) -> Chained {
     let count = length(rng);
+    chained_of(rng, count)
+}
+
+/// So many groups.
+pub fn chained_of(rng: &mut Rng, count: usize) -> Chained {
     let spare = rng.between(0, 4);
     let cut = *rng.pick(&[0, 10, 30, 60]);
     let mut all = characters(rng, 2 * count + spare).into_iter();
