@@ -4,6 +4,7 @@ ghost use mathlib.Core.List.{_++_};
 ghost use Prim.Native.Nat.{_≤_};
 ghost use lib.ListN.{length, replicate, drop};
 ghost use Rattle.lists.specs.Lists.{sameList};
+ghost use Rattle.buffers.specs.Writes.{Wiped};
 
 // Every word becomes 0.
 pub fn clear(s: &mut [u32])
@@ -14,6 +15,18 @@ pub fn clear(s: &mut [u32])
         s[i] = 0;
         i += 1;
     }
+}
+
+// Every word becomes 0, for a local array that held text and is about to die. A clearing that nothing reads is optimised away: a word is read
+// back, at a place that a compiler cannot know if `seed` comes from the caller's input, and the caller lets its own answer depend on it.
+pub fn wipe(s: &mut [u32], seed: usize) -> bool
+    ensures { λ r. ⌜ Wiped (now (s .entry)) (now (s .exit)) r ⌝ }
+{
+    clear(s);
+    if s.len() == 0 {
+        return true;
+    }
+    s[seed % s.len()] == 0
 }
 
 // Every byte becomes 0.

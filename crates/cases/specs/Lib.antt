@@ -1,3 +1,4 @@
 pub mod SmallTable
 pub mod Starred
 pub mod Differences
+pub mod Extents

@@ -5,7 +5,7 @@ use lib.ListN.{length}
 use Rattle.lists.specs.Lists.{joined}
 
 -- "each led by the number of words in it"
-abbrev section : List ℕ → List ℕ
+abbrev pub section : List ℕ → List ℕ
 section ws = length ws ∷ ws
 
 -- valid

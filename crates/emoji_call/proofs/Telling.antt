@@ -11,10 +11,10 @@ use Rattle.table.specs.declared.Sections.{Sections}
 use Rattle.table.specs.declared.Span.{Span}
 use Rattle.table.specs.declared.Layout.the-variants.{Fault, Found}
 use Rattle.table.proofs.SectionLaws.{found-laid, laid-parse}
-use Rattle.tokens.specs.declared.emoji.Match as match
-use Rattle.tokens.specs.declared.emoji.Match.{Match}
-use Rattle.tokens.specs.Emoji.{find}
-use Rattle.tokens.specs.Match.{foundOf, FoundBy}
+use Rattle.finder.specs.declared.emoji.Match as match
+use Rattle.finder.specs.declared.emoji.Match.{Match}
+use Rattle.finder.specs.Emoji.{find}
+use Rattle.finder.specs.Match.{foundOf, FoundBy}
 use Rattle.emoji_call.specs.declared.EmojiAnswer as answer
 use Rattle.emoji_call.specs.EmojiCall.{faulty, matching, emojiValues, emojiCall}
 

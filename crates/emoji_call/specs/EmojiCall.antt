@@ -5,7 +5,7 @@ use mathlib.Core.List.{List}
 use mathlib.Core.Option.{Option, none, some}
 use Rattle.lists.specs.Lists.{onSome}
 use Rattle.table.specs.Layout.{parse}
-use Rattle.tokens.specs.Emoji.{Found, find}
+use Rattle.finder.specs.Emoji.{Found, find}
 use Rattle.emoji_call.specs.declared.EmojiAnswer as answer
 use Rattle.emoji_call.specs.declared.EmojiAnswer.{EmojiAnswer}
 

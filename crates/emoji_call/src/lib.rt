@@ -1,7 +1,7 @@
 // Which emoji stands at the start of a part of a label, as a call of its own. specs/EmojiCall.antt states what it answers.
+use finder::emoji::Match;
+use finder::emoji::find;
 use table::Layout;
-use tokens::emoji::Match;
-use tokens::emoji::find;
 ghost use mathlib.Core.Path.{_≡_};
 ghost use Rattle.emoji_call.specs.EmojiCall.{emojiValues, emojiCall};
 

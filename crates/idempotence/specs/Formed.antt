@@ -15,8 +15,8 @@ use Rattle.table.specs.Table.{Table}
 use Rattle.table.specs.Lookup.{inRanges, itemsOf}
 use Rattle.text.specs.Decomposition.{fourRounds}
 use Rattle.text.specs.Composition.{nfc}
-use Rattle.tokens.specs.Emoji.{strip, Taken, takes, Found, find}
-use Rattle.tokens.specs.Finding.{find-best}
+use Rattle.finder.specs.Emoji.{strip, Taken, takes, Found, find}
+use Rattle.finder.specs.Finding.{find-best}
 use Rattle.tokens.specs.Scan as scan
 use Rattle.tokens.specs.Scan.{Step, codepointStep, stepAt, stepsFrom, steps}
 use Rattle.tokens.specs.Tokens.{Token, emoji, text, before, tokensOf, normalToken, normal, joinedTokens, joinedText}

@@ -19,9 +19,9 @@ use Rattle.lists.specs.Members.{passing-any}
 use Rattle.lists.specs.Elements.{getD-member, member-getD}
 use Rattle.table.specs.Table.{Table}
 use Rattle.table.specs.Lookup.{inRanges, itemsOf}
-use Rattle.tokens.specs.Emoji.{selector, strip, takes, Found, find}
-use Rattle.tokens.specs.Matching.{Choice, done, same, kept, left, Fitting, takes-most, choice-fits, takes-fits}
-use Rattle.tokens.specs.Finding.{Best, find-best, find-some}
+use Rattle.finder.specs.Emoji.{selector, strip, takes, Found, find}
+use Rattle.finder.specs.Matching.{Choice, done, same, kept, left, Fitting, takes-most, choice-fits, takes-fits}
+use Rattle.finder.specs.Finding.{Best, find-best, find-some}
 use Rattle.tokens.specs.Scan as scan
 use Rattle.tokens.specs.Scan.{Step, width, codepointStep, stepAt, stepsFrom, steps, firstDisallowed}
 use Rattle.tokens.specs.Tokens as token

@@ -18,7 +18,7 @@ use Rattle.table.specs.Layout.{parse}
 use Rattle.table.specs.Lookup.{inRange, inRanges, itemsOf, holds}
 use Rattle.text.specs.Scalar.{isSurrogate, isScalar}
 use Rattle.text.specs.Decomposition.{fourRounds}
-use Rattle.tokens.specs.Emoji.{selector}
+use Rattle.finder.specs.Emoji.{selector}
 use Rattle.soundness.specs.Scalars.{scalarsBetween, scalarRanges, scalarHeaded, rule1}
 use Rattle.soundness.specs.Valid.{countedFrom, listed, groupCharacters, spellable, rule2, rule3}
 use Rattle.soundness.specs.Sequences.{rule4, rule5}

@@ -13,7 +13,7 @@ use Rattle.lists.specs.Laws.{Every, all-every, every-member, every-of-all, both
 use Rattle.lists.specs.Members.{passing-any}
 use Rattle.lists.specs.Elements.{list-same, keep-append}
 use Rattle.table.specs.Table.{Table}
-use Rattle.tokens.specs.Emoji.{selector, strip}
+use Rattle.finder.specs.Emoji.{selector, strip}
 use Rattle.soundness.specs.Sequences.{startsWith, twoSelectors, strippedEmoji, oneValid, isStripped, canStart, startsApart, apart, rule4, rule5}
 use Rattle.idempotence.specs.Rules.{Sound}
 

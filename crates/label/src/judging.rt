@@ -1,4 +1,5 @@
-// The verdict on the tokens of a label, as they stand in the work area: refusals 8 to 14 and the kind.
+// The verdict on the tokens of a label, as they stand in the work area: refusals 8 to 14 and the kind. The memo is the look-alike test's, for
+// the labels of one name.
 use crate::Judged;
 use crate::cells::text_alone;
 use answers::GroupKind;
@@ -20,6 +21,7 @@ ghost use Prim.Native.Nat.{_≤_};
 ghost use lib.ListN.{length};
 ghost use Rattle.limits.specs.Limits.{leastWork, mostWorked};
 ghost use Rattle.table.specs.Laid.{Laid, theTable};
+ghost use Rattle.lookalike.specs.Memo.{Memo};
 ghost use Rattle.spelling.specs.CellMarks.{codesIn, tagsIn};
 ghost use Rattle.label.specs.Judge.{judgeAscii, judgeText};
 ghost use Rattle.label.specs.CellText.{textAt};
@@ -47,14 +49,17 @@ fn judge_group(
     number: usize,
     restricted: bool,
     place: usize,
+    memo: &mut [u32],
 ) -> Judged
     requires { ⌜ Laid (now words) ix ⌝ }
+    requires { ⌜ Memo (now words) (now memo) ⌝ }
     ensures { λ r. ⌜ verdictOf r ≡ groupVerdict (theTable (now (words .entry))) place (now (text .entry)) fits number restricted ⌝ }
+    ensures { λ _. ⌜ Memo (now (words .entry)) (now (memo .exit)) ⌝ }
 {
     if !fits {
         return Judged::Refused(Refusal::NsmRun(place));
     }
-    if confusable(words, ix, text) {
+    if confusable(words, ix, text, memo) {
         return Judged::Refused(Refusal::Confusable(place));
     }
     Judged::Accepted(Kind::Group(GroupKind {
@@ -72,24 +77,36 @@ fn judge_in_group(
     restricted: bool,
     whitelisted: bool,
     place: usize,
+    memo: &mut [u32],
 ) -> Judged
     requires { ⌜ Laid (now words) ix ⌝ }
+    requires { ⌜ Memo (now words) (now memo) ⌝ }
     ensures { λ r. ⌜ verdictOf r ≡ inGroup (theTable (now (words .entry))) place (now (text .entry)) number restricted whitelisted ⌝ }
+    ensures { λ _. ⌜ Memo (now (words .entry)) (now (memo .exit)) ⌝ }
 {
     let mut fits = whitelisted;
     if !whitelisted {
         fits = nsm_fits(words, ix, text);
     }
-    judge_group(words, ix, text, fits, number, restricted, place)
+    judge_group(words, ix, text, fits, number, restricted, place, memo)
 }
 
 // The text alone: 12 where no group holds it, else 13 and 14 in the first that does.
-fn judge_text(words: &[u32], ix: Sections, w: &mut [u32], n: usize, place: usize) -> Judged
+fn judge_text(
+    words: &[u32],
+    ix: Sections,
+    w: &mut [u32],
+    n: usize,
+    place: usize,
+    memo: &mut [u32],
+) -> Judged
     requires { ⌜ Laid (now words) ix ⌝ }
     requires { ⌜ leastWork ≤ length (now w) ⌝ }
     requires { ⌜ n ≤ mostWorked ⌝ }
+    requires { ⌜ Memo (now words) (now memo) ⌝ }
     ensures { λ r. ⌜ CellsJudged (judgeText (theTable (now (words .entry))) place (textAt (codesIn (now (w .entry)) n) (tagsIn (now (w .entry)) n)))
         (now (w .entry)) (now (w .exit)) r ⌝ }
+    ensures { λ _. ⌜ Memo (now (words .entry)) (now (memo .exit)) ⌝ }
 {
     let m = text_alone(w, n);
     let end = MOST_WORKED + m;
@@ -108,18 +125,28 @@ fn judge_text(words: &[u32], ix: Sections, w: &mut [u32], n: usize, place: usize
             restricted,
             whitelisted,
             place,
+            memo,
         ),
         GroupFound::Nothing => Judged::Refused(Refusal::NoGroup(place)),
     }
 }
 
 // Other tokens: 8 and 10 over all codepoints, 11 for each text token, then the text alone.
-fn judge_mixed(words: &[u32], ix: Sections, w: &mut [u32], n: usize, place: usize) -> Judged
+fn judge_mixed(
+    words: &[u32],
+    ix: Sections,
+    w: &mut [u32],
+    n: usize,
+    place: usize,
+    memo: &mut [u32],
+) -> Judged
     requires { ⌜ Laid (now words) ix ⌝ }
     requires { ⌜ leastWork ≤ length (now w) ⌝ }
     requires { ⌜ n ≤ mostWorked ⌝ }
+    requires { ⌜ Memo (now words) (now memo) ⌝ }
     ensures { λ r. ⌜ CellsJudged (mixedAt (theTable (now (words .entry))) place (codesIn (now (w .entry)) n) (tagsIn (now (w .entry)) n))
         (now (w .entry)) (now (w .exit)) r ⌝ }
+    ensures { λ _. ⌜ Memo (now (words .entry)) (now (memo .exit)) ⌝ }
 {
     if low_line(&w[..n]) {
         return Judged::Refused(Refusal::LowLine(place));
@@ -130,7 +157,7 @@ fn judge_mixed(words: &[u32], ix: Sections, w: &mut [u32], n: usize, place: usiz
     if leading_mark(words, ix, w, n) {
         return Judged::Refused(Refusal::LeadingMark(place));
     }
-    judge_text(words, ix, w, n, place)
+    judge_text(words, ix, w, n, place, memo)
 }
 
 // 8 to 14 and the kind, on tokens in normal form, n codepoints; `emoji` and `text` say whether there are tokens of that kind.
@@ -142,12 +169,15 @@ pub fn judge(
     emoji: bool,
     text: bool,
     place: usize,
+    memo: &mut [u32],
 ) -> Judged
     requires { ⌜ Laid (now words) ix ⌝ }
     requires { ⌜ leastWork ≤ length (now w) ⌝ }
     requires { ⌜ n ≤ mostWorked ⌝ }
+    requires { ⌜ Memo (now words) (now memo) ⌝ }
     ensures { λ r. ⌜ CellsJudged (judgeAt (theTable (now (words .entry))) place (codesIn (now (w .entry)) n) (tagsIn (now (w .entry)) n) emoji text)
         (now (w .entry)) (now (w .exit)) r ⌝ }
+    ensures { λ _. ⌜ Memo (now (words .entry)) (now (memo .exit)) ⌝ }
 {
     if !text {
         return Judged::Accepted(Kind::Emoji);
@@ -157,5 +187,5 @@ pub fn judge(
             return judge_ascii(&w[..n], place);
         }
     }
-    judge_mixed(words, ix, w, n, place)
+    judge_mixed(words, ix, w, n, place, memo)
 }

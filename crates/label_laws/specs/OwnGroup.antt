@@ -1,27 +1,18 @@
--- A group that holds all of a text is never one in which the text could be respelled. The extent is used through two laws only: a character
--- is in its extent, and so is every member of its whole that shares a group with it. Assumes nothing.
+-- A group that holds all of a text is never one in which the text could be respelled. Of the extent only `Extent` `extent-shared` is used: it
+-- holds every member of its whole that shares a group with the character. Assumes nothing.
 use mathlib.Core.Path.{_≡_, refl, sym, _∙_}
 use mathlib.Core.Bool.{Bool, true, false, not, _&&_, false≢true, true≢false}
-use mathlib.Core.List.{List, List·Memᴰ, List·Memᴰ·head, List·Memᴰ·tail}
+use mathlib.Core.List.{List, List·Memᴰ}
 use mathlib.Core.Option.{Option, none, some}
 use Prim.Native.Nat.{ℕ}
 use Rattle.lists.specs.Lists.{all, any, isSome, mem, onSome}
 use Rattle.lists.specs.Laws.{both, mem-of, keep-member}
-use Rattle.lists.specs.Members.{any-passing, passing-any, all-at, keep-keeps}
+use Rattle.lists.specs.Members.{any-passing, passing-any, all-at}
 use Rattle.table.specs.Table.{Table, Group, Whole}
 use Rattle.table.specs.Lookup.{holds, wholeOf}
 use Rattle.groups.specs.Groups.{holdsAll}
 use Rattle.lookalike.specs.Confusable.{isConfused, members, shareGroup, extent, outside, respells}
-
--- E1: a character is in its extent
-pub extent-self : (t : Table) (w : Whole) (c : ℕ) → List·Memᴰ c (extent t w c)
-unfolding extent
-extent-self t w c = List·Memᴰ·head refl
-
--- E2: so is every member that shares a group with it
-pub extent-shared : (t : Table) (w : Whole) (c m : ℕ) → List·Memᴰ m (members w) → shareGroup t c m ≡ true → List·Memᴰ m (extent t w c)
-unfolding extent
-extent-shared t w c m h e = List·Memᴰ·tail (keep-keeps (shareGroup t c) h e)
+use Rattle.lookalike.specs.Extent.{extent-shared}
 
 -- two characters of one group share a group
 pub shares : (t : Table) (g : Group) (a b : ℕ) → List·Memᴰ g (t .groups) → holds g a ≡ true → holds g b ≡ true → shareGroup t a b ≡ true

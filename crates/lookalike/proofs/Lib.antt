@@ -1,5 +1,4 @@
 pub mod OutsideLaws
 pub mod FlagLaws
 pub mod RespellingLaws
-pub mod OrderLaws
-pub mod CoverLaws
+pub mod MemoLaws

@@ -1,7 +1,8 @@
--- Refusal 14. 01, "The rules of one label", "Confusable". Assumes nothing.
-use Prim.Native.Nat.{ℕ}
+-- Refusal 14. 01, "The rules of one label", "Confusable", with the extent of 02, Item 6. Assumes nothing.
+use Prim.Native.Nat.{ℕ, zero, suc}
 use mathlib.Core.Bool.{Bool, not, _&&_}
-use mathlib.Core.List.{List, _∷_, _++_}
+use mathlib.Core.List.{List, [], _∷_, _++_}
+use lib.ListN.{length}
 use Rattle.lists.specs.Lists.{all, any, isSome, keep, mem, onSome}
 use Rattle.table.specs.Table.{Table, Group, Whole}
 use Rattle.table.specs.Lookup.{holds, wholeOf}
@@ -19,9 +20,22 @@ members w = w .valid ++ w .confused
 abbrev pub shareGroup : Table → ℕ → ℕ → Bool
 shareGroup t a b = any (λ g. holds g a && holds g b) (t .groups)
 
--- "its extent is itself and every member, valid or confused, of that whole that shares a group with it"
+-- 02, Item 6: "starting from the character, add every member that shares a group with one already in, until nothing is added". Those that
+-- one round adds:
+unfoldable pub added : Table → Whole → List ℕ → List ℕ
+added t w s = keep (λ m. not (mem m s) && any (λ x. shareGroup t x m) s) (members w)
+
+-- so many rounds
+unfoldable pub rounds : Table → Whole → ℕ → List ℕ → List ℕ
+unfolding added
+rounds t w zero s = s
+rounds t w (suc n) s = rounds t w n (s ++ added t w s)
+
+-- "until nothing is added": each round but the last adds a member, so that as many rounds as there are members are enough
+-- (`Extent` `extent-closed`)
 unfoldable pub extent : Table → Whole → ℕ → List ℕ
-extent t w c = c ∷ keep (shareGroup t c) (members w)
+unfolding rounds
+extent t w c = rounds t w (length (members w)) (c ∷ [])
 
 -- the members of its whole outside its extent
 unfoldable pub outside : Table → Whole → ℕ → List ℕ

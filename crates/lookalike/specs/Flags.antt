@@ -1,23 +1,21 @@
 -- A flag for each group, as the look-alike test keeps them: 1 or 0, in mostGroups places. Assumes nothing.
 use Prim.Native.Nat.{ℕ, _-_}
 use mathlib.Core.Path.{_≡_}
-use mathlib.Core.Bool.{Bool, true, false, not, _&&_, _||_, cond}
+use mathlib.Core.Bool.{Bool, true, false, not, _&&_, cond}
 use mathlib.Core.List.{List, [], _∷_, _++_, map}
-use lib.ListN.{length, replicate}
+use mathlib.Core.Logic.{_⊎_}
+use lib.ListN.{length, getD, replicate}
 use lib.Dec.{eqb}
 use Rattle.lists.specs.Lists.{all, any}
+use Rattle.components.specs.Components.{noGroup, nth}
 use Rattle.table.specs.Table.{Table, Group}
 use Rattle.table.specs.Layout.{mostGroups}
 use Rattle.table.specs.Lookup.{holds}
-use Rattle.lookalike.specs.Confusable.{isConfused, shareGroup, respells}
+use Rattle.lookalike.specs.Confusable.{isConfused, respells}
 
 abbrev pub bit : Bool → ℕ
 bit true = 1
 bit false = 0
-
--- a group that holds nothing
-unfoldable pub noGroup : Group
-noGroup = record { restricted = false; whitelisted = false; ranges = [] }
 
 -- the groups, and behind them as many that hold nothing as make mostGroups
 unfoldable pub slots : List Group → List Group
@@ -40,18 +38,19 @@ kept [] os = []
 kept (f ∷ fs) [] = []
 kept (f ∷ fs) (o ∷ os) = cond (eqb o 0) 0 f ∷ kept fs os
 
--- m is outside the extent of c, where m is a member of the whole of c
-unfoldable pub isOutside : Table → ℕ → ℕ → Bool
-isOutside t c m = not (eqb m c || shareGroup t c m)
+-- a flag for each group whose component, by its number, is there and is not that of the number `own`
+unfoldable pub apart : ℕ → List ℕ → List ℕ
+apart own k = map (λ x. bit (not (eqb x 0) && not (eqb x own))) k
 
--- the group holds one of the members outside the extent of c
-abbrev pub heldOutside : Table → ℕ → List ℕ → Group → Bool
-heldOutside t c ms g = any (λ m. isOutside t c m && holds g m) ms
+-- the number of the component of the groups that hold c, 0 where no group does
+pub record OwnNumber (gs : List Group) (k : List ℕ) (c r : ℕ) : Type 0 where
+  pub so : (((i : ℕ) → holds (nth gs i) c ≡ false) × (r ≡ 0)) ⊎ ((h : ℕ) × (holds (nth gs h) c ≡ true) × (r ≡ getD k h 0))
 
--- the flags of the groups that hold a member outside the extent of c are set
-unfoldable pub markedOutside : Table → ℕ → List ℕ → List ℕ → List ℕ
-markedOutside t c [] fs = fs
-markedOutside t c (m ∷ ms) fs = markedOutside t c ms (cond (isOutside t c m) (marked m (t .groups) fs) fs)
+-- the flags kept of the groups of another component than those that hold c
+pub record KeepsOutside (gs : List Group) (k : List ℕ) (c : ℕ) (fs fs′ : List ℕ) : Type 0 where
+  pub own : ℕ
+  pub number : OwnNumber gs k c own
+  pub flags : fs′ ≡ kept fs (apart own k)
 
 -- whether c is confused, and the flags kept of the groups that can spell it otherwise
 pub record Narrowed (t : Table) (c : ℕ) (fs gs : List ℕ) (r : Bool) : Type 0 where

@@ -1,4 +1,4 @@
 pub mod Confusable
+pub mod Extent
 pub mod Flags
-pub mod Order
-pub mod Cover
+pub mod Memo

@@ -124,14 +124,16 @@ module _ (t : Table) (done place : ℕ) (k : Tally) (w : List ℕ) where
     some-here : (ts : List Token) → Tallied t ts w k → isEmpty ts ≡ false
     some-here ts a = some-tokens ts (⊎-elim (λ e. inl (sym (a .emoji) ∙ e)) (λ e. inr (sym (a .text) ∙ e)) here)
 
-    -- 7, known by the sum or without it
-    pub tokens-long : mostWorked < done + k .worked → TokensJudged t done place k w w (Refused (WorkedTooLong place))
+    -- 7, known by the tally alone or by the sum
+    over : ((ts : List Token) → Tallied t ts w k → mostWorked < done + worked t ts) → TokensJudged t done place k w w (Refused (WorkedTooLong place))
     unfolding judged
-    tokens-long h =
-        record { same = refl; is = λ ts p a. rw (some-here ts a, lt-ltb mostWorked (done + worked t ts) (rw (a .worked) at h)) }
+    over h = record { same = refl; is = λ ts p a. rw (some-here ts a, lt-ltb mostWorked (done + worked t ts) (h ts a)) }
 
     pub tokens-over : mostWorked < k .worked → TokensJudged t done place k w w (Refused (WorkedTooLong place))
-    tokens-over h = tokens-long (omega arith)
+    tokens-over h = over (λ ts a. omega (arith, a .over h))
+
+    pub tokens-long : k .worked ≤ mostWorked → mostWorked < done + k .worked → TokensJudged t done place k w w (Refused (WorkedTooLong place))
+    tokens-long few h = over (λ ts a. omega (arith, a .worked few))
 
     -- 8 to 14, on the tokens in normal form
     module _ (h : done + k .worked ≤ mostWorked) (v x : List ℕ) (n : ℕ) (m : NormalCells t w v (k .worked) n) (r : Judged)
@@ -150,7 +152,7 @@ module _ (t : Table) (done place : ℕ) (k : Tally) (w : List ℕ) where
       judged-is : (ts : List Token) → Parted ts → Tallied t ts w k
           → judged t done place ts ≡ next (verdictOf r) (λ kind. accepted (record { tokens = normal t ts; kind = kind; worked = worked t ts }))
       unfolding judged
-      judged-is ts p a = rw (some-here ts a, le-ltb mostWorked (done + worked t ts) (rw (a .worked) at h), verdict-is ts p a)
+      judged-is ts p a = rw (some-here ts a, le-ltb mostWorked (done + worked t ts) (omega (arith, a .worked (omega arith))), verdict-is ts p a)
 
       same-size : length x ≡ length w
       same-size = j .same ∙ m .same
@@ -173,7 +175,7 @@ module _ (t : Table) (done place : ℕ) (k : Tally) (w : List ℕ) where
                   count = cells ts a .count;
                   words = front ∙ cells ts a .words;
                   kind = refl;
-                  long = a .worked;
+                  long = a .worked (omega arith);
                   room = h;
                 };
           }

@@ -10,13 +10,16 @@ use answers::Refusal;
 use answers::is_barred;
 use answers::label_length;
 use ending::finish;
+use lookalike::memo::MEMO;
 use table::Sections;
+use text::compose::PAIR_WORDS;
 use tokens::scan::Scanned;
 use tokens::scan::scan;
 ghost use Prim.Native.Nat.{_≤_};
 ghost use lib.ListN.{length};
 ghost use Rattle.limits.specs.Limits.{mostInput, leastWork};
 ghost use Rattle.table.specs.Laid.{Laid, theTable};
+ghost use Rattle.lookalike.specs.Memo.{Memo};
 ghost use Rattle.name.specs.Label.{oneLabel, labelBefore15};
 ghost use Rattle.name.specs.Calls.{LabelCalls, LabelJudged, BeforeStop};
 
@@ -41,9 +44,11 @@ fn judge_one(
     input: &[u32],
     answer: &mut [u32],
     w: &mut [u32],
+    memo: &mut [u32],
 ) -> LabelAnswer
     requires { ⌜ Laid (now words) ix ⌝ }
     requires { ⌜ (leastWork ≤ length (now w)) × (length (now input) ≤ mostInput) ⌝ }
+    requires { ⌜ Memo (now words) (now memo) ⌝ }
     ensures { λ r. ⌜ LabelJudged (oneLabel setting (theTable (now (words .entry))) (now (input .entry))) (now (answer .entry)) (now (answer .exit)) (now (w .entry)) (now (w .exit)) r ⌝ }
 {
     let end = label_end(input, 0);
@@ -51,7 +56,8 @@ fn judge_one(
         let at = before_stop(words, ix, &input[..end], w);
         return LabelAnswer::Refused(Refusal::Disallowed(at));
     }
-    let judged = judge_label(words, ix, input, 0, 0, 0, w);
+    let mut unpaired = [0u32; PAIR_WORDS];
+    let judged = judge_label(words, ix, input, 0, 0, 0, &mut unpaired, w, memo);
     match judged {
         Judgement::Accepted { length, kind, .. } => {
             if is_barred(setting, kind) {
@@ -76,7 +82,10 @@ fn judge_input(
 {
     let admitted = admit(words, input, work.len());
     match admitted {
-        Admission::Found(ix) => judge_one(words, ix, setting, input, answer, work),
+        Admission::Found(ix) => {
+            let mut memo = [0; MEMO];
+            judge_one(words, ix, setting, input, answer, work, &mut memo[0..MEMO])
+        }
         Admission::Refused(f) => LabelAnswer::Refused(f),
     }
 }

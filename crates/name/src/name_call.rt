@@ -10,11 +10,14 @@ use answers::Refusal;
 use answers::is_barred;
 use answers::name_length;
 use ending::finish;
+use lookalike::memo::MEMO;
 use table::Sections;
+use text::compose::PAIR_WORDS;
 ghost use Prim.Native.Nat.{_≤_};
 ghost use lib.ListN.{length};
 ghost use Rattle.limits.specs.Limits.{mostInput, leastWork};
 ghost use Rattle.table.specs.Laid.{Laid, theTable};
+ghost use Rattle.lookalike.specs.Memo.{Memo};
 ghost use Rattle.name.specs.Name.{labelsOf, labelsVerdict, nameBefore15};
 ghost use Rattle.name.specs.Calls.{NameCalls, NameJudged};
 
@@ -26,11 +29,14 @@ fn judge_labels(
     name: &[u32],
     answer: &mut [u32],
     w: &mut [u32],
+    memo: &mut [u32],
 ) -> NameAnswer
     requires { ⌜ Laid (now words) ix ⌝ }
     requires { ⌜ (leastWork ≤ length (now w)) × (length (now name) ≤ mostInput) ⌝ }
+    requires { ⌜ Memo (now words) (now memo) ⌝ }
     ensures { λ r. ⌜ NameJudged (now (name .entry)) (labelsVerdict setting (theTable (now (words .entry))) 0 0 0 (labelsOf (now (name .entry)))) (now (answer .entry)) (now (answer .exit)) (now (w .entry)) (now (w .exit)) r ⌝ }
 {
+    let mut unpaired = [0u32; PAIR_WORDS];
     let mut at = 0;
     let mut done = 0;
     let mut place = 0;
@@ -40,7 +46,17 @@ fn judge_labels(
     }
     while at <= name.len() {
         let end = label_end(name, at);
-        let judged = judge_label(words, ix, &name[at..end], at, done, place, w);
+        let judged = judge_label(
+            words,
+            ix,
+            &name[at..end],
+            at,
+            done,
+            place,
+            &mut unpaired,
+            w,
+            memo,
+        );
         match judged {
             Judgement::Accepted {
                 length,
@@ -76,7 +92,10 @@ fn judge_name(
 {
     let admitted = admit(words, input, work.len());
     match admitted {
-        Admission::Found(ix) => judge_labels(words, ix, setting, input, answer, work),
+        Admission::Found(ix) => {
+            let mut memo = [0; MEMO];
+            judge_labels(words, ix, setting, input, answer, work, &mut memo[0..MEMO])
+        }
         Admission::Refused(f) => NameAnswer::Refused(f),
     }
 }

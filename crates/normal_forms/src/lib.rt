@@ -5,6 +5,8 @@ use ending::finish;
 use limits::MOST_WORKED;
 use table::Layout;
 use table::Sections;
+use text::compose::PAIR_WORDS;
+use text::compose::compose;
 use text::decompose::append_decomposed;
 use text::nfc::put_classes;
 ghost use mathlib.Core.Path.{_≡_};
@@ -100,7 +102,8 @@ fn nfc_front(text: &[u32], words: &[u32], answer: &mut [u32], work: &mut [u32]) 
     let FormAnswer::Formed(n) = arranged else {
         return arranged;
     };
-    let left = text::compose::compose(words, ix, &mut answer[..n], &work[..n]);
+    let mut unpaired = [0u32; PAIR_WORDS];
+    let left = compose(words, ix, &mut unpaired, &mut answer[..n], &work[..n]);
     FormAnswer::Formed(left)
 }
 

@@ -20,7 +20,7 @@ use Rattle.table.specs.Part.{inPairs}
 use Rattle.table.proofs.SectionLaws.{laid-reads}
 use Rattle.table.proofs.Lookups.{onlyIf-some, inFront-some, andThen-some, pairs-ranges}
 use Rattle.text.specs.Decomposition.{fourRounds}
-use Rattle.tokens.specs.Emoji.{selector}
+use Rattle.finder.specs.Emoji.{selector}
 use Rattle.soundness.specs.Scalars.{scalarsBetween, scalarRanges, rule1}
 use Rattle.soundness.specs.Valid.{countedFrom, listed, groupCharacters, spellable, rule2}
 use Rattle.table.specs.Part.{recordsIn}

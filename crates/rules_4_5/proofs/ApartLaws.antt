@@ -12,7 +12,7 @@ use Rattle.lists.specs.Tests.{any-map, all-map}
 use Rattle.table.specs.Table.{Table}
 use Rattle.table.specs.Lookup.{inRanges}
 use Rattle.table.specs.Layout.{sequences}
-use Rattle.tokens.specs.Emoji.{selector, strip}
+use Rattle.finder.specs.Emoji.{selector, strip}
 use Rattle.soundness.specs.Sequences.{startsWith, strippedEmoji, isStripped, oneValid, canStart, startsApart, apart, rule5}
 use Rattle.table.specs.Part.{recordsIn}
 use Rattle.sound_parts.specs.Parts.{EmojiPart}

@@ -14,7 +14,7 @@ use Rattle.lists.specs.Elements.{keep-append}
 use Rattle.lists.specs.Tests.{any-map}
 use Rattle.table.proofs.Lookups.{drop-next, drop-two, Walk, walk-on}
 use Rattle.table.specs.Table.{Table}
-use Rattle.tokens.specs.Emoji.{selector, strip}
+use Rattle.finder.specs.Emoji.{selector, strip}
 use Rattle.soundness.specs.Sequences.{startsWith, twoSelectors, strippedEmoji, rule4}
 use Rattle.rules_4_5.specs.Strips.{plainSequence, sameStripped, distinctStripped, NextItem}
 

@@ -7,7 +7,7 @@ use lib.ListN.{length, getD, take, drop}
 use lib.Dec.{eqb}
 use Rattle.lists.specs.Lists.{mem, sameList, distinctLists}
 use Rattle.table.specs.Table.{Table}
-use Rattle.tokens.specs.Emoji.{selector, strip}
+use Rattle.finder.specs.Emoji.{selector, strip}
 use Rattle.soundness.specs.Sequences.{startsWith, twoSelectors, strippedEmoji, isStripped, oneValid, apart}
 
 -- the first part of rule 4, of one sequence

@@ -13,7 +13,7 @@ ghost use lib.ListN.{length, getD, take};
 ghost use Rattle.lists.specs.Lists.{all, any};
 ghost use Rattle.table.specs.Layout.{sequences};
 ghost use Rattle.table.specs.Laid.{Laid, Fits, within, theTable};
-ghost use Rattle.tokens.specs.Emoji.{strip};
+ghost use Rattle.finder.specs.Emoji.{strip};
 ghost use Rattle.soundness.specs.Sequences.{startsWith, oneValid, canStart, apart, rule5};
 ghost use Rattle.table.specs.Part.{recordsIn};
 ghost use Rattle.sound_parts.specs.Parts.{Holds, EmojiPart};

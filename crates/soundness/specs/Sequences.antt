@@ -6,7 +6,7 @@ use lib.Dec.{eqb}
 use Rattle.lists.specs.Lists.{all, any, distinctLists, mem, sameList}
 use Rattle.table.specs.Table.{Table}
 use Rattle.table.specs.Lookup.{inRanges}
-use Rattle.tokens.specs.Emoji.{selector, strip}
+use Rattle.finder.specs.Emoji.{selector, strip}
 
 abbrev pub startsWith : ℕ → List ℕ → Bool
 startsWith c [] = false

@@ -6,7 +6,7 @@ use Rattle.lists.specs.Lists.{all, joinedMap, mem}
 use Rattle.table.specs.Table.{Range, Headed, Group, Table}
 use Rattle.table.specs.Lookup.{inRanges}
 use Rattle.text.specs.Decomposition.{fourRounds}
-use Rattle.tokens.specs.Emoji.{selector}
+use Rattle.finder.specs.Emoji.{selector}
 
 -- n codepoints from c on
 unfoldable pub countedFrom : ℕ → ℕ → List ℕ

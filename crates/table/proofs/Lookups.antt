@@ -1,5 +1,5 @@
 -- What the lookups over a section's words have to do with those in a table. Assumes nothing.
-use Prim.Native.Nat.{ℕ, zero, suc, _+_, _-_, _%_, _^_, _<_, _≤_}
+use Prim.Native.Nat.{ℕ, zero, suc, _+_, _-_, _<_, _≤_}
 use native.Mathlib.Numerals.{add-one, unary-clauses}
 use native.Mathlib.Omega.{arith}
 use mathlib.Core.Path.{_≡_, refl, sym, _∙_}
@@ -9,7 +9,7 @@ use mathlib.Core.Option.{Option, none, some}
 use lib.ListN.{length, getD, take, drop, length-take, length-drop, drop-of-length-le}
 use lib.Seq.{drop-cons, drop-drop, take-nil, take-take}
 use lib.Dec.{leb, ltb, eqb}
-use borrow.Author.Tests.{ltb-true, ltb-false, leb-true, leb-false, le-leb, lt-leb, eq-eqb, ne-eqb}
+use borrow.Author.Tests.{ltb-true, ltb-false, leb-true, eq-eqb, ne-eqb}
 use Rattle.lists.specs.Lists.{all, andThen, mem}
 use Rattle.table.specs.declared.Span.{Span}
 use Rattle.table.specs.declared.Sections.{Sections}
@@ -135,32 +135,6 @@ module _ (p : ℕ → Bool) (s : List ℕ) (i : ℕ) (w : Walk (all p) s i) wher
 pub all-same : (p q : ℕ → Bool) → ((c : ℕ) → p c ≡ q c) → (s : List ℕ) → all p s ≡ all q s
 all-same p q e [] = refl
 all-same p q e (c ∷ s) = rw (e c, all-same p q e s)
-
--- nothing lies between a first and a last that is smaller
-pub not-between : (c first last : ℕ) → last < first → false ≡ (leb first c && leb c last)
-not-between c first last h = go (leb first c) refl
-  where
-    go : (a : Bool) → leb first c ≡ a → false ≡ (leb first c && leb c last)
-    go true f = let k : first ≤ c = leb-true _ _ f in rw (f, lt-leb c last (omega arith))
-    go false f = rw f
-
--- the wrapped difference of c and the first of a pair is at most that of the last and the first just where c lies between them
-pub wrapped-between : (c first last r : ℕ) → first ≤ last → last < 2 ^ 32 → r < 2 ^ 32 → (r + first) % 2 ^ 32 ≡ c
-    → leb r (last - first) ≡ (leb first c && leb c last)
-wrapped-between c first last r ordered wide low e = go (leb first c) refl (leb c last) refl
-  where
-    go : (a : Bool) → leb first c ≡ a → (b : Bool) → leb c last ≡ b → leb r (last - first) ≡ (leb first c && leb c last)
-    go true f true g =
-        let h : first ≤ c = leb-true _ _ f in
-        let k : c ≤ last = leb-true _ _ g in
-        rw (f, g) (le-leb r (last - first) (omega arith))
-    go true f false g =
-        let h : first ≤ c = leb-true _ _ f in
-        let k : last < c = leb-false _ _ g in
-        rw (f, g) (lt-leb r (last - first) (omega arith))
-    go false f b g =
-        let h : c < first = leb-false _ _ f in
-        rw f (lt-leb r (last - first) (omega arith))
 
 -- over pairs
 module _ (c : ℕ) (ws : List ℕ) (i : ℕ) (w : Walk (inPairs c) ws i) (h : 1 < length ws - i) where

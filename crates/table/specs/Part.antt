@@ -30,6 +30,17 @@ classAmong c (a ∷ []) = 0
 classAmong c (a ∷ b ∷ []) = 0
 classAmong c (a ∷ b ∷ k ∷ ws) = let rest = classAmong c ws in cond (leb a c && leb c b) k rest
 
+-- c lies in one of four pairs, of which the first stands at i and each other one `step` words behind the one before it
+abbrev pub inFour : ℕ → List ℕ → ℕ → ℕ → Bool
+inFour c ws i step =
+    let at : ℕ → Bool = λ j. leb (getD ws j 0) c && leb c (getD ws (j + 1) 0) in
+    (at i || at (i + step)) || (at (i + step + step) || at (i + step + step + step))
+
+-- f gives for the words from i on what it gives for all
+pub record Skipped {A : Type 0} (f : List ℕ → A) (ws : List ℕ) (i : ℕ) : Type 0 where
+  pub inside : i ≤ length ws
+  pub same : f ws ≡ f (drop i ws)
+
 -- a class found for c
 pub record ClassFound (rs : List ClassRange) (c r : ℕ) : Type 0 where
   pub same : r ≡ tableClass rs c

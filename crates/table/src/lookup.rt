@@ -4,9 +4,8 @@ use crate::Items;
 use crate::Sections;
 use crate::Span;
 use crate::WholeAt;
-use std::num::wrapping_sub_u32;
 ghost use mathlib.Core.Path.{_≡_};
-ghost use Prim.Native.Nat.{_+_, _≤_};
+ghost use Prim.Native.Nat.{_+_, _*_, _≤_};
 ghost use lib.ListN.{length, getD};
 ghost use mathlib.Core.Bool.{true, _&&_};
 ghost use lib.Dec.{leb};
@@ -15,21 +14,47 @@ ghost use Rattle.table.specs.Layout.{mostItems, mostParts, headed, whole
 ghost use Rattle.table.specs.Lookup.{inRanges, itemsOf, wholeOf};
 ghost use Rattle.table.specs.Laid.{Laid, Fits, within, theTable};
 ghost use Rattle.table.specs.GroupPart.{groupAt};
-ghost use Rattle.table.specs.Part.{inPairs, classAmong, ClassFound, countedAt, headsIn, wholesIn, HeadedPart, WholesPart, ItemsFound, WholeFound};
+ghost use Rattle.table.specs.Part.{inPairs, classAmong, inFour, Skipped, ClassFound, countedAt, headsIn, wholesIn, HeadedPart, WholesPart, ItemsFound, WholeFound};
 
-// Whether c lies from first to last. In pairs in random order a processor foretells `last < first`, which holds in no table, and the one test
-// behind it, which seldom passes; `first <= c` by itself would be a guess at every pair.
+// Whether c lies from first to last. Both tests are made, since where pairs stand in random order a branch at the first would be a guess.
 pub fn between(c: u32, first: u32, last: u32) -> bool
     ensures { λ r. ⌜ r ≡ (leb first c && leb c last) ⌝ }
 {
-    if last < first {
-        return false;
-    }
-    wrapping_sub_u32(c, first) <= last - first
+    (first <= c) & (c <= last)
 }
 
-// Whether c lies in one of the pairs first, last.
-pub fn in_pairs(part: &[u32], c: u32) -> bool
+// Whether c lies in one of four pairs first, last, of which the first stands at i and each other one `step` words behind the one before it. One
+// branch is then enough for four.
+fn in_four(part: &[u32], i: usize, step: usize, c: u32) -> bool
+    requires { ⌜ (2 ≤ step) × (step ≤ 3) × (i + 4 * step ≤ length (now part)) ⌝ }
+    ensures { λ r. ⌜ r ≡ inFour c (now (part .entry)) i step ⌝ }
+{
+    let j = i + step;
+    let k = j + step;
+    let l = k + step;
+    let first = between(c, part[i], part[i + 1]);
+    let second = between(c, part[j], part[j + 1]);
+    let third = between(c, part[k], part[k + 1]);
+    let fourth = between(c, part[l], part[l + 1]);
+    (first | second) | (third | fourth)
+}
+
+// A place up to which c lies in none of the pairs: that of four pairs with c, or one with fewer than four left.
+fn skip_pairs(part: &[u32], c: u32) -> usize
+    ensures { λ r. ⌜ Skipped (inPairs c) (now (part .entry)) r ⌝ }
+{
+    let mut i: usize = 0;
+    while 7 < part.len() - i {
+        if in_four(part, i, 2, c) {
+            return i;
+        }
+        i += 8;
+    }
+    i
+}
+
+// Whether c lies in one of the pairs first, last, asked one by one.
+fn in_any(part: &[u32], c: u32) -> bool
     ensures { λ r. ⌜ r ≡ inPairs c (now (part .entry)) ⌝ }
 {
     let mut i: usize = 0;
@@ -42,8 +67,30 @@ pub fn in_pairs(part: &[u32], c: u32) -> bool
     false
 }
 
-// The class of the first triple first, last, class with c in it, or 0.
-pub fn class_in(part: &[u32], c: u32) -> u32
+// Whether c lies in one of the pairs first, last.
+pub fn in_pairs(part: &[u32], c: u32) -> bool
+    ensures { λ r. ⌜ r ≡ inPairs c (now (part .entry)) ⌝ }
+{
+    let i = skip_pairs(part, c);
+    in_any(&part[i..], c)
+}
+
+// The same place for triples.
+fn skip_triples(part: &[u32], c: u32) -> usize
+    ensures { λ r. ⌜ Skipped (classAmong c) (now (part .entry)) r ⌝ }
+{
+    let mut i: usize = 0;
+    while 11 < part.len() - i {
+        if in_four(part, i, 3, c) {
+            return i;
+        }
+        i += 12;
+    }
+    i
+}
+
+// The class of the first triple first, last, class with c in it, or 0, asked one by one.
+fn class_of_any(part: &[u32], c: u32) -> u32
     ensures { λ r. ⌜ r ≡ classAmong c (now (part .entry)) ⌝ }
 {
     let mut i: usize = 0;
@@ -54,6 +101,14 @@ pub fn class_in(part: &[u32], c: u32) -> u32
         i += 3;
     }
     0
+}
+
+// The class of the first triple first, last, class with c in it, or 0.
+pub fn class_in(part: &[u32], c: u32) -> u32
+    ensures { λ r. ⌜ r ≡ classAmong c (now (part .entry)) ⌝ }
+{
+    let i = skip_triples(part, c);
+    class_of_any(&part[i..], c)
 }
 
 // Whether c is one of the items.

@@ -3,6 +3,7 @@ pub mod Syllables
 pub mod Moving
 pub mod Sorting
 pub mod Rounds
+pub mod Replacing
 pub mod Pairs
 pub mod Composing
 pub mod Texts

@@ -1,25 +1,30 @@
 -- Laws of finding a composition pair among the records of a section. Assumes nothing.
-use Prim.Native.Nat.{ℕ, _+_, _≤_, _<_}
+use Prim.Native.Nat.{ℕ, _+_, _*_, _≤_, _<_}
 use native.Mathlib.Omega.{arith}
 use mathlib.Core.Path.{_≡_, refl, sym, ap, _∙_}
-use mathlib.Core.Bool.{Bool, true, false, _&&_, cond}
+use mathlib.Core.Bool.{Bool, true, false, _&&_, _||_, cond}
 use mathlib.Core.List.{List, [], _∷_}
-use mathlib.Core.Option.{none, some, Option·map}
-use lib.ListN.{length, getD, take, drop, length-take, length-drop}
+use mathlib.Core.Option.{some, Option·map}
+use lib.ListN.{length, getD, take, drop, replicate, length-take, length-drop, length-replicate}
+use lib.Seq.{getD-drop, drop-drop}
 use lib.Dec.{eqb}
-use borrow.Author.Tests.{eq-eqb, ne-eqb}
+use borrow.Author.Tests.{eq-eqb, ne-eqb, eqb-true}
 use Rattle.lists.specs.Lists.{firstWith, keep, mem, sameList}
 use Rattle.table.specs.Table.{Table, Headed}
-use Rattle.table.specs.Layout.{mostParts}
+use Rattle.table.specs.Layout.{mostParts, mostWords}
 use Rattle.table.specs.Laid.{Laid, theTable, within}
 use Rattle.table.specs.Part.{HeadedAt, HeadedHere}
 use Rattle.table.proofs.Lookups.{drop-two}
 use Rattle.table.proofs.Records.{records-start, headed-step, headed-end}
-use Rattle.table.proofs.SectionLaws.{laid-reads}
+use Rattle.table.proofs.SectionLaws.{laid-reads, laid-small}
 use Rattle.table.specs.declared.Sections.{Sections}
+use Rattle.bit_sets.specs.Sets.{has, Put}
+use Rattle.bit_sets.proofs.PutLaws.{empty-has}
+use Rattle.text.specs.declared.compose.Composed.the-variants.{To, Nothing}
 use Rattle.text.specs.Decomposition.{classOf}
 use Rattle.text.specs.Composition.{isTwo, isPair, tablePair}
 use Rattle.text.specs.Work.{mayCompose, headedAt, isPairOf, pairAt}
+use Rattle.text.specs.Unpaired.{pairWords, pairPlaces, noRecord, isPairAt, Unpaired, Asked, PairFound}
 
 and-true : (b : Bool) → (b && true) ≡ b
 and-true true = refl
@@ -97,25 +102,41 @@ first-keep p q (r ∷ rs) = go (q r) (first-keep p q rs)
     go true h = rw h
     go false h = h
 
--- what the walk over the records keeps: the pair is among those that are left
-pub record PairWalk (t : Table) (part : List ℕ) (a b at : ℕ) : Type 0 where
+-- the record at a place is a composition pair, by what the code asks in turn
+pub pair-may : (t : Table) (part : List ℕ) (at a : ℕ) → at + 2 + getD part (at + 1) 0 ≤ length part → getD part (at + 1) 0 ≡ 2 → getD part (at + 2) 0 ≡ a
+    → isPair t (headedAt part at) ≡ mayCompose t (getD part at 0) a
+unfolding isPair
+pair-may t part at a fits e f = rw (items-are t part at a a fits e, f)
+
+-- what the walk over the records keeps: the pair is among those that are left, from this number on
+pub record PairWalk (t : Table) (part : List ℕ) (a b at number : ℕ) (set : List ℕ) : Type 0 where
   pub left : List Headed
   pub walk : HeadedAt mostParts part at left
   pub so : tablePair t a b ≡ Option·map (λ (r : Headed). r .head) (firstWith (isPairOf t a b) left)
+  pub from : left ≡ drop number (t .decompositions)
+  pub low : 3 * number ≤ at
+  pub short : length part ≤ mostWords
+  pub unpaired : Unpaired t set
 
-pub pair-start : (ws : List ℕ) (ix : Sections) (part : List ℕ) (a b : ℕ) → Laid ws ix → part ≡ within (ix .decompositions) ws → PairWalk (theTable ws) part a b 0
+pub pair-start : (ws : List ℕ) (ix : Sections) (part : List ℕ) (a b : ℕ) (set : List ℕ) → Laid ws ix → part ≡ within (ix .decompositions) ws
+    → Unpaired (theTable ws) set → PairWalk (theTable ws) part a b 0 0 set
 unfolding tablePair
-pair-start ws ix part a b laid e =
+pair-start ws ix part a b set laid e u =
     let t : Table = theTable ws in
+    let small = laid-small ws ix laid in
     record {
       left = t .decompositions;
       walk = rw e (records-start (λ k. Rattle.table.specs.Layout.headed k mostParts) (within (ix .decompositions) ws) (t .decompositions) (laid-reads ws ix laid .decompositions));
       so = ap (Option·map (λ (r : Headed). r .head)) (first-keep (λ (r : Headed). sameList (r .items) (a ∷ b ∷ [])) (isPair t) (t .decompositions));
+      from = refl;
+      low = omega arith;
+      short = rw e (simp (length-take, length-drop) (omega arith));
+      unpaired = u;
     }
 
-module _ (t : Table) (part : List ℕ) (a b at : ℕ) (w : PairWalk t part a b at) where
-  pub pair-stop : length part ≤ at → none ≡ tablePair t a b
-  pair-stop h = sym (w .so ∙ rw (headed-end mostParts part at (w .left) (w .walk) h))
+module _ (t : Table) (part : List ℕ) (a b at number : ℕ) (set : List ℕ) (w : PairWalk t part a b at number set) where
+  pub pair-stop : length part ≤ at → PairFound t set (tablePair t a b) Nothing
+  pair-stop h = record { is = sym (w .so ∙ rw (headed-end mostParts part at (w .left) (w .walk) h)); unpaired = w .unpaired }
 
   module _ (more : at < length part) where
     here : HeadedHere mostParts part at (w .left)
@@ -124,15 +145,61 @@ module _ (t : Table) (part : List ℕ) (a b at : ℕ) (w : PairWalk t part a b a
     pub pair-fits : at + 2 + getD part (at + 1) 0 ≤ length part
     pair-fits = here .fits
 
+    pub pair-number : number < pairPlaces
+    pair-number = omega (arith, w .low, w .short)
+
     first-is : here .first ≡ headedAt part at
     first-is = λ i. record { head = here .head i; items = here .items i }
+
+    left-is : drop number (t .decompositions) ≡ here .first ∷ here .rest
+    left-is = sym (w .from) ∙ here .split
+
+    pub pair-numbered : isPairAt t number ≡ isPair t (headedAt part at)
+    unfolding isPairAt
+    pair-numbered =
+        let z : number + 0 ≡ number = omega arith in
+        let g : getD (t .decompositions) number noRecord ≡ here .first = rw z at (sym (getD-drop number (t .decompositions) 0 noRecord) ∙ ap (λ (l : List Headed). getD l 0 noRecord) left-is) in
+        ap (isPair t) (g ∙ first-is)
 
     found : firstWith (isPairOf t a b) (w .left) ≡ cond (pairAt t part at a b) (some (headedAt part at)) (firstWith (isPairOf t a b) (here .rest))
     unfolding pairAt
     found = ap (firstWith (isPairOf t a b)) (here .split) ∙ ap (λ (r : Headed). cond (isPairOf t a b r) (some r) (firstWith (isPairOf t a b) (here .rest))) first-is
 
-    pub pair-hit : pairAt t part at a b ≡ true → some (getD part at 0) ≡ tablePair t a b
-    pair-hit e = sym (w .so ∙ rw (found, e))
+    module _ (set′ : List ℕ) (r : Bool) (q : Asked t set′ (pairAt t part at a b) r) where
+      pub pair-hit : r ≡ true → PairFound t set′ (tablePair t a b) (To (getD part at 0))
+      pair-hit e = record { is = sym (w .so ∙ rw (found, ← q .is, e)); unpaired = q .unpaired }
 
-    pub pair-on : pairAt t part at a b ≡ false → PairWalk t part a b (at + 2 + getD part (at + 1) 0)
-    pair-on e = record { left = here .rest; walk = here .next; so = w .so ∙ rw (found, e) }
+      pub pair-on : (next : ℕ) → next ≡ at + 2 + getD part (at + 1) 0 → r ≡ false → PairWalk t part a b next (number + 1) set′
+      pair-on next n e =
+          record {
+            left = here .rest;
+            walk = rw n (here .next);
+            so = w .so ∙ rw (found, ← q .is, e);
+            from = ap (drop 1) (sym left-is) ∙ drop-drop 1 number (t .decompositions);
+            low = omega (arith, w .low, here .low);
+            short = w .short;
+            unpaired = q .unpaired;
+          }
+
+-- the set of the records that were found to be none
+module _ (t : Table) (set : List ℕ) (number : ℕ) (u : Unpaired t set) where
+  pub unpaired-known : number < pairPlaces → (b : Bool) → isPairAt t number ≡ b → has set number ≡ true → Asked t set b false
+  unpaired-known h b e k = record { is = sym (u .each number h k) ∙ e; unpaired = u }
+
+  pub unpaired-more : (set′ : List ℕ) → isPairAt t number ≡ false → Put set set′ (λ e. eqb e number) → Unpaired t set′
+  unpaired-more set′ e p =
+      record {
+        size = p .room ∙ u .size;
+        each = λ i h k. go i h (eqb i number) refl (sym (p .each i (rw (u .size) h)) ∙ k);
+      }
+    where
+      go : (i : ℕ) → i < pairPlaces → (b : Bool) → eqb i number ≡ b → (b || has set i) ≡ true → isPairAt t i ≡ false
+      go i h true q k = rw (eqb-true i number q) e
+      go i h false q k = u .each i h k
+
+pub unpaired-none : (t : Table) → Unpaired t (replicate pairWords 0)
+unpaired-none t =
+    record {
+      size = length-replicate {A = ℕ} pairWords 0;
+      each = λ i h k. let z : _≡_ {A = Bool} false true = sym (empty-has pairWords i) ∙ k in absurd (let o : _≡_ {A = ℕ} 0 1 = cc in omega arith);
+    }

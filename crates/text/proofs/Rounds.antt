@@ -7,8 +7,8 @@ use mathlib.Core.Path.{_≡_, refl, sym, ap, _∙_}
 use mathlib.Core.Bool.{Bool, true, false, _&&_}
 use mathlib.Core.Option.{some, none}
 use mathlib.Core.List.{List, [], _∷_, _++_, append-assoc, append-nil}
-use lib.ListN.{length, getD, take, drop, set, length-append, length-take, length-drop}
-use lib.Seq.{getD-take, take-take, set-out, getD-drop, take-suc-set, take-suc, take-set-le, length-sets}
+use lib.ListN.{length, getD, take, set, length-append, length-take}
+use lib.Seq.{set-out, take-suc, take-set-le, length-sets}
 use lib.Dec.{eqb}
 use Rattle.lists.specs.Lists.{joinedMap, sameList}
 use Rattle.table.specs.Table.{Table}
@@ -52,7 +52,7 @@ unfolding rounds
 rounds-single n t c = rw (append-nil (single t c))
 
 -- what one round leaves as it is, the later ones leave too
-rounds-same : (n : ℕ) (t : Table) (c : ℕ) → single t c ≡ c ∷ [] → rounds n t (c ∷ []) ≡ c ∷ []
+pub rounds-same : (n : ℕ) (t : Table) (c : ℕ) → single t c ≡ c ∷ [] → rounds n t (c ∷ []) ≡ c ∷ []
 rounds-same zero t c e = unfold rounds in refl
 rounds-same (suc n) t c e = rounds-single n t c ∙ rw e (rounds-same n t c e)
 
@@ -96,13 +96,6 @@ module _ (t : Table) (n : ℕ) (items out : List ℕ) (at : ℕ) where
   expand-fits out₁ j to o h =
       let m : j * mostFrom n ≤ 3 * mostFrom n = mul-le-mul-right (mostFrom n) (omega arith) in
       omega (arith, o .few, o .end)
-
--- one more word of a part is copied
-pub copy-more : (items ws : List ℕ) (from i : ℕ) → i < length items → from + i < length ws → take i items ≡ take i (drop from ws)
-    → take (i + 1) (set items i (getD ws (from + i) 0)) ≡ take (i + 1) (drop from ws)
-copy-more items ws from i h k e =
-    let j : i < length (drop from ws) = simp length-drop (omega arith) in
-    rw (add-one i, take-suc-set items i (getD ws (from + i) 0) h, take-suc (drop from ws) i 0 j, getD-drop from ws i 0, e)
 
 -- a single replacement, by what the code asks in turn
 pub single-syllable : (t : Table) (c : ℕ) → isSyllable c ≡ true → jamoOf (c - 0xAC00) ≡ single t c
@@ -181,19 +174,11 @@ most-fits t n k items out out′ at j to most e o h b =
 pub append-none : (out : List ℕ) (at c : ℕ) → length out ≤ at → Appended out out at (c ∷ []) (at + 1)
 append-none out at c h = record { put = sym (set-out out at c h); end = refl }
 
--- the loop over the first n of the items: one of them more, and all
-pub expand-next : (t : Table) (k n : ℕ) (items out out₁ out₂ : List ℕ) (at j to r : ℕ) → Expanding t k (take n items) out out₁ at j to → j < n → n ≤ length items
-    → Expanded t k (getD items j 0) out₁ out₂ to r → Expanding t k (take n items) out out₂ at (j + 1) r
-expand-next t k n items out out₁ out₂ at j to r o h f p =
-    let x : getD (take n items) j 0 ≡ getD items j 0 = getD-take n items j 0 h in
-    let l : j < length (take n items) = simp length-take (omega arith) in
-    expand-more t k (take n items) out at out₁ out₂ j to r o l (rw x (p .written)) (rw x (p .few))
-
-pub expand-all : (t : Table) (m k n c : ℕ) (items out out′ : List ℕ) (at j to : ℕ) → m ≡ suc k → Expanding t k (take n items) out out′ at j to → j ≡ n → n ≤ 4
-    → take n items ≡ single t c → Expanded t m c out out′ at to
-expand-all t m k n c items out out′ at j to e o q f i =
-    let a : take j (take n items) ≡ single t c = rw (q, take-take n n items (omega arith)) i in
-    expanded-more t m k c (take n items) out out′ at j to e o a (omega arith)
+-- the loop over the items: one of them more
+pub expand-next : (t : Table) (k : ℕ) (items out out₁ out₂ : List ℕ) (at j to r x : ℕ) → Expanding t k items out out₁ at j to → j < length items
+    → x ≡ getD items j 0 → Expanded t k x out₁ out₂ to r → Expanding t k items out out₂ at (j + 1) r
+expand-next t k items out out₁ out₂ at j to r x o h e p =
+    expand-more t k items out at out₁ out₂ j to r o h (rw (← e) (p .written)) (rw (← e) (p .few))
 
 -- four rounds
 pub expanded-four : (t : Table) (c : ℕ) (out out′ : List ℕ) (at r : ℕ) → Expanded t 4 c out out′ at r → Decomposed t c out out′ at r

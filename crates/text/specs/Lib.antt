@@ -6,3 +6,4 @@ pub mod Composition
 pub mod Sorting
 pub mod Rounds
 pub mod Work
+pub mod Unpaired

@@ -1,12 +1,16 @@
 -- Rounds of single replacement, counted, and what the code that does them answers. Assumes nothing.
-use Prim.Native.Nat.{ℕ, zero, suc, _+_, _*_, _≤_}
+use Prim.Native.Nat.{ℕ, zero, suc, _+_, _*_, _≤_, _<_}
 use mathlib.Core.Path.{_≡_}
 use mathlib.Core.List.{List, [], _∷_}
 use lib.ListN.{length, take}
 use lib.Seq.{sets}
 use Rattle.table.specs.Table.{Table}
+use Rattle.table.specs.Laid.{within, Fits}
 use Rattle.text.specs.declared.decompose.Parts.{Parts}
-use Rattle.text.specs.Decomposition.{round, fourRounds}
+use Rattle.text.specs.declared.decompose.Replacement.{Replacement}
+use Rattle.text.specs.declared.decompose.Replacement.the-variants.{Itself, Items, Jamo}
+use Rattle.text.specs.Hangul.{syllableCount, jamoOf}
+use Rattle.text.specs.Decomposition.{single, round, fourRounds}
 
 -- n rounds
 unfoldable pub rounds : ℕ → Table → List ℕ → List ℕ
@@ -27,6 +31,29 @@ placed = sets
 pub record Appended (out out′ : List ℕ) (at : ℕ) (s : List ℕ) (r : ℕ) : Type 0 where
   pub put : out′ ≡ placed out at s
   pub end : r ≡ at + length s
+
+-- the codepoints that a replacement puts, none where the codepoint stays
+abbrev pub itemsBy : List ℕ → Replacement → List ℕ
+itemsBy ws Itself = []
+itemsBy ws (Items s) = within s ws
+itemsBy ws (Jamo s) = jamoOf s
+
+-- they lie within the words, or there is such a syllable
+abbrev pub ByFits : List ℕ → Replacement → Type 0
+ByFits ws Itself = Unit {0}
+ByFits ws (Items s) = Fits ws s
+ByFits ws (Jamo s) = s < syllableCount
+
+-- c itself where nothing is put in its place
+abbrev pub orItself : ℕ → List ℕ → List ℕ
+orItself c [] = c ∷ []
+orItself c (x ∷ xs) = x ∷ xs
+
+-- what a single replacement of c puts, at most four
+pub record ReplacedBy (t : Table) (ws : List ℕ) (c : ℕ) (r : Replacement) : Type 0 where
+  pub is : orItself c (itemsBy ws r) ≡ single t c
+  pub few : length (itemsBy ws r) ≤ 4
+  pub fits : ByFits ws r
 
 -- the parts are this list, of at most four
 pub record PartsAre (s : List ℕ) (r : Parts) : Type 0 where

@@ -6,12 +6,20 @@ use table::Span;
 ghost use Prim.Native.Nat.{_≤_, _<_, _+_, _^_};
 ghost use mathlib.Core.Path.{_≡_};
 ghost use mathlib.Core.List.{[], _∷_};
-ghost use lib.ListN.{length, take};
+ghost use lib.ListN.{length, getD, take};
 ghost use Rattle.lists.specs.Lists.{sameList};
-ghost use Rattle.table.specs.Laid.{Laid, theTable, within};
-ghost use Rattle.text.specs.Hangul.{jamoOf};
+ghost use Rattle.table.specs.Laid.{Laid, theTable};
+ghost use Rattle.text.specs.Hangul.{syllableCount, jamoOf};
 ghost use Rattle.text.specs.Decomposition.{single};
-ghost use Rattle.text.specs.Rounds.{mostFrom, PartsAre, Expanded, Appended, Decomposed};
+ghost use Rattle.text.specs.Rounds.{mostFrom, itemsBy, ByFits, ReplacedBy, PartsAre, Expanded, Appended, Decomposed};
+
+// What a single replacement puts in the place of a codepoint: nothing else, the items that stand at a place of the table, or the jamo of a
+// syllable, counted from 0. They are read one by one: what is copied stays on the stack.
+pub enum Replacement {
+    Itself,
+    Items(Span),
+    Jamo(u32),
+}
 
 // At most four codepoints: the first `count` of the items.
 pub struct Parts {
@@ -19,37 +27,85 @@ pub struct Parts {
     pub items: [u32; 4],
 }
 
-// The jamo of the syllable number s, counted from 0.
-fn jamo(s: u32) -> Parts
-    requires { ⌜ s < 11172 ⌝ }
-    ensures { λ r. ⌜ PartsAre (jamoOf s) r ⌝ }
+// A single replacement: a syllable's jamo, else the items of the table's record, else c itself.
+pub fn single(words: &[u32], ix: Sections, c: u32) -> Replacement
+    requires { ⌜ Laid (now words) ix ⌝ }
+    ensures { λ r. ⌜ ReplacedBy (theTable (now (words .entry))) (now (words .entry)) c r ⌝ }
 {
-    let l = 0x1100 + s / 588;
-    let v = 0x1161 + s % 588 / 28;
-    let t = s % 28;
-    if t == 0 {
-        return Parts {
-            count: 2,
-            items: [l, v, 0, 0],
-        };
+    if hangul::is_syllable(c) {
+        return Replacement::Jamo(c - 0xAC00);
     }
-    Parts {
-        count: 3,
-        items: [l, v, 0x11A7 + t, 0],
+    match table::lookup::decomposition_items(words, ix, c) {
+        Items::At(s) => Replacement::Items(s),
+        Items::Nothing => Replacement::Itself,
     }
 }
 
-// The items of a part of at most four words.
-fn copied(words: &[u32], s: Span) -> Parts
-    requires { ⌜ (s .from ≤ s .to) × (s .to ≤ length (now words)) × (s .to ≤ s .from + 4) ⌝ }
-    ensures { λ r. ⌜ PartsAre (within s (now (words .entry))) r ⌝ }
+// How many jamo the syllable number s has.
+fn jamo_count(s: u32) -> usize
+    ensures { λ r. ⌜ r ≡ length (jamoOf s) ⌝ }
 {
-    let from = s.from;
-    let n = s.to - from;
+    if s % 28 == 0 {
+        return 2;
+    }
+    3
+}
+
+// The jamo at i of the syllable number s.
+fn jamo_at(s: u32, i: usize) -> u32
+    requires { ⌜ (s < syllableCount) × (i < length (jamoOf s)) ⌝ }
+    ensures { λ r. ⌜ r ≡ getD (jamoOf s) i 0 ⌝ }
+{
+    if i == 0 {
+        return 0x1100 + s / 588;
+    }
+    if i == 1 {
+        return 0x1161 + s % 588 / 28;
+    }
+    0x11A7 + s % 28
+}
+
+// How many codepoints a replacement puts; 0 where the codepoint stays.
+pub fn count(words: &[u32], by: Replacement) -> usize
+    requires { ⌜ ByFits (now words) by ⌝ }
+    ensures { λ r. ⌜ r ≡ length (itemsBy (now (words .entry)) by) ⌝ }
+{
+    match by {
+        Replacement::Itself => 0,
+        Replacement::Items(s) => s.to - s.from,
+        Replacement::Jamo(s) => jamo_count(s),
+    }
+}
+
+// The one at i of them.
+pub fn item(words: &[u32], by: Replacement, i: usize) -> u32
+    requires { ⌜ ByFits (now words) by × (i < length (itemsBy (now words) by)) ⌝ }
+    ensures { λ r. ⌜ r ≡ getD (itemsBy (now (words .entry)) by) i 0 ⌝ }
+{
+    match by {
+        Replacement::Itself => 0,
+        Replacement::Items(s) => words[s.from + i],
+        Replacement::Jamo(s) => jamo_at(s, i),
+    }
+}
+
+// A single replacement by value.
+pub fn replaced(words: &[u32], ix: Sections, c: u32) -> Parts
+    requires { ⌜ Laid (now words) ix ⌝ }
+    ensures { λ r. ⌜ PartsAre (single (theTable (now (words .entry))) c) r ⌝ }
+{
+    let by = single(words, ix, c);
+    let n = count(words, by);
+    if n == 0 {
+        return Parts {
+            count: 1,
+            items: [c, 0, 0, 0],
+        };
+    }
     let mut items: [u32; 4] = [0; 4];
     let mut i = 0;
     while i < n {
-        items[i] = words[from + i];
+        items[i] = item(words, by, i);
         i += 1;
     }
     Parts {
@@ -58,25 +114,8 @@ fn copied(words: &[u32], s: Span) -> Parts
     }
 }
 
-// A single replacement: a syllable's jamo, else the items of the table's record, else c itself.
-pub fn replaced(words: &[u32], ix: Sections, c: u32) -> Parts
-    requires { ⌜ Laid (now words) ix ⌝ }
-    ensures { λ r. ⌜ PartsAre (single (theTable (now (words .entry))) c) r ⌝ }
-{
-    if hangul::is_syllable(c) {
-        return jamo(c - 0xAC00);
-    }
-    match table::lookup::decomposition_items(words, ix, c) {
-        Items::At(s) => copied(words, s),
-        Items::Nothing => Parts {
-            count: 1,
-            items: [c, 0, 0, 0],
-        },
-    }
-}
-
 // Writes c at `at`, if there is room, and answers the next place.
-fn put(out: &mut [u32], at: usize, c: u32) -> usize
+pub fn put(out: &mut [u32], at: usize, c: u32) -> usize
     requires { ⌜ at < 2 ^ 41 ⌝ }
     ensures { λ r. ⌜ Appended (now (out .entry)) (now (out .exit)) at (c ∷ []) r ⌝ }
 {
@@ -109,16 +148,16 @@ fn expand(words: &[u32], ix: Sections, out: &mut [u32], at: usize, c: u32, round
     if rounds == 0 {
         return put(out, at, c);
     }
-    let parts = replaced(words, ix, c);
-    if is_alone(parts, c) {
+    let by = single(words, ix, c);
+    let n = count(words, by);
+    if n == 0 {
         return put(out, at, c);
     }
-    let n = parts.count;
-    let items = parts.items;
     let mut to = at;
     let mut i = 0;
     while i < n {
-        to = expand(words, ix, out, to, items[i], rounds - 1);
+        let d = item(words, by, i);
+        to = expand(words, ix, out, to, d, rounds - 1);
         i += 1;
     }
     to

@@ -10,6 +10,7 @@ ghost use Rattle.table.specs.Laid.{Laid, theTable};
 ghost use Rattle.text.specs.Decomposition.{classOf};
 ghost use Rattle.text.specs.Ordering.{order};
 ghost use Rattle.text.specs.Work.{ComposedInto};
+ghost use Rattle.text.specs.Unpaired.{Unpaired};
 
 // Writes the class of each codepoint of the text beside it.
 pub fn put_classes(words: &[u32], ix: Sections, text: &[u32], classes: &mut [u32])
@@ -26,12 +27,20 @@ pub fn put_classes(words: &[u32], ix: Sections, text: &[u32], classes: &mut [u32
 
 // Orders and composes a decomposed text in place; `classes` is as long as the text, whatever stands in it. The answer is the number of
 // codepoints that are left, which stand in front.
-pub fn ordered_composed(words: &[u32], ix: Sections, text: &mut [u32], classes: &mut [u32]) -> usize
+pub fn ordered_composed(
+    words: &[u32],
+    ix: Sections,
+    unpaired: &mut [u32],
+    text: &mut [u32],
+    classes: &mut [u32],
+) -> usize
     requires { ⌜ Laid (now words) ix ⌝ }
+    requires { ⌜ Unpaired (theTable (now words)) (now unpaired) ⌝ }
     requires { ⌜ length (now text) ≡ length (now classes) ⌝ }
     ensures { λ r. ⌜ ComposedInto (theTable (now (words .entry))) (order (theTable (now (words .entry))) (now (text .entry))) (now (text .exit)) r ⌝ }
+    ensures { λ _. ⌜ Unpaired (theTable (now (words .entry))) (now (unpaired .exit)) ⌝ }
 {
     put_classes(words, ix, text, classes);
     order::order(text, classes);
-    compose::compose(words, ix, text, classes)
+    compose::compose(words, ix, unpaired, text, classes)
 }

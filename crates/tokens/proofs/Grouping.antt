@@ -119,7 +119,7 @@ pub laying-cells : (t : Table) (ss : List Step) (run : Run) (w : List ℕ) → L
     → Cells (decomposed t (tokensOf ss)) w (run .worked)
 laying-cells t ss run w l h =
     record {
-      count = l .worked ∙ ap length (sym (tokens-joined t ss));
+      count = l .worked h ∙ ap length (sym (tokens-joined t ss));
       few = h;
       words = l .words h ∙ sym (tokens-joined t ss);
       marks = l .marks h ∙ sym (tokens-marks t ss);

@@ -1,18 +1,18 @@
 -- Laying steps down one after another, and that the tokens of the steps then stand in the work area. Assumes nothing.
-use Prim.Native.Nat.{ℕ, zero, suc, _+_}
-use native.Mathlib.Nat.{zero-add, add-zero, suc-add}
+use Prim.Native.Nat.{ℕ, zero, suc, _+_, _≤_, _<_}
+use native.Mathlib.Nat.{zero-add, suc-add}
 use native.Mathlib.Omega.{arith}
 use mathlib.Core.Path.{_≡_, refl, sym, _∙_, ap}
 use mathlib.Core.Bool.{Bool, true, false, not, _||_, or-assoc, or-false, or-true}
 use mathlib.Core.List.{List, [], _∷_, _++_, append-nil, append-assoc}
-use lib.ListN.{length, take, drop, replicate, length-append, replicate-append-replicate}
+use lib.ListN.{length, replicate, length-append, replicate-append-replicate}
 use Rattle.lists.specs.Lists.{any, isEmpty}
 use Rattle.lists.specs.Laws.{joined-append}
 use Rattle.table.specs.Table.{Table}
 use Rattle.text.specs.Decomposition.{fourRounds}
 use Rattle.text.proofs.Rounds.{rounds-join, rounds-four}
 use Rattle.tokens.specs.declared.cells.Run.{Run}
-use Rattle.tokens.specs.Emoji.{Found}
+use Rattle.finder.specs.Emoji.{Found}
 use Rattle.tokens.specs.Scan as scan
 use Rattle.tokens.specs.Scan.{Step}
 use Rattle.tokens.specs.Tokens.{emoji, text, worked}
@@ -68,20 +68,43 @@ module _ (t : Table) where
 
   pub laying-start : (w : List ℕ) → Laying t [] (record { worked = 0; emoji = false; text = false; mark = 1 }) w
   unfolding laid marksFrom markAfter
-  laying-start w = record { worked = refl; emoji = refl; text = refl; mark = refl; words = λ h. refl; marks = λ h. refl }
+  laying-start w =
+      record { over = λ h. absurd (omega arith); worked = λ h. refl; emoji = refl; text = refl; mark = λ h. refl; words = λ h. refl; marks = λ h. refl }
 
-  pub laying-step : (ss : List Step) (run : Run) (w w′ : List ℕ) (s : Step) (r : Run) → Laying t ss run w
+  -- one step more, where the codepoints so far are not over
+  pub laying-step : (ss : List Step) (run : Run) (w w′ : List ℕ) (s : Step) (r : Run) → Laying t ss run w → run .worked ≤ mostWorked
       → PutAt w w′ (run .worked) (stepText t s) (stepMarks t (run .mark) s) (r .worked)
       → r .emoji ≡ (run .emoji || stepEmoji s) → r .text ≡ (run .text || stepTexts s) → r .mark ≡ stepMark t (run .mark) s
       → Laying t (ss ++ s ∷ []) r w′
-  laying-step ss run w w′ s r l p e x m =
+  laying-step ss run w w′ s r l few p e x m =
+      let count : r .worked ≡ length (laid t (ss ++ s ∷ [])) =
+      rw (laid-snoc ss s, length-append (laid t ss) (stepText t s), ← l .worked few) (p .end) in
       record {
-        worked = rw (laid-snoc ss s, length-append (laid t ss) (stepText t s), ← l .worked) (p .end);
+        over = λ h. omega arith;
+        worked = λ h. count;
         emoji = rw (any-snoc stepEmoji ss s, ← l .emoji) e;
         text = rw (any-snoc stepTexts ss s, ← l .text) x;
-        mark = rw (mark-snoc 1 ss s, ← l .mark) m;
-        words = λ h. rw (laid-snoc ss s, ← l .words (omega (arith, p .end))) (p .words h);
-        marks = λ h. rw (marks-snoc 1 ss s, ← l .mark, ← l .marks (omega (arith, p .end))) (p .beside h);
+        mark = λ h. rw (mark-snoc 1 ss s, ← l .mark few) m;
+        words = λ h. rw (laid-snoc ss s, ← l .words few) (p .words h);
+        marks = λ h. rw (marks-snoc 1 ss s, ← l .mark few, ← l .marks few) (p .beside h);
+      }
+
+  -- one step more, where they are
+  pub laying-over : (ss : List Step) (run : Run) (w w′ : List ℕ) (s : Step) (r : Run) → Laying t ss run w → mostWorked < run .worked
+      → r .worked ≡ run .worked → r .emoji ≡ (run .emoji || stepEmoji s) → r .text ≡ (run .text || stepTexts s)
+      → Laying t (ss ++ s ∷ []) r w′
+  laying-over ss run w w′ s r l h n e x =
+      let long : length (laid t (ss ++ s ∷ [])) ≡ length (laid t ss) + length (stepText t s) =
+      rw (laid-snoc ss s) (length-append (laid t ss) (stepText t s)) in
+      let more : mostWorked < length (laid t ss) = l .over h in
+      record {
+        over = λ k. omega arith;
+        worked = λ k. absurd (omega arith);
+        emoji = rw (any-snoc stepEmoji ss s, ← l .emoji) e;
+        text = rw (any-snoc stepTexts ss s, ← l .text) x;
+        mark = λ k. absurd (omega arith);
+        words = λ k. absurd (omega arith);
+        marks = λ k. absurd (omega arith);
       }
 
 emoji-marks : (n : ℕ) → runMarks 0 0 n ≡ replicate n 0
@@ -99,10 +122,11 @@ record Alike (t : Table) (ss ss′ : List Step) : Type 0 where
 laying-alike : (t : Table) (ss ss′ : List Step) (run : Run) (w : List ℕ) → Alike t ss ss′ → Laying t ss run w → Laying t ss′ run w
 laying-alike t ss ss′ run w a l =
     record {
-      worked = l .worked ∙ ap length (a .words);
+      over = λ h. rw (← a .words) (l .over h);
+      worked = λ h. l .worked h ∙ ap length (a .words);
       emoji = l .emoji ∙ a .emoji;
       text = l .text ∙ a .text;
-      mark = l .mark ∙ a .mark;
+      mark = λ h. l .mark h ∙ a .mark;
       words = λ h. l .words h ∙ a .words;
       marks = λ h. l .marks h ∙ a .marks;
     }
@@ -154,36 +178,48 @@ module _ (t : Table) (ss : List Step) where
   laying-empty run w l = laying-alike t ss (ss ++ scan.text [] ∷ []) run w none-alike l
 
   -- one codepoint of text more
-  pub laying-text : (a : List ℕ) (run : Run) (w w′ : List ℕ) (c : ℕ) (r : Run) → Laying t (ss ++ scan.text a ∷ []) run w
-      → PutAt w w′ (run .worked) (fourRounds t (c ∷ [])) (runMarks (run .mark) 2 (length (fourRounds t (c ∷ [])))) (r .worked)
-      → r .emoji ≡ run .emoji → r .text ≡ true → r .mark ≡ nextMark (run .mark) (length (fourRounds t (c ∷ [])))
-      → Laying t (ss ++ scan.text (a ++ c ∷ []) ∷ []) r w′
-  unfolding stepText stepMarks stepMark
-  laying-text a run w w′ c r l p e x m =
-      let s : List Step = ss ++ scan.text a ∷ [] in
-      let one : Step = scan.text (c ∷ []) in
-      laying-alike t (s ++ one ∷ []) (ss ++ scan.text (a ++ c ∷ []) ∷ []) r w′ (join-alike a (c ∷ []))
-      (laying-step t s run w w′ one r l p (e ∙ sym (or-false (run .emoji))) (x ∙ sym (or-true (run .text))) m)
+  module _ (a : List ℕ) (run : Run) (w w′ : List ℕ) (c : ℕ) (r : Run) (l : Laying t (ss ++ scan.text a ∷ []) run w) where
+    one-more : Laying t ((ss ++ scan.text a ∷ []) ++ scan.text (c ∷ []) ∷ []) r w′ → Laying t (ss ++ scan.text (a ++ c ∷ []) ∷ []) r w′
+    one-more m =
+        laying-alike t ((ss ++ scan.text a ∷ []) ++ scan.text (c ∷ []) ∷ []) (ss ++ scan.text (a ++ c ∷ []) ∷ []) r w′ (join-alike a (c ∷ [])) m
 
-  pub laying-emoji : (run : Run) (w w′ : List ℕ) (f : Found) (r : Run) → Laying t ss run w
-      → PutAt w w′ (run .worked) (f .stripped) (runMarks 0 0 (length (f .stripped))) (r .worked)
-      → r .emoji ≡ true → r .text ≡ run .text → r .mark ≡ 1
-      → Laying t (ss ++ scan.emoji f ∷ []) r w′
+    pub laying-text : run .worked ≤ mostWorked
+        → PutAt w w′ (run .worked) (fourRounds t (c ∷ [])) (runMarks (run .mark) 2 (length (fourRounds t (c ∷ [])))) (r .worked)
+        → r .emoji ≡ run .emoji → r .text ≡ true → r .mark ≡ nextMark (run .mark) (length (fourRounds t (c ∷ [])))
+        → Laying t (ss ++ scan.text (a ++ c ∷ []) ∷ []) r w′
+    unfolding stepText stepMarks stepMark
+    laying-text few p e x m =
+        one-more
+        (laying-step t (ss ++ scan.text a ∷ []) run w w′ (scan.text (c ∷ [])) r l few p (e ∙ sym (or-false (run .emoji))) (x ∙ sym (or-true (run .text))) m)
+
+    pub laying-text-over : mostWorked < run .worked → r .worked ≡ run .worked → r .emoji ≡ run .emoji → r .text ≡ true
+        → Laying t (ss ++ scan.text (a ++ c ∷ []) ∷ []) r w′
+    laying-text-over h n e x =
+        one-more
+        (laying-over t (ss ++ scan.text a ∷ []) run w w′ (scan.text (c ∷ [])) r l h n (e ∙ sym (or-false (run .emoji))) (x ∙ sym (or-true (run .text))))
+
+  module _ (run : Run) (w w′ : List ℕ) (f : Found) (r : Run) (l : Laying t ss run w) (e : r .emoji ≡ true) (x : r .text ≡ run .text) where
+    pub laying-emoji : run .worked ≤ mostWorked → PutAt w w′ (run .worked) (f .stripped) (runMarks 0 0 (length (f .stripped))) (r .worked)
+        → r .mark ≡ 1 → Laying t (ss ++ scan.emoji f ∷ []) r w′
+    unfolding stepText stepMarks stepMark
+    laying-emoji few p m =
+        laying-step t ss run w w′ (scan.emoji f) r l few (rw (emoji-marks (length (f .stripped))) at p)
+        (e ∙ sym (or-true (run .emoji))) (x ∙ sym (or-false (run .text))) m
+
+    pub laying-emoji-over : mostWorked < run .worked → r .worked ≡ run .worked → Laying t (ss ++ scan.emoji f ∷ []) r w′
+    laying-emoji-over h n =
+        laying-over t ss run w w′ (scan.emoji f) r l h n (e ∙ sym (or-true (run .emoji))) (x ∙ sym (or-false (run .text)))
+
+  ignored-alike : Alike t ss (ss ++ scan.ignored ∷ [])
   unfolding stepText stepMarks stepMark
-  laying-emoji run w w′ f r l p e x m =
-      laying-step t ss run w w′ (scan.emoji f) r l (rw (emoji-marks (length (f .stripped))) at p)
-      (e ∙ sym (or-true (run .emoji))) (x ∙ sym (or-false (run .text))) m
+  ignored-alike =
+      record {
+        words = rw (laid-snoc t ss scan.ignored) (sym (append-nil (laid t ss)));
+        emoji = rw (any-snoc stepEmoji ss scan.ignored) (sym (or-false (any stepEmoji ss)));
+        text = rw (any-snoc stepTexts ss scan.ignored) (sym (or-false (any stepTexts ss)));
+        mark = sym (mark-snoc t 1 ss scan.ignored);
+        marks = rw (marks-snoc t 1 ss scan.ignored) (sym (append-nil (marksFrom t 1 ss)));
+      }
 
   pub laying-ignored : (run : Run) (w : List ℕ) → Laying t ss run w → Laying t (ss ++ scan.ignored ∷ []) run w
-  unfolding stepText stepMarks stepMark
-  laying-ignored run w l =
-      laying-step t ss run w w scan.ignored run l
-      (record {
-        end = sym (add-zero (run .worked));
-        same = refl;
-        words = λ h. sym (append-nil (take (run .worked) w));
-        beside = λ h. sym (append-nil (take (run .worked) (drop mostWorked w)));
-        words-left = λ h. refl;
-        marks-left = λ h. refl;
-      })
-      (sym (or-false (run .emoji))) (sym (or-false (run .text))) refl
+  laying-ignored run w l = laying-alike t ss (ss ++ scan.ignored ∷ []) run w ignored-alike l

@@ -1,7 +1,6 @@
-pub mod Taking
-pub mod Finding
 pub mod Alone
 pub mod Putting
+pub mod Marking
 pub mod Laying
 pub mod Grouping
 pub mod Stripping

@@ -11,7 +11,7 @@ use Rattle.limits.specs.Limits.{mostWorked, leastWork}
 use Rattle.tokens.specs.Laying.{runMarks, PutAt}
 
 -- the mark at a place
-abbrev markAt : ℕ → ℕ → ℕ → ℕ
+abbrev pub markAt : ℕ → ℕ → ℕ → ℕ
 markAt first later zero = first
 markAt first later (suc i) = later
 
@@ -19,7 +19,7 @@ replicate-snoc : (n l : ℕ) → replicate (suc n) l ≡ replicate n l ++ (l ∷
 replicate-snoc zero l = refl
 replicate-snoc (suc n) l = ap (λ (r : List ℕ). l ∷ r) (replicate-snoc n l)
 
-marks-snoc : (f l i : ℕ) → runMarks f l (suc i) ≡ runMarks f l i ++ (markAt f l i ∷ [])
+pub marks-snoc : (f l i : ℕ) → runMarks f l (suc i) ≡ runMarks f l i ++ (markAt f l i ∷ [])
 marks-snoc f l zero = refl
 marks-snoc f l (suc i) = ap (λ (r : List ℕ). f ∷ r) (replicate-snoc i l)
 
@@ -102,15 +102,4 @@ module _ (w₀ : List ℕ) (n : ℕ) (s : List ℕ) (first later : ℕ) where
         beside = λ few. rw (← e) (p .beside);
         words-left = λ few. rw (← e) (p .words-left);
         marks-left = λ few. rw (← e) (p .marks-left);
-      }
-
-  pub put-none : mostWorked < n + length s → PutAt w₀ w₀ n s (runMarks first later (length s)) (n + length s)
-  put-none h =
-      record {
-        end = refl;
-        same = refl;
-        words = λ few. absurd (omega arith);
-        beside = λ few. absurd (omega arith);
-        words-left = λ few. refl;
-        marks-left = λ few. refl;
       }

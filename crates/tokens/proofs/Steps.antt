@@ -1,5 +1,5 @@
 -- One step of the scan, and the loop over the steps of a label. Assumes nothing.
-use Prim.Native.Nat.{ℕ, zero, suc, pred, _+_, _-_, _*_, _≤_, _<_}
+use Prim.Native.Nat.{ℕ, zero, suc, pred, _+_, _-_, _≤_, _<_}
 use native.Mathlib.Omega.{arith}
 use native.Mathlib.Numerals.{add-one}
 use mathlib.Core.Path.{_≡_, refl, sym, _∙_, ap}
@@ -13,8 +13,8 @@ use Rattle.table.specs.Table.{Table}
 use Rattle.table.specs.Lookup.{inRanges, itemsOf}
 use Rattle.table.specs.Laid.{within}
 use Rattle.tokens.specs.declared.cells.Run.{Run}
-use Rattle.tokens.specs.declared.emoji.Match as match
-use Rattle.tokens.specs.declared.emoji.Match.{Match}
+use Rattle.finder.specs.declared.emoji.Match as match
+use Rattle.finder.specs.declared.emoji.Match.{Match}
 use Rattle.tokens.specs.declared.single.Single as single
 use Rattle.tokens.specs.declared.single.Single.{Single}
 use Rattle.tokens.specs.declared.scan.Which as which
@@ -22,14 +22,14 @@ use Rattle.tokens.specs.declared.scan.Which.{Which}
 use Rattle.tokens.specs.declared.scan.Stepped as stepped
 use Rattle.tokens.specs.declared.scan.Stepped.{Stepped}
 use Rattle.tokens.specs.declared.scan.Scanned as scanned
-use Rattle.tokens.specs.Emoji.{Found, strip, find}
-use Rattle.tokens.specs.Matching.{takes-fits}
-use Rattle.tokens.specs.Finding.{find-best}
-use Rattle.tokens.specs.Match.{SequenceFits, FoundBy}
+use Rattle.finder.specs.Emoji.{Found, strip, find}
+use Rattle.finder.specs.Matching.{takes-fits}
+use Rattle.finder.specs.Finding.{find-best}
+use Rattle.finder.specs.Match.{SequenceFits, FoundBy}
 use Rattle.tokens.specs.Scan.{Step, emoji, text, ignored, disallowed, width, codepointStep, stepAt, stepsFrom, steps, firstDisallowed}
 use Rattle.tokens.specs.Single.{ItemsThere, SingleFound}
-use Rattle.tokens.specs.Tokens.{tokensOf}
-use Rattle.tokens.specs.Laying.{mostStep, Laying, EmojiPut, TextPut, ItemsPut}
+use Rattle.tokens.specs.Tokens.{tokensOf, worked}
+use Rattle.tokens.specs.Laying.{laid, Laying, EmojiPut, TextPut, ItemsPut}
 use Rattle.tokens.specs.Scanning.{firstStep, Went, StepPut, Scans}
 use Rattle.tokens.proofs.Laying.{laying-start, laying-empty, laying-ignored}
 use Rattle.tokens.proofs.Grouping.{worked-length, tokens-joined, tokens-emoji, tokens-text, laying-cells}
@@ -55,7 +55,6 @@ module _ (t : Table) (ws : List ℕ) (c : ℕ) (s : Step) (x : Single) (f : Sing
               allowed = text-allowed s (c ∷ []) q;
               taken = rw (← q);
               which = rw (← q);
-              few = omega (arith, p .few);
               lays = λ ss l. rw (← q) (p .lays ss [] (laying-empty t ss run w l));
             };
       }
@@ -71,7 +70,6 @@ module _ (t : Table) (ws : List ℕ) (c : ℕ) (s : Step) (x : Single) (f : Sing
               allowed = text-allowed s (within i ws) q;
               taken = rw (← q);
               which = rw (← q);
-              few = p .few;
               lays = λ ss l. rw (← q) (p .lays ss l);
             };
       }
@@ -86,7 +84,6 @@ module _ (t : Table) (ws : List ℕ) (c : ℕ) (s : Step) (x : Single) (f : Sing
               allowed = λ d. let z : _≡_ {A = ℕ} 0 1 = cc in omega arith;
               taken = rw (← q);
               which = rw (← q);
-              few = omega arith;
               lays = λ ss l. rw (← q) (laying-ignored t ss run w l);
             };
       }
@@ -126,7 +123,6 @@ module _ (t : Table) (ws : List ℕ) where
               allowed = λ o. let z : _≡_ {A = ℕ} 0 1 = cc in omega arith;
               taken = rw s;
               which = rw s;
-              few = omega (arith, p .few);
               lays = λ ss l. rw s (p .lays t ss f refl l);
             };
       }
@@ -198,7 +194,6 @@ disallowed-next at disallowed ss h = absurd (h refl)
 pub record Scanning (t : Table) (l w₀ w : List ℕ) (run : Run) (at : ℕ) : Type 0 where
   pub done : List Step
   pub inside : at ≤ length l
-  pub few : run .worked ≤ mostStep * at
   pub same : length w ≡ length w₀
   pub split : steps t l ≡ done ++ stepsFrom t 0 (drop at l)
   pub search : firstDisallowed 0 (steps t l) ≡ firstDisallowed at (stepsFrom t 0 (drop at l))
@@ -208,7 +203,7 @@ module _ (t : Table) (l w₀ : List ℕ) where
   pub scan-start : Scanning t l w₀ w₀ (record { worked = 0; emoji = false; text = false; mark = 1 }) 0
   unfolding steps
   scan-start =
-      record { done = []; inside = omega arith; few = omega arith; same = refl; split = refl; search = refl; lays = laying-start t w₀ }
+      record { done = []; inside = omega arith; same = refl; split = refl; search = refl; lays = laying-start t w₀ }
 
   module _ (w : List ℕ) (run : Run) (at : ℕ) (p : Scanning t l w₀ w run at) (h : at < length l) where
     abbrev here : Step
@@ -249,7 +244,6 @@ module _ (t : Table) (l w₀ : List ℕ) where
         record {
           done = p .done ++ here ∷ [];
           inside = taken .1;
-          few = omega (arith, p .few, g .few, taken .0);
           same = q .same ∙ p .same;
           split = rw (g .taken) (p .split ∙ ap (λ (ss : List Step). p .done ++ ss) first ∙ sym one);
           search = rw (g .taken) (p .search ∙ ap (firstDisallowed at) first ∙ disallowed-next at here s (g .allowed));
@@ -272,12 +266,14 @@ module _ (t : Table) (l w₀ : List ℕ) where
       let all : steps t l ≡ p .done = p .split ∙ rw none-left (append-nil (p .done)) in
       let lays : Laying t (steps t l) run w = rw all (p .lays) in
       let s : List Step = steps t l in
+      let long : worked t (tokensOf s) ≡ length (laid t s) = worked-length t (tokensOf s) ∙ ap length (tokens-joined t s) in
       record {
         same = p .same;
         is = (
           p .search ∙ rw none-left refl,
           record {
-            worked = lays .worked ∙ ap length (sym (tokens-joined t s)) ∙ sym (worked-length t (tokensOf s));
+            over = λ h. rw long (lays .over h);
+            worked = λ h. lays .worked h ∙ sym long;
             emoji = lays .emoji ∙ sym (tokens-emoji s);
             text = lays .text ∙ sym (tokens-text s);
             cells = laying-cells t s run w lays;

@@ -2,22 +2,26 @@
 use Prim.Native.Nat.{ℕ, _+_, _≤_, _<_}
 use native.Mathlib.Omega.{arith}
 use native.Mathlib.Numerals.{add-one}
-use mathlib.Core.Path.{_≡_, refl, sym, _∙_, ap}
+use mathlib.Core.Path.{_≡_, refl, sym, _∙_}
 use mathlib.Core.Bool.{Bool, true, false, not}
 use mathlib.Core.List.{List, [], _∷_, _++_, append-nil}
-use lib.ListN.{length, getD, take, set, length-set, length-take, length-drop}
-use lib.Seq.{take-suc, take-suc-set, take-all}
+use lib.ListN.{length, getD, take, drop, length-append, length-take, length-drop}
+use lib.Seq.{take-suc, take-all}
 use lib.Dec.{eqb}
 use borrow.Author.Tests.{eq-eqb, ne-eqb}
 use Rattle.lists.specs.Lists.{keep}
+use Rattle.limits.specs.Limits.{mostWorked, leastWork}
 use Rattle.table.specs.declared.Span.{Span}
 use Rattle.table.specs.Layout.{mostItems}
 use Rattle.table.specs.Laid.{within}
 use Rattle.tokens.specs.declared.cells.Run.{Run}
-use Rattle.tokens.specs.Emoji.{selector, strip}
-use Rattle.tokens.specs.Match.{SequenceFits}
-use Rattle.tokens.specs.Laying.{runMarks, PutAt, StrippedInto, EmojiPut}
-use Rattle.tokens.proofs.Laying.{laying-emoji}
+use Rattle.finder.specs.Emoji.{selector, strip}
+use Rattle.finder.specs.Match.{SequenceFits}
+use Rattle.text.specs.Rounds.{placed, Appended}
+use Rattle.text.proofs.Rounds.{placed-join}
+use Rattle.tokens.specs.Laying.{MarksPut, EmojiPut}
+use Rattle.tokens.proofs.Marking.{put-both}
+use Rattle.tokens.proofs.Laying.{laying-emoji, laying-emoji-over}
 
 keep-join : (p : ℕ → Bool) (a b : List ℕ) → keep p (a ++ b) ≡ keep p a ++ keep p b
 keep-join p [] b = refl
@@ -31,65 +35,70 @@ strip-join : (a b : List ℕ) → strip (a ++ b) ≡ strip a ++ strip b
 unfolding strip
 strip-join a b = keep-join (λ c. not (eqb c selector)) a b
 
--- i codepoints are read, and what is left of them are the first n of `out`
-pub record Stripping (seq out₀ out : List ℕ) (i n : ℕ) : Type 0 where
+-- i codepoints are read, and what is left of them is written from `at` on, up to `to`
+pub record Stripping (seq out₀ : List ℕ) (at : ℕ) (out : List ℕ) (to i : ℕ) : Type 0 where
   pub inside : i ≤ length seq
-  pub few : n ≤ i
-  pub same : length out ≡ length out₀
-  pub put : take n out ≡ strip (take i seq)
+  pub few : to ≤ at + i
+  pub put : out ≡ placed out₀ at (strip (take i seq))
+  pub end : to ≡ at + length (strip (take i seq))
 
-module _ (seq out₀ : List ℕ) where
-  pub strip-start : Stripping seq out₀ out₀ 0 0
+module _ (seq out₀ : List ℕ) (at : ℕ) where
+  pub strip-start : Stripping seq out₀ at out₀ at 0
   unfolding strip
-  strip-start = record { inside = omega arith; few = omega arith; same = refl; put = refl }
+  strip-start = record { inside = omega arith; few = omega arith; put = refl; end = omega arith }
 
-  module _ (out : List ℕ) (i n : ℕ) (p : Stripping seq out₀ out i n) (h : i < length seq) where
+  module _ (out : List ℕ) (to i : ℕ) (p : Stripping seq out₀ at out to i) (h : i < length seq) where
     abbrev c : ℕ
     c = getD seq i 0
 
     next : strip (take (i + 1) seq) ≡ strip (take i seq) ++ strip (c ∷ [])
     next = rw (add-one i, take-suc seq i 0 h) (strip-join (take i seq) (c ∷ []))
 
-    pub strip-skip : c ≡ selector → Stripping seq out₀ out (i + 1) n
+    pub strip-skip : c ≡ selector → Stripping seq out₀ at out to (i + 1)
     unfolding strip
     strip-skip e =
         let none : strip (c ∷ []) ≡ [] = rw (eq-eqb c selector e) in
-        record { inside = omega arith; few = omega (arith, p .few); same = p .same; put = rw (next, none) (p .put ∙ sym (append-nil (strip (take i seq)))) }
+        let same : strip (take (i + 1) seq) ≡ strip (take i seq) = rw (next, none) (append-nil (strip (take i seq))) in
+        record { inside = omega arith; few = omega (arith, p .few); put = rw same (p .put); end = rw same (p .end) }
 
-    pub strip-put : length seq ≤ length out₀ → (c ≡ selector → ⊥) → Stripping seq out₀ (set out n c) (i + 1) (n + 1)
+    pub strip-put : (c ≡ selector → ⊥) → (out′ : List ℕ) (r : ℕ) → Appended out out′ to (c ∷ []) r → Stripping seq out₀ at out′ r (i + 1)
     unfolding strip
-    strip-put room e =
+    strip-put e out′ r q =
         let one : strip (c ∷ []) ≡ c ∷ [] = rw (ne-eqb c selector e) in
-        let fits : n < length out = omega (arith, p .few, p .same) in
+        let s : List ℕ = strip (take i seq) in
+        let more : strip (take (i + 1) seq) ≡ s ++ c ∷ [] = rw (next, one) in
         record {
           inside = omega arith;
-          few = omega (arith, p .few);
-          same = simp length-set (p .same);
-          put = rw (next, one, add-one n, take-suc-set out n c fits) (ap (λ (l : List ℕ). l ++ c ∷ []) (p .put));
+          few = omega (arith, p .few, q .end);
+          put = q .put ∙ rw (p .end, p .put, more) (sym (placed-join out₀ at s (c ∷ [])));
+          end = rw (more, length-append s (c ∷ [])) (omega (arith, q .end, p .end));
         }
 
-  pub strip-stop : (out : List ℕ) (i n : ℕ) → Stripping seq out₀ out i n → length seq ≤ i → StrippedInto seq out₀ out n
-  strip-stop out i n p h =
-      record { same = p .same; few = omega (arith, p .few, p .inside); put = p .put ∙ ap strip (take-all i seq h) }
+  pub strip-stop : (out : List ℕ) (to i : ℕ) → Stripping seq out₀ at out to i → length seq ≤ i → Appended out₀ out at (strip seq) to
+  strip-stop out to i p h =
+      let e : take i seq ≡ seq = take-all i seq h in
+      record { put = rw e at (p .put); end = rw e at (p .end) }
 
--- what is left of a sequence of a table
-pub stripped-small : (ws : List ℕ) (s : Span) (out out′ : List ℕ) (n : ℕ) → SequenceFits ws s → StrippedInto (within s ws) out out′ n → n ≤ mostItems
-stripped-small ws s out out′ n f d =
-    let small : length (within s ws) ≤ mostItems = simp (length-take, length-drop) (omega (arith, f .short)) in
-    omega (arith, d .few)
+-- a sequence of a table is short
+pub sequence-short : (ws : List ℕ) (s : Span) → SequenceFits ws s → length (within s ws) ≤ mostItems
+sequence-short ws s f = simp (length-take, length-drop) (omega (arith, f .short))
 
--- a stripped sequence that is put into the work area is an emoji laid down
-pub emoji-put : (ws w w′ : List ℕ) (s : Span) (run : Run) (out out′ : List ℕ) (n end : ℕ) → SequenceFits ws s → StrippedInto (within s ws) out out′ n
-    → PutAt w w′ (run .worked) (take n out′) (runMarks 0 0 (length (take n out′))) end
-    → EmojiPut ws w w′ s run (record { worked = end; emoji = true; text = run .text; mark = 1 })
-emoji-put ws w w′ s run out out′ n end f d p =
-    let small : n ≤ mostItems = stripped-small ws s out out′ n f d in
-    let few : length (take n out′) ≤ n = simp length-take (omega arith) in
-    record {
-      same = p .same;
-      few = omega (arith, p .end);
-      lays =
-          λ t ss g e l.
-          let q : take n out′ ≡ g .stripped = d .put ∙ sym e in
-          laying-emoji t ss run w w′ g (record { worked = end; emoji = true; text = run .text; mark = 1 }) l (rw q at p) refl refl refl;
-    }
+-- a stripped sequence that is written into the work area is an emoji laid down
+module _ (ws w : List ℕ) (s : Span) (run : Run) where
+  pub emoji-put : (out w₂ : List ℕ) (end : ℕ) → leastWork ≤ length w → run .worked ≤ mostWorked
+      → Appended (take mostWorked w) out (run .worked) (strip (within s ws)) end → MarksPut (out ++ drop mostWorked w) w₂ (run .worked) end 0 0
+      → EmojiPut ws w w₂ s run (record { worked = end; emoji = true; text = run .text; mark = 1 })
+  emoji-put out w₂ end big few a m =
+      let p = put-both w out (run .worked) end (strip (within s ws)) big a w₂ 0 0 m in
+      record {
+        same = p .same;
+        lays = λ t ss f e l.
+            laying-emoji t ss run w w₂ f (record { worked = end; emoji = true; text = run .text; mark = 1 }) l refl refl few (rw e p) refl;
+      }
+
+  pub emoji-over : mostWorked < run .worked → EmojiPut ws w w s run (record { worked = run .worked; emoji = true; text = run .text; mark = 1 })
+  emoji-over h =
+      record {
+        same = refl;
+        lays = λ t ss f e l. laying-emoji-over t ss run w w f (record { worked = run .worked; emoji = true; text = run .text; mark = 1 }) l refl refl h refl;
+      }

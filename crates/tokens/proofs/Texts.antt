@@ -1,12 +1,12 @@
 -- Laying text down, codepoint by codepoint. Assumes nothing.
-use Prim.Native.Nat.{ℕ, zero, suc, _+_, _-_, _*_, _≤_, _<_}
-use native.Mathlib.Nat.{zero-add}
+use Prim.Native.Nat.{ℕ, zero, suc, _+_, _-_, _≤_, _<_}
 use native.Mathlib.Omega.{arith}
 use mathlib.Core.Path.{_≡_, refl, _∙_, ap}
 use mathlib.Core.Bool.{true}
 use mathlib.Core.List.{List, [], _∷_, _++_}
 use lib.ListN.{length, getD, take, drop, length-drop}
-use lib.Seq.{sets-eq, take-append-seam, take-suc, getD-drop}
+use lib.Seq.{take-suc, getD-drop}
+use Rattle.limits.specs.Limits.{mostWorked, leastWork}
 use Rattle.table.specs.declared.Span.{Span}
 use Rattle.table.specs.Table.{Table}
 use Rattle.table.specs.Laid.{within}
@@ -14,9 +14,9 @@ use Rattle.text.specs.Decomposition.{fourRounds}
 use Rattle.text.specs.Rounds.{Decomposed}
 use Rattle.tokens.specs.declared.cells.Run.{Run}
 use Rattle.tokens.specs.Scan.{Step, text}
-use Rattle.tokens.specs.Single.{ItemsThere}
-use Rattle.tokens.specs.Laying.{mostFromOne, runMarks, nextMark, Laying, PutAt, TextPut, ItemsPut}
-use Rattle.tokens.proofs.Laying.{laying-empty, laying-text}
+use Rattle.tokens.specs.Laying.{nextMark, Laying, MarksPut, TextPut, ItemsPut}
+use Rattle.tokens.proofs.Marking.{put-both}
+use Rattle.tokens.proofs.Laying.{laying-empty, laying-text, laying-text-over}
 
 pub next-some : (m n : ℕ) → (n ≡ 0 → ⊥) → 2 ≡ nextMark m n
 next-some m zero h = absurd (h refl)
@@ -25,35 +25,30 @@ next-some m (suc n) h = refl
 pub next-none : (m n : ℕ) → n ≡ 0 → m ≡ nextMark m n
 next-none m n h = rw h
 
-module _ (t : Table) (c : ℕ) (out out′ : List ℕ) (n : ℕ) (long : length out ≡ mostFromOne) (d : Decomposed t c out out′ 0 n) where
-  decomposed-length : n ≡ length (fourRounds t (c ∷ []))
-  decomposed-length = d .written .end ∙ zero-add (length (fourRounds t (c ∷ [])))
+-- a codepoint's decomposition that is written into the work area is text laid down
+module _ (t : Table) (c : ℕ) (w : List ℕ) (run : Run) where
+  pub decomposed-behind : (out : List ℕ) (end : ℕ) → Decomposed t c (take mostWorked w) out (run .worked) end → run .worked ≤ end
+  decomposed-behind out end d = omega (arith, d .written .end)
 
-  -- the decomposition stands in front
-  decomposed-front : take n out′ ≡ fourRounds t (c ∷ [])
-  decomposed-front =
+  pub text-put : (out w₂ : List ℕ) (end mark : ℕ) → leastWork ≤ length w → run .worked ≤ mostWorked
+      → Decomposed t c (take mostWorked w) out (run .worked) end → MarksPut (out ++ drop mostWorked w) w₂ (run .worked) end (run .mark) 2
+      → mark ≡ nextMark (run .mark) (end - run .worked)
+      → TextPut t w w₂ c run (record { worked = end; emoji = run .emoji; text = true; mark = mark })
+  text-put out w₂ end mark big few d m n =
       let s : List ℕ = fourRounds t (c ∷ []) in
-      let fits : 0 + length s ≤ length out = omega (arith, decomposed-length, d .few) in
-      let all : out′ ≡ s ++ drop (0 + length s) out = d .written .put ∙ sets-eq s out 0 fits in
-      rw (all, decomposed-length) (take-append-seam s (drop (0 + length s) out))
-
-  pub decomposed-small : n ≤ mostFromOne
-  decomposed-small = omega (arith, d .few)
-
-  pub decomposed-taken : n ≡ length (take n out′)
-  decomposed-taken = rw decomposed-front decomposed-length
-
-  pub text-put : (w w′ : List ℕ) (run : Run) (end mark : ℕ)
-      → PutAt w w′ (run .worked) (take n out′) (runMarks (run .mark) 2 (length (take n out′))) end → mark ≡ nextMark (run .mark) n
-      → TextPut t w w′ c run (record { worked = end; emoji = run .emoji; text = true; mark = mark })
-  text-put w w′ run end mark p m =
-      let s : List ℕ = fourRounds t (c ∷ []) in
-      let r : Run = record { worked = end; emoji = run .emoji; text = true; mark = mark } in
-      let q : PutAt w w′ (run .worked) s (runMarks (run .mark) 2 (length s)) end = rw decomposed-front at p in
+      let p = put-both w out (run .worked) end s big (d .written) w₂ (run .mark) 2 m in
+      let e : end - run .worked ≡ length s = omega (arith, d .written .end) in
       record {
         same = p .same;
-        few = omega (arith, q .end, decomposed-length, decomposed-small);
-        lays = λ ss a l. laying-text t ss a run w w′ c r l q refl refl (rw (← decomposed-length) m);
+        lays = λ ss a l.
+            laying-text t ss a run w w₂ c (record { worked = end; emoji = run .emoji; text = true; mark = mark }) l few p refl refl (rw e at n);
+      }
+
+  pub text-over : mostWorked < run .worked → TextPut t w w c run (record { worked = run .worked; emoji = run .emoji; text = true; mark = run .mark })
+  text-over h =
+      record {
+        same = refl;
+        lays = λ ss a l. laying-text-over t ss a run w w c (record { worked = run .worked; emoji = run .emoji; text = true; mark = run .mark }) l h refl refl refl;
       }
 
 -- the items from `from` up to i are laid down
@@ -61,7 +56,6 @@ pub record Itemed (t : Table) (ws w₀ : List ℕ) (from to : ℕ) (run : Run) (
   pub low : from ≤ i
   pub high : i ≤ to
   pub same : length w ≡ length w₀
-  pub few : r .worked ≤ run .worked + mostFromOne * (i - from)
   pub lays : (ss : List Step) → Laying t ss run w₀ → Laying t (ss ++ text (take (i - from) (drop from ws)) ∷ []) r w
 
 module _ (t : Table) (ws w₀ : List ℕ) (s : Span) (run : Run) where
@@ -72,7 +66,6 @@ module _ (t : Table) (ws w₀ : List ℕ) (s : Span) (run : Run) where
         low = omega arith;
         high = omega arith;
         same = refl;
-        few = omega arith;
         lays = λ ss l. rw e (laying-empty t ss run w₀ l);
       }
 
@@ -91,15 +84,13 @@ module _ (t : Table) (ws w₀ : List ℕ) (s : Span) (run : Run) where
         low = omega (arith, p .low);
         high = omega arith;
         same = q .same ∙ p .same;
-        few = omega (arith, p .few, q .few, p .low);
         lays = λ ss l. rw next (q .lays ss (take k (drop from ws)) (p .lays ss l));
       }
 
-  pub items-stop : (w : List ℕ) (r : Run) (i : ℕ) → ItemsThere ws s → Itemed t ws w₀ (s .from) (s .to) run w r i → s .to ≤ i → ItemsPut t w₀ w (within s ws) run r
-  items-stop w r i f p h =
+  pub items-stop : (w : List ℕ) (r : Run) (i : ℕ) → Itemed t ws w₀ (s .from) (s .to) run w r i → s .to ≤ i → ItemsPut t w₀ w (within s ws) run r
+  items-stop w r i p h =
       let e : i ≡ s .to = omega (arith, p .high) in
       record {
         same = p .same;
-        few = omega (arith, p .few, f .short);
         lays = λ ss l. rw (← e) (p .lays ss l);
       }

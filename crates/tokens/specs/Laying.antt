@@ -1,31 +1,19 @@
 -- Laying tokens down step by step: what the steps of a label put into the work area. Assumes nothing.
-use Prim.Native.Nat.{ℕ, zero, suc, _+_, _*_, _≤_}
+use Prim.Native.Nat.{ℕ, zero, suc, _+_, _-_, _≤_, _<_}
 use mathlib.Core.Path.{_≡_}
 use mathlib.Core.Bool.{Bool, true, false, not}
 use mathlib.Core.List.{List, [], _∷_, _++_}
 use lib.ListN.{length, take, drop, replicate}
 use Rattle.lists.specs.Lists.{any, joinedMap, isEmpty}
-use Rattle.limits.specs.Limits.{mostInput, mostWorked}
+use Rattle.limits.specs.Limits.{mostWorked}
 use Rattle.table.specs.Table.{Table}
 use Rattle.table.specs.declared.Span.{Span}
-use Rattle.table.specs.Layout.{mostItems}
 use Rattle.table.specs.Laid.{within}
 use Rattle.text.specs.Decomposition.{fourRounds}
+use Rattle.text.specs.Rounds.{placed}
 use Rattle.tokens.specs.declared.cells.Run.{Run}
-use Rattle.tokens.specs.Emoji.{Found, strip}
+use Rattle.finder.specs.Emoji.{Found, strip}
 use Rattle.tokens.specs.Scan.{Step, emoji, text, ignored, disallowed}
-
--- the most codepoints that four rounds make of one
-abbrev pub mostFromOne : ℕ
-mostFromOne = 256
-
--- the most codepoints that one step of a label lays down
-abbrev pub mostStep : ℕ
-mostStep = mostFromOne * mostItems
-
--- the most that all steps of an input lay down, kept or not: the sums of the scan stay below this and one step more
-abbrev pub mostLaid : ℕ
-mostLaid = mostStep * mostInput
 
 -- n marks: one, and then others
 abbrev pub runMarks : ℕ → ℕ → ℕ → List ℕ
@@ -87,13 +75,14 @@ stepTexts (text s) = not (isEmpty s)
 stepTexts ignored = false
 stepTexts disallowed = false
 
--- The steps are laid down so: their number of codepoints, whether there are emoji and text, the mark of the next codepoint of text, and,
--- as long as there is room, the codepoints and the marks.
+-- The steps are laid down so: their number of codepoints, or that they are over the limit; whether there are emoji and text; and, unless they
+-- are over, the mark of the next codepoint of text, the codepoints and the marks.
 pub record Laying (t : Table) (ss : List Step) (run : Run) (w : List ℕ) : Type 0 where
-  pub worked : run .worked ≡ length (laid t ss)
+  pub over : mostWorked < run .worked → mostWorked < length (laid t ss)
+  pub worked : run .worked ≤ mostWorked → run .worked ≡ length (laid t ss)
   pub emoji : run .emoji ≡ any stepEmoji ss
   pub text : run .text ≡ any stepTexts ss
-  pub mark : run .mark ≡ markAfter t 1 ss
+  pub mark : run .worked ≤ mostWorked → run .mark ≡ markAfter t 1 ss
   pub words : run .worked ≤ mostWorked → take (run .worked) w ≡ laid t ss
   pub marks : run .worked ≤ mostWorked → take (run .worked) (drop mostWorked w) ≡ marksFrom t 1 ss
 
@@ -107,26 +96,23 @@ pub record PutAt (w w′ : List ℕ) (n : ℕ) (s marks : List ℕ) (r : ℕ) : 
   pub words-left : r ≤ mostWorked → drop r (take mostWorked w′) ≡ drop r (take mostWorked w)
   pub marks-left : r ≤ mostWorked → drop r (drop mostWorked w′) ≡ drop r (drop mostWorked w)
 
--- the sequence without its FE0F are the first r of `out`; what is behind them is open
-pub record StrippedInto (seq out out′ : List ℕ) (r : ℕ) : Type 0 where
-  pub same : length out′ ≡ length out
-  pub few : r ≤ length seq
-  pub put : take r out′ ≡ strip seq
+-- the codepoints from `from` up to `to` are marked, if they are not over
+pub record MarksPut (w w′ : List ℕ) (from to first later : ℕ) : Type 0 where
+  pub same : length w′ ≡ length w
+  pub words : take mostWorked w′ ≡ take mostWorked w
+  pub marks : to ≤ mostWorked → drop mostWorked w′ ≡ placed (drop mostWorked w) from (runMarks first later (to - from))
 
 -- an emoji is laid down; words beyond the cells are open here and below
 pub record EmojiPut (ws w w′ : List ℕ) (s : Span) (run r : Run) : Type 0 where
   pub same : length w′ ≡ length w
-  pub few : r .worked ≤ run .worked + mostItems
   pub lays : (t : Table) (ss : List Step) (f : Found) → f .stripped ≡ strip (within s ws) → Laying t ss run w → Laying t (ss ++ emoji f ∷ []) r w′
 
 -- one codepoint of text more is laid down, decomposed
 pub record TextPut (t : Table) (w w′ : List ℕ) (c : ℕ) (run r : Run) : Type 0 where
   pub same : length w′ ≡ length w
-  pub few : r .worked ≤ run .worked + mostFromOne
   pub lays : (ss : List Step) (a : List ℕ) → Laying t (ss ++ text a ∷ []) run w → Laying t (ss ++ text (a ++ c ∷ []) ∷ []) r w′
 
 -- a text is laid down, decomposed
 pub record ItemsPut (t : Table) (w w′ : List ℕ) (s : List ℕ) (run r : Run) : Type 0 where
   pub same : length w′ ≡ length w
-  pub few : r .worked ≤ run .worked + mostStep
   pub lays : (ss : List Step) → Laying t ss run w → Laying t (ss ++ text s ∷ []) r w′

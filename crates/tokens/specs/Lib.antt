@@ -1,8 +1,3 @@
-pub mod Emoji
-pub mod Matching
-pub mod Finding
-pub mod Took
-pub mod Match
 pub mod Scan
 pub mod Single
 pub mod Tokens

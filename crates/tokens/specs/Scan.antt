@@ -6,7 +6,7 @@ use mathlib.Core.Option.{Option, none, some}
 use Rattle.lists.specs.Lists.{onSome}
 use Rattle.table.specs.Table.{Table}
 use Rattle.table.specs.Lookup.{inRanges, itemsOf}
-use Rattle.tokens.specs.Emoji.{Found, find}
+use Rattle.finder.specs.Emoji.{Found, find}
 
 -- what stands at one place of the label: an emoji, text, an ignored codepoint, or a disallowed one
 pub data Step : Type 0 where

@@ -1,5 +1,5 @@
 -- What the steps of the scan answer, and the scan itself. Assumes nothing.
-use Prim.Native.Nat.{ℕ, _+_, _*_, _≤_}
+use Prim.Native.Nat.{ℕ, _≤_, _<_}
 use mathlib.Core.Path.{_≡_}
 use mathlib.Core.Bool.{not}
 use mathlib.Core.List.{List, [], _∷_, _++_}
@@ -19,7 +19,7 @@ use Rattle.tokens.specs.Scan.{Step, emoji, text, ignored, disallowed, wi
 use Rattle.tokens.specs.Tokens.{Token, isEmoji, tokensOf, worked}
 use Rattle.limits.specs.Limits.{mostWorked}
 use Rattle.tokens.specs.Cells.{decomposed, Cells}
-use Rattle.tokens.specs.Laying.{mostStep, Laying}
+use Rattle.tokens.specs.Laying.{Laying}
 
 -- the step at the start of what is left of a label
 unfoldable pub firstStep : Table → List ℕ → Step
@@ -49,7 +49,6 @@ pub record Went (t : Table) (s : Step) (w w′ : List ℕ) (run : Run) (k : ℕ)
   pub allowed : s ≡ disallowed → ⊥
   pub taken : k ≡ width s
   pub which : chosenBy m ≡ chosen s
-  pub few : r .worked ≤ run .worked + mostStep
   pub lays : (ss : List Step) → Laying t ss run w → Laying t (ss ++ s ∷ []) r w′
 
 abbrev pub StepWent : Table → Step → List ℕ → List ℕ → Run → Stepped → Type 0
@@ -61,9 +60,10 @@ pub record StepPut (t : Table) (s : Step) (w w′ : List ℕ) (run : Run) (r : S
   pub same : length w′ ≡ length w
   pub went : StepWent t s w w′ run r
 
--- the tokens ts are counted, and stand in the work area if they are not too many
+-- the tokens ts are counted, and stand in the work area; or their worked length is over the limit, and the number says just that
 pub record Tallied (t : Table) (ts : List Token) (w : List ℕ) (k : Tally) : Type 0 where
-  pub worked : k .worked ≡ worked t ts
+  pub over : mostWorked < k .worked → mostWorked < worked t ts
+  pub worked : k .worked ≤ mostWorked → k .worked ≡ worked t ts
   pub emoji : k .emoji ≡ any isEmoji ts
   pub text : k .text ≡ any (λ x. not (isEmoji x)) ts
   pub cells : k .worked ≤ mostWorked → Cells (decomposed t ts) w (k .worked)

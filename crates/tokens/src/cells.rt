@@ -1,18 +1,24 @@
-// Laying tokens down in the work area: codepoints in its first MOST_WORKED words, marks beside them in the next MOST_WORKED.
+// Laying tokens down in the work area: codepoints in its first MOST_WORKED words, marks beside them in the next MOST_WORKED. Each codepoint is
+// written to its place at once: what is copied stays on the stack.
 use limits::MOST_WORKED;
 use table::Sections;
 use table::Span;
 use text::decompose::append_decomposed;
-ghost use Prim.Native.Nat.{_≤_, _+_};
+use text::decompose::put;
+ghost use Prim.Native.Nat.{_≤_, _-_};
 ghost use mathlib.Core.Path.{_≡_};
 ghost use lib.ListN.{length};
-ghost use Rattle.limits.specs.Limits.{leastWork};
+ghost use Rattle.limits.specs.Limits.{mostWorked, leastWork};
+ghost use Rattle.table.specs.Layout.{mostItems};
 ghost use Rattle.table.specs.Laid.{Laid, theTable, within};
-ghost use Rattle.tokens.specs.Match.{SequenceFits};
+ghost use Rattle.text.specs.Rounds.{Appended};
+ghost use Rattle.finder.specs.Emoji.{strip};
+ghost use Rattle.finder.specs.Match.{SequenceFits};
 ghost use Rattle.tokens.specs.Single.{ItemsThere};
-ghost use Rattle.tokens.specs.Laying.{mostStep, mostLaid, PutAt, runMarks, nextMark, StrippedInto, EmojiPut, TextPut, ItemsPut};
+ghost use Rattle.tokens.specs.Laying.{nextMark, MarksPut, EmojiPut, TextPut, ItemsPut};
 
-// What is laid down so far: the number of codepoints, whether there are emoji and text, and the mark of the next codepoint of text.
+// What is laid down so far: the number of codepoints, whether there are emoji and text, and the mark of the next codepoint of text. A number over
+// MOST_WORKED says that they are over, and not by how much: nothing is decomposed or laid down any more.
 pub struct Run {
     pub worked: usize,
     pub emoji: bool,
@@ -20,57 +26,59 @@ pub struct Run {
     pub mark: u32,
 }
 
-// Puts s behind the first n codepoints, with a mark for its first codepoint and one for each later one, if there is room. The bound on n
-// only keeps the sum within a machine word.
-pub fn put(w: &mut [u32], n: usize, s: &[u32], first: u32, later: u32) -> usize
-    requires { ⌜ (leastWork ≤ length (now w)) × (n ≤ mostLaid + mostStep) ⌝ }
-    ensures { λ r. ⌜ PutAt (now (w .entry)) (now (w .exit)) n (now (s .entry)) (runMarks first later (length (now (s .entry)))) r ⌝ }
+// Marks the codepoints from `from` up to `to`, the first of them with `first` and each later one with `later`, if they are not over.
+fn put_marks(w: &mut [u32], from: usize, to: usize, first: u32, later: u32)
+    requires { ⌜ leastWork ≤ length (now w) ⌝ }
+    ensures { λ _. ⌜ MarksPut (now (w .entry)) (now (w .exit)) from to first later ⌝ }
 {
-    let end = n + s.len();
-    if MOST_WORKED < end {
-        return end;
+    if MOST_WORKED < to {
+        return;
     }
     let mut mark = first;
-    let mut i: usize = 0;
-    while i < s.len() {
-        let j = n + i;
-        w[j] = s[i];
-        w[MOST_WORKED + j] = mark;
+    let mut i = from;
+    while i < to {
+        w[MOST_WORKED + i] = mark;
         mark = later;
         i += 1;
     }
-    end
 }
 
-// Copies the sequence without its FE0F, and answers how long it then is.
-fn strip_into(seq: &[u32], out: &mut [u32]) -> usize
-    requires { ⌜ length (now seq) ≤ length (now out) ⌝ }
-    ensures { λ r. ⌜ StrippedInto (now (seq .entry)) (now (out .entry)) (now (out .exit)) r ⌝ }
+// Writes the sequence without its FE0F at `at`, as far as there is room, and answers the place behind it.
+fn strip_into(seq: &[u32], out: &mut [u32], at: usize) -> usize
+    requires { ⌜ (at ≤ mostWorked) × (length (now seq) ≤ mostItems) ⌝ }
+    ensures { λ r. ⌜ Appended (now (out .entry)) (now (out .exit)) at (strip (now (seq .entry))) r ⌝ }
 {
+    let mut to = at;
     let mut i: usize = 0;
-    let mut n: usize = 0;
     while i < seq.len() {
         let c = seq[i];
         i += 1;
         if c == 0xFE0F {
             continue;
         }
-        out[n] = c;
-        n += 1;
+        to = put(out, to, c);
     }
-    n
+    to
 }
 
 // Lays an emoji down, "stripped of FE0F".
 pub fn put_emoji(words: &[u32], w: &mut [u32], run: Run, sequence: Span) -> Run
-    requires { ⌜ (leastWork ≤ length (now w)) × (run .worked ≤ mostLaid + mostStep) × SequenceFits (now words) sequence ⌝ }
+    requires { ⌜ (leastWork ≤ length (now w)) × SequenceFits (now words) sequence ⌝ }
     ensures { λ r. ⌜ EmojiPut (now (words .entry)) (now (w .entry)) (now (w .exit)) sequence run r ⌝ }
 {
+    let n = run.worked;
+    if MOST_WORKED < n {
+        return Run {
+            worked: n,
+            emoji: true,
+            text: run.text,
+            mark: 1,
+        };
+    }
     let from = sequence.from;
     let to = sequence.to;
-    let mut stripped = [0u32; 32];
-    let n = strip_into(&words[from..to], &mut stripped);
-    let end = put(w, run.worked, &stripped[..n], 0, 0);
+    let end = strip_into(&words[from..to], &mut w[..MOST_WORKED], n);
+    put_marks(w, n, end, 0, 0);
     Run {
         worked: end,
         emoji: true,
@@ -79,11 +87,12 @@ pub fn put_emoji(words: &[u32], w: &mut [u32], run: Run, sequence: Span) -> Run
     }
 }
 
-// The mark of the next codepoint of a text behind n codepoints more.
-fn next_mark(mark: u32, n: usize) -> u32
-    ensures { λ r. ⌜ r ≡ nextMark mark n ⌝ }
+// The mark of the next codepoint of a text behind those from `from` up to `to`.
+fn next_mark(mark: u32, from: usize, to: usize) -> u32
+    requires { ⌜ from ≤ to ⌝ }
+    ensures { λ r. ⌜ r ≡ nextMark mark (to - from) ⌝ }
 {
-    if n == 0 {
+    if from == to {
         return mark;
     }
     2
@@ -92,13 +101,21 @@ fn next_mark(mark: u32, n: usize) -> u32
 // Lays one codepoint of text down, decomposed.
 pub fn put_text(words: &[u32], ix: Sections, w: &mut [u32], run: Run, c: u32) -> Run
     requires { ⌜ Laid (now words) ix ⌝ }
-    requires { ⌜ (leastWork ≤ length (now w)) × (run .worked ≤ mostLaid + mostStep) ⌝ }
+    requires { ⌜ leastWork ≤ length (now w) ⌝ }
     ensures { λ r. ⌜ TextPut (theTable (now (words .entry))) (now (w .entry)) (now (w .exit)) c run r ⌝ }
 {
-    let mut parts = [0u32; 256];
-    let n = append_decomposed(words, ix, &mut parts, 0, c);
-    let end = put(w, run.worked, &parts[..n], run.mark, 2);
-    let mark = next_mark(run.mark, n);
+    let at = run.worked;
+    if MOST_WORKED < at {
+        return Run {
+            worked: at,
+            emoji: run.emoji,
+            text: true,
+            mark: run.mark,
+        };
+    }
+    let end = append_decomposed(words, ix, &mut w[..MOST_WORKED], at, c);
+    put_marks(w, at, end, run.mark, 2);
+    let mark = next_mark(run.mark, at, end);
     Run {
         worked: end,
         emoji: run.emoji,
@@ -110,7 +127,7 @@ pub fn put_text(words: &[u32], ix: Sections, w: &mut [u32], run: Run, c: u32) ->
 // Lays the items of a mapping down, decomposed.
 pub fn put_items(words: &[u32], ix: Sections, w: &mut [u32], run: Run, items: Span) -> Run
     requires { ⌜ Laid (now words) ix ⌝ }
-    requires { ⌜ (leastWork ≤ length (now w)) × (run .worked ≤ mostLaid) × ItemsThere (now words) items ⌝ }
+    requires { ⌜ (leastWork ≤ length (now w)) × ItemsThere (now words) items ⌝ }
     ensures { λ r. ⌜ ItemsPut (theTable (now (words .entry))) (now (w .entry)) (now (w .exit)) (within items (now (words .entry))) run r ⌝ }
 {
     let from = items.from;

@@ -1,6 +1,5 @@
-// Tokens: the emoji finder, and the scan of a label into text and emoji.
+// Tokens: the scan of a label into text and emoji, and their normal form.
 pub mod cells;
-pub mod emoji;
 pub mod normal;
 pub mod scan;
 pub mod single;

@@ -7,6 +7,7 @@ ghost use mathlib.Core.Path.{_≡_};
 ghost use lib.ListN.{length, take, drop};
 ghost use Rattle.limits.specs.Limits.{mostWorked, leastWork};
 ghost use Rattle.table.specs.Laid.{Laid, theTable};
+ghost use Rattle.text.specs.Unpaired.{Unpaired};
 ghost use Rattle.tokens.specs.Normal.{MovedDown, TextKept, EmojiKept, twos, NormalCells};
 
 // Moves the n codepoints from `from` on down behind the first `at`, with a mark for the first of them and one for each later one.
@@ -28,14 +29,24 @@ fn move_down(w: &mut [u32], from: usize, n: usize, at: usize, first: u32, later:
 
 // Puts the normal form of the text from `from` up to `to` behind the first `at` codepoints. The text is ordered and composed where it stands:
 // a copy of it would stay on the stack.
-fn keep_text(words: &[u32], ix: Sections, w: &mut [u32], from: usize, to: usize, at: usize) -> usize
+fn keep_text(
+    words: &[u32],
+    ix: Sections,
+    unpaired: &mut [u32],
+    w: &mut [u32],
+    from: usize,
+    to: usize,
+    at: usize,
+) -> usize
     requires { ⌜ Laid (now words) ix ⌝ }
+    requires { ⌜ Unpaired (theTable (now words)) (now unpaired) ⌝ }
     requires { ⌜ (leastWork ≤ length (now w)) × (at ≤ from) × (from < to) × (to ≤ mostWorked) ⌝ }
     ensures { λ r. ⌜ TextKept (theTable (now (words .entry))) (now (w .entry)) (now (w .exit)) from to at r ⌝ }
+    ensures { λ _. ⌜ Unpaired (theTable (now (words .entry))) (now (unpaired .exit)) ⌝ }
 {
     let n = to - from;
     let mut classes = [0u32; MOST_WORKED];
-    let r = ordered_composed(words, ix, &mut w[from..to], &mut classes[..n]);
+    let r = ordered_composed(words, ix, unpaired, &mut w[from..to], &mut classes[..n]);
     move_down(w, from, r, at, 1, 2)
 }
 
@@ -62,11 +73,20 @@ fn token_end(w: &[u32], from: usize, n: usize) -> usize
     i
 }
 
-// Puts the tokens that stand in the first n cells into normal form, and answers how many cells are left.
-pub fn normalise(words: &[u32], ix: Sections, w: &mut [u32], n: usize) -> usize
+// Puts the tokens that stand in the first n cells into normal form, and answers how many cells are left. `unpaired` keeps what records were found
+// to be no composition pairs, for the whole call.
+pub fn normalise(
+    words: &[u32],
+    ix: Sections,
+    unpaired: &mut [u32],
+    w: &mut [u32],
+    n: usize,
+) -> usize
     requires { ⌜ Laid (now words) ix ⌝ }
+    requires { ⌜ Unpaired (theTable (now words)) (now unpaired) ⌝ }
     requires { ⌜ (leastWork ≤ length (now w)) × (n ≤ mostWorked) ⌝ }
     ensures { λ r. ⌜ NormalCells (theTable (now (words .entry))) (now (w .entry)) (now (w .exit)) n r ⌝ }
+    ensures { λ _. ⌜ Unpaired (theTable (now (words .entry))) (now (unpaired .exit)) ⌝ }
 {
     let mut at: usize = 0;
     let mut i: usize = 0;
@@ -77,7 +97,7 @@ pub fn normalise(words: &[u32], ix: Sections, w: &mut [u32], n: usize) -> usize
             continue;
         }
         let end = token_end(w, i, n);
-        at = keep_text(words, ix, w, i, end, at);
+        at = keep_text(words, ix, unpaired, w, i, end, at);
         i = end;
     }
     at

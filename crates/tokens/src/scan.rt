@@ -3,17 +3,16 @@ use crate::cells::Run;
 use crate::cells::put_emoji;
 use crate::cells::put_items;
 use crate::cells::put_text;
-use crate::emoji::Match;
-use crate::emoji::find;
 use crate::single::Single;
 use crate::single::alone;
+use finder::emoji::Match;
+use finder::emoji::find;
 use table::Sections;
 ghost use Prim.Native.Nat.{_≤_};
 ghost use lib.ListN.{length};
 ghost use Rattle.limits.specs.Limits.{mostInput, leastWork};
 ghost use Rattle.table.specs.Laid.{Laid, theTable};
 ghost use Rattle.tokens.specs.Scan.{codepointStep};
-ghost use Rattle.tokens.specs.Laying.{mostLaid};
 ghost use Rattle.tokens.specs.Scanning.{StepPut, firstStep, Scans};
 
 // What a step took: the emoji of the record with this number, with so many FE0F of the input, or one codepoint.
@@ -32,7 +31,7 @@ pub enum Stepped {
     },
 }
 
-// The tokens of a label: their worked length, and whether there are emoji and text.
+// The tokens of a label: their worked length, or a number over MOST_WORKED where it is over, and whether there are emoji and text.
 pub struct Tally {
     pub worked: usize,
     pub emoji: bool,
@@ -48,7 +47,7 @@ pub enum Scanned {
 // Takes one codepoint that no emoji sequence takes.
 fn take_one(words: &[u32], ix: Sections, w: &mut [u32], run: Run, c: u32) -> Stepped
     requires { ⌜ Laid (now words) ix ⌝ }
-    requires { ⌜ (leastWork ≤ length (now w)) × (run .worked ≤ mostLaid) ⌝ }
+    requires { ⌜ leastWork ≤ length (now w) ⌝ }
     ensures { λ r. ⌜ StepPut (theTable (now (words .entry))) (codepointStep (theTable (now (words .entry))) c) (now (w .entry)) (now (w .exit)) run r ⌝ }
 {
     let found = alone(words, ix, c);
@@ -75,7 +74,7 @@ fn take_one(words: &[u32], ix: Sections, w: &mut [u32], run: Run, c: u32) -> Ste
 // Takes one step at the start of the rest of a label: an emoji sequence, or else one codepoint.
 fn step(words: &[u32], ix: Sections, rest: &[u32], w: &mut [u32], run: Run) -> Stepped
     requires { ⌜ Laid (now words) ix ⌝ }
-    requires { ⌜ (leastWork ≤ length (now w)) × (run .worked ≤ mostLaid) × (1 ≤ length (now rest)) ⌝ }
+    requires { ⌜ (leastWork ≤ length (now w)) × (1 ≤ length (now rest)) ⌝ }
     ensures { λ r. ⌜ StepPut (theTable (now (words .entry))) (firstStep (theTable (now (words .entry))) (now (rest .entry))) (now (w .entry)) (now (w .exit)) run r ⌝ }
 {
     let found = find(words, ix, rest);
@@ -94,8 +93,8 @@ fn step(words: &[u32], ix: Sections, rest: &[u32], w: &mut [u32], run: Run) -> S
     }
 }
 
-// Scans a label. As long as the worked length is at most MOST_WORKED the tokens, their text decomposed, stand in the work area; past that only
-// the length goes on.
+// Scans a label. As long as the worked length is at most MOST_WORKED the tokens, their text decomposed, stand in the work area; past that 5 alone
+// is looked for.
 pub fn scan(words: &[u32], ix: Sections, label: &[u32], w: &mut [u32]) -> Scanned
     requires { ⌜ Laid (now words) ix ⌝ }
     requires { ⌜ (leastWork ≤ length (now w)) × (length (now label) ≤ mostInput) ⌝ }

@@ -178,6 +178,22 @@ fn errors_met_in_the_field() {
     assert_eq!(answer, [0; 9]);
 }
 
+/// 02, Item 6: "In a whole with A in groups 1 and 2, B in 2 and 3, C in 3, the
+/// extent of A is all three".
+#[test]
+fn the_whole_of_item_6() {
+    use gen::wholes::item_6::{table, A, B, C, E};
+    let words = table().to_words();
+    assert_eq!(soundness(&words), Soundness::Sound);
+    let parsed = parse(&words).expect("layout");
+    let whole = parsed.whole_of(A).expect("A is confused");
+    assert_eq!(plain::label::extent(&parsed, whole, A), [A, B, C].into());
+    assert_eq!(run_name(&words, &[A], 9), Ok((vec![A], 1)));
+    assert_eq!(run_name(&words, &[E], 9), Err(Refusal::new(14, 0)));
+    assert_eq!(run_name(&words, &[A, E], 9), Ok((vec![A, E], 1)));
+    assert_eq!(run_name(&words, &[A, STOP, E], 9), Err(Refusal::new(14, 1)));
+}
+
 #[test]
 fn order_of_refusals() {
     let words = small_table().to_words();

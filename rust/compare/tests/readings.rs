@@ -253,10 +253,19 @@ fn wholes() {
     // 101 is in groups 0 and 2: members of both are in its extent.
     b.wholes = vec![(vec![0x121, 0x102], vec![0x101])];
     assert_eq!(run(&b, &[0x101]).map(|x| x.1), kind);
-    // The extent does not go on from member to member: 121 shares a group
-    // with 101 but not with 100.
+    // The extent goes on from member to member (02, Item 6): 121 shares a group
+    // with 101, and 101 with 100; without 101 in the whole it does not.
     b.wholes = vec![(vec![0x101, 0x121], vec![0x100])];
+    assert_eq!(run(&b, &[0x100]).map(|x| x.1), kind);
+    b.wholes = vec![(vec![0x102, 0x121], vec![0x100])];
     assert_eq!(run(&b, &[0x100]), Err(Refusal::new(14, 0)));
+    // A character that no group holds is alone in its extent, so that every
+    // group with a member could spell it; a text with it is 12, however.
+    b.wholes = vec![(vec![0x102], vec![0x130])];
+    let words = b.to_words();
+    let table = parse(&words).expect("layout");
+    assert!(plain::label::confusable(&table, &[0x130]));
+    assert_eq!(run(&b, &[0x130]), Err(Refusal::new(12, 0)));
     // Each confused character its own way: one group for all of them.
     b.wholes = vec![(vec![0x110], vec![0x100]), (vec![0x120], vec![0x102])];
     assert_eq!(run(&b, &[0x100]), Err(Refusal::new(14, 0)));
@@ -266,4 +275,42 @@ fn wholes() {
     assert_eq!(run(&b, &[0x101]).map(|x| x.1), kind);
     assert_eq!(run(&b, &[0x101, 0x122]).map(|x| x.1), Ok(Kind::Group { number: 2, restricted: false }));
     assert_eq!(run(&b, &[0x111]).map(|x| x.1), Ok(Kind::Group { number: 1, restricted: true }));
+}
+
+/// The extent in rounds, as 02 says it: "starting from the character, add every
+/// member that shares a group with one already in, until nothing is added".
+#[test]
+fn extent_in_rounds() {
+    use std::collections::BTreeSet;
+    let (mut characters, mut more) = (0, 0);
+    for seed in 1..=3_000 {
+        let mut rng = gen::Rng::new(seed);
+        let of = gen::wholes::chained(&mut rng);
+        if of.table.groups.len() > 40 {
+            continue;
+        }
+        let words = of.table.to_words();
+        let t = parse(&words).expect("layout");
+        let share =
+            |a: u32, b: u32| (0..t.group_count()).any(|group| t.group_holds(group, a) && t.group_holds(group, b));
+        for (c, whole) in t.wholes.iter().take(3).flat_map(|w| w.confused.iter().take(4).map(move |&c| (c, *w))) {
+            let mut inside = vec![c];
+            let mut rounds = 0;
+            loop {
+                let joins = |m: &u32| !inside.contains(m) && inside.iter().any(|&x| share(x, *m));
+                let added: Vec<u32> = whole.members().filter(joins).collect();
+                if added.is_empty() {
+                    break;
+                }
+                inside.extend(added);
+                rounds += 1;
+            }
+            assert!(rounds <= whole.members().count(), "seed {seed}, {c:X}");
+            let due: BTreeSet<u32> = inside.into_iter().collect();
+            assert_eq!(plain::label::extent(&t, whole, c), due, "seed {seed}, {c:X}");
+            characters += 1;
+            more += usize::from(rounds > 1);
+        }
+    }
+    assert!(characters > 5_000 && more > 1_000, "{characters} characters, {more} of more than one round");
 }

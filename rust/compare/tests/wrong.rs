@@ -5,6 +5,7 @@ use plain::label::{self, Finished};
 use plain::text::{compose, four_rounds, order};
 use plain::tokens::strip;
 use plain::*;
+use std::collections::BTreeSet;
 
 /// Declares an enum of engines, right ones and wrong ones, and the list of
 /// those that are wrong.
@@ -41,6 +42,7 @@ wrongs! {
     PlaceInLabel,
     SevenBeforeFive,
     ValidListConfuses,
+    ExtentOfOneHop,
     CountsLabelsOfAnswer,
     LastGroup,
     FirstMatch,
@@ -219,10 +221,17 @@ impl Assembled {
         let Some(first) = text.iter().position(|&c| whole_of(c).is_some()) else {
             return false;
         };
+        let extent = |c: u32, whole: Whole| match self.is(ExtentOfOneHop) {
+            true => one_hop(t, whole, c),
+            false => label::extent(t, whole, c),
+        };
         (0..t.group_count()).any(|g| {
             text.iter().enumerate().all(|(i, &c)| match whole_of(c) {
                 Some(_) if self.is(StopsAtFirstConfused) && i > first && c != text[first] => true,
-                Some(whole) => whole.members().any(|m| t.group_holds(g, m) && !label::in_extent(t, c, m)),
+                Some(whole) => {
+                    let inside = extent(c, whole);
+                    whole.members().any(|m| t.group_holds(g, m) && !inside.contains(&m))
+                }
                 None => t.group_holds(g, c),
             })
         })
@@ -313,6 +322,13 @@ impl Assembled {
     }
 }
 
+/// 01's reading of the extent, which 02, Item 6 takes back: the members that
+/// share a group with the character itself.
+fn one_hop(t: &Table, whole: Whole, c: u32) -> BTreeSet<u32> {
+    let shared = |&m: &u32| (0..t.group_count()).any(|g| t.group_holds(g, c) && t.group_holds(g, m));
+    std::iter::once(c).chain(whole.members().filter(shared)).collect()
+}
+
 /// The steps of the source document, with the early exits where no group
 /// remains and at a Unique character.
 fn source_confusable(t: &Table, text: &[u32]) -> bool {
@@ -327,7 +343,8 @@ fn source_confusable(t: &Table, text: &[u32]) -> bool {
         seen.push(c);
         if let Some(whole) = t.whole_of(c) {
             found = true;
-            let others: Vec<u32> = whole.members().filter(|&m| !label::in_extent(t, c, m)).collect();
+            let inside = label::extent(t, whole, c);
+            let others: Vec<u32> = whole.members().filter(|m| !inside.contains(m)).collect();
             groups.retain(|&g| others.iter().any(|&m| t.group_holds(g, m)));
             if groups.is_empty() {
                 return false;
@@ -505,4 +522,16 @@ fn errors_met_in_the_field_fail() {
         assert_eq!(run(&Plain), run(&Assembled(Nothing)), "{wrong:?}");
         assert_ne!(run(&Plain), run(&Assembled(wrong)), "{wrong:?}");
     }
+}
+
+/// The reading of one hop fails on the whole of 02, Item 6.
+#[test]
+fn one_hop_fails() {
+    use gen::wholes::item_6::{table, A, E};
+    let words = table().to_words();
+    let run = |engine: Wrong, name: &[u32]| Assembled(engine).name(name, &words, &mut [0; 9], &mut [0; 2048]);
+    assert_eq!(run(ExtentOfOneHop, &[A]), refuse(14, 0));
+    assert_eq!(run(Nothing, &[A]), Ok(Name { length: 1, labels: 1 }));
+    assert_eq!(run(ExtentOfOneHop, &[E]), refuse(14, 0));
+    assert_eq!(run(Nothing, &[E]), refuse(14, 0));
 }

@@ -1,5 +1,5 @@
-//! Times the proved calls beside the plain version, in one run, and measures
-//! the stack that they use. Not a test.
+//! Times the proved calls beside the plain version, in one run, in seconds of
+//! the processor, and measures the stack that they use. Not a test.
 //! `cargo run --release --offline -p engine --example bench`
 
 #[allow(dead_code)]
@@ -9,7 +9,6 @@ mod painted;
 use engine::normal_forms::{nfc, nfd};
 use gen::worst;
 use std::hint::black_box;
-use std::time::Instant;
 
 const ROOM: usize = 1_024;
 const WORK: usize = 2_048;
@@ -39,12 +38,27 @@ fn followed(first: u32, by: &[u32], count: usize) -> Vec<u32> {
     std::iter::once(first).chain(by.iter().copied().cycle().take(count)).collect()
 }
 
+/// Seconds that this thread has used the processor, so that other work on the
+/// machine counts little.
+fn used() -> f64 {
+    let stat = std::fs::read_to_string("/proc/thread-self/schedstat").expect("Linux");
+    let nanoseconds: u64 = stat.split_whitespace().next().and_then(|w| w.parse().ok()).expect("a number");
+    nanoseconds as f64 / 1e9
+}
+
+/// Seconds of one job: it is done so many times, and so many more until it has
+/// taken long enough to be told.
 fn seconds(times: u32, mut job: impl FnMut()) -> f64 {
-    let start = Instant::now();
-    for _ in 0..times {
-        job();
+    let (start, mut done) = (used(), 0.0);
+    loop {
+        for _ in 0..times {
+            job();
+        }
+        done += f64::from(times);
+        if used() - start > 0.3 {
+            return (used() - start) / done;
+        }
     }
-    start.elapsed().as_secs_f64() / f64::from(times)
 }
 
 /// The name call over these names, `times` times.

@@ -3,7 +3,7 @@
 mod proved;
 
 use compare::{check_again, check_joining, compare, Engine, Plain, Settings};
-use engine::Soundness;
+use engine::{Refusal, Soundness};
 use gen::worst::DEEP;
 use proved::Proved;
 
@@ -84,4 +84,61 @@ fn soundness_of_deep_tables() {
         let due = if hard.answer == 8 { Soundness::Sound } else { Soundness::Broken(hard.answer) };
         assert_eq!(Proved.soundness(&(hard.table)().to_words()), due, "{}", hard.name);
     });
+}
+
+/// The proved name call as the plain version, on one name.
+fn as_plain(name: &[u32], words: &[u32]) -> Result<Vec<u32>, Refusal> {
+    let lent = |engine: &dyn Engine| {
+        let (mut answer, mut work) = (vec![7; 4_096], vec![7; 2_048]);
+        let given = engine.name(name, words, &mut answer, &mut work);
+        (given, answer, work)
+    };
+    let given = lent(&Proved);
+    assert_eq!(given, lent(&Plain), "{name:X?}");
+    let (values, answer, _) = given;
+    values.map(|v| answer[..v.length].to_vec())
+}
+
+/// Around the worked limit, and behind it: letters, codepoints that are mapped
+/// to three, that decompose to two, emoji, and a disallowed one anywhere.
+#[test]
+fn around_the_worked_limit() {
+    let words = gen::small_table().to_words();
+    let ends: [&[u32]; 8] =
+        [&[], &[0x61], &[0x2E3B], &[0xE0], &[0x1F4A9], &[0x40], &[0x61, 0x2E, 0x61], &[0x2E3B, 0xE0, 0x1F4A9, 0x40]];
+    for end in ends {
+        for (middle, count) in [(0x61, 0), (0x34F, 40), (0x61, 40), (0x2E3B, 20), (0x1F438, 30)] {
+            for length in 1_018..1_026 {
+                let name = [&vec![0x61; length][..], &vec![middle; count], end].concat();
+                let number = as_plain(&name, &words).map_or_else(|r| r.number, |_| 0);
+                // 5 comes before 7, however far behind the limit it stands.
+                assert_eq!(number == 5, end.last() == Some(&0x40), "{length} {middle:X} {count} {end:X?}");
+            }
+        }
+    }
+    assert_eq!(as_plain(&vec![0x61; 1_024], &words).map(|form| form.len()), Ok(1_024));
+    assert_eq!(as_plain(&vec![0x61; 1_025], &words).map_err(|r| r.number), Err(7));
+}
+
+/// A record that has the items of a pair and is none is passed over each time
+/// that it is asked for, in this label and in the next; the record behind it
+/// that is one is found each time.
+#[test]
+fn pairs_are_asked_for_again() {
+    let mut table = gen::small_table();
+    let pair = |head: u32| (head, vec![0x61, 0x300]);
+    let other = |head: u32| (head, vec![0x62, 0x300]);
+    // The first is the last of the exclusions, the second has a class.
+    table.decompositions = vec![pair(0xE1), pair(0xE2), pair(0xE3), pair(0xE4), other(0xE1), other(0xE2)];
+    table.exclusions = vec![0x41, 0x42, 0xE1];
+    table.classes.push((0xE2, 0xE2, 9));
+    table.groups[0].1.push((0xE1, 0xE4));
+    table.valid.push((0xE1, 0xE4));
+    let words = table.to_words();
+    let label = [0x61, 0x300, 0x62, 0x300, 0x61, 0x300];
+    let form = [0xE3, 0x62, 0x300, 0xE3];
+    for labels in 1..4 {
+        let name = vec![&label[..]; labels].join(&0x2E);
+        assert_eq!(as_plain(&name, &words), Ok(vec![&form[..]; labels].join(&0x2E)));
+    }
 }

@@ -1,6 +1,6 @@
 //! include/wanlopheng.h, compiled as C and linked to the proved libraries; its
-//! structs beside those of the wrapper; and the C program of docs/USING.md, as
-//! it stands there.
+//! structs beside those of the wrapper; and the C programs of docs/USING.md, as
+//! they stand there.
 
 use engine::book::{Account, Found, Told};
 use engine::emoji::Emoji;
@@ -92,13 +92,18 @@ fn structs_of_c_and_of_the_wrapper() {
     assert_eq!(declared.count(), due.len());
 }
 
+/// The C programs of docs/USING.md, as they stand there: the first, and the one
+/// that gives the calls a stack of its own and wipes it.
 #[test]
-fn the_c_program_of_the_guide() {
+fn the_c_programs_of_the_guide() {
     let guide = std::fs::read_to_string(root().join("docs/USING.md")).expect("docs/USING.md");
-    let (_, rest) = guide.split_once("```c\n").expect("a C program");
-    let (program, _) = rest.split_once("```").expect("its end");
-    let source = Path::new(env!("CARGO_TARGET_TMPDIR")).join("guide.c");
-    std::fs::write(&source, program).expect("a file can be written");
-    let ran = run(&source, "guide");
-    assert_eq!((ran.status.code(), &ran.stdout[..]), (Some(0), &b"61\n2E\n62\n"[..]));
+    let programs: Vec<&str> = guide.split("```c\n").skip(1).filter_map(|rest| rest.split("```").next()).collect();
+    assert_eq!(programs.len(), 2);
+    for (number, program) in programs.iter().enumerate() {
+        let name = format!("guide{number}");
+        let source = Path::new(env!("CARGO_TARGET_TMPDIR")).join(format!("{name}.c"));
+        std::fs::write(&source, program).expect("a file can be written");
+        let ran = run(&source, &name);
+        assert_eq!((ran.status.code(), &ran.stdout[..]), (Some(0), &b"61\n2E\n62\n"[..]), "{name}");
+    }
 }

@@ -102,8 +102,13 @@ fn random_texts_as_the_plain_version() {
     for _ in 0..2_000 {
         let made = gen::table(&mut rng);
         let of = vocabulary(&made.builder);
-        for _ in 0..50 {
-            let text = text(&mut rng, &of, &made.builder);
+        for turn in 0..50 {
+            let mut text = text(&mut rng, &of, &made.builder);
+            // Every tenth is brought near the worked limit, or over it.
+            if turn % 10 == 0 {
+                let filler = *rng.pick(&of);
+                text.resize(plain::limits::WORKED - 10 + rng.below(20), filler);
+            }
             let near = text.len() + 4;
             let (few, many) = (rng.below(near), 16 * near + rng.below(3));
             let (room, work) = *rng.pick(&[(few, few), (many, few), (few, many), (many, many)]);
@@ -111,7 +116,7 @@ fn random_texts_as_the_plain_version() {
         }
     }
     println!("random texts, by the refusal number: {seen:?}");
-    for number in [0, 1, 51, 52] {
+    for number in [0, 1, 50, 51, 52] {
         assert!(seen[number] > 1_000, "{number} is met often: {seen:?}");
     }
 }

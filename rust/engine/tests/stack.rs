@@ -9,7 +9,7 @@ use engine::book::{Account, Book, Desk, AREA};
 use engine::namehash::namehash;
 use engine::normal_forms::{nfc, nfd};
 use gen::worst;
-use painted::{run, traces, Traces};
+use painted::{run, traces, Left, Traces};
 use std::collections::HashSet;
 use std::hint::black_box;
 
@@ -25,79 +25,82 @@ struct Limits {
     stack: usize,
 }
 
-/// A call that is lent a text, a table and both buffers, and answers a number:
-/// what it has to keep to, and what it keeps to today.
-struct Call {
-    what: &'static str,
-    number: fn(&[u32], &[u32], &mut [u32], &mut [u32]) -> u32,
-    due: Limits,
-    today: Limits,
+/// What a call is handed: the name, as UTF-8 too where it has one, a table, the
+/// setting, both buffers, and the area of a payee book.
+struct Lent<'a> {
+    name: &'a [u32],
+    bytes: &'a [u8],
+    table: &'a [u32],
+    setting: u32,
+    answer: &'a mut [u32],
+    work: &'a mut [u32],
+    area: &'a mut [u32],
 }
 
-/// Local arrays hold the text of a label, and some paths leave it there.
+impl Lent<'_> {
+    /// One call on the book.
+    fn book(&mut self, call: fn(&mut Book, &[u32], &mut Desk) -> u32) -> u32 {
+        let mut desk = Desk { table: self.table, setting: self.setting, answer: self.answer, work: self.work };
+        call(&mut Book::new(self.area), self.name, &mut desk)
+    }
+}
+
+/// A call that answers a number, and what it has to keep to.
+struct Call {
+    what: &'static str,
+    number: fn(&mut Lent) -> u32,
+    limits: Limits,
+}
+
+/// At most single words of a text, never two neighbours in order, and so much
+/// stack.
+const fn within(stack: usize) -> Limits {
+    Limits { words: 16, in_order: 1, stack }
+}
+
 const NAME: Call = Call {
     what: "name",
-    number: |n, t, a, w| engine::name(n, t, 0, a, w).number,
-    due: Limits { words: 16, in_order: 1, stack: 48 * KB },
-    today: Limits { words: 1_024, in_order: 1_024, stack: 152 * KB },
+    number: |l| engine::name(l.name, l.table, l.setting, l.answer, l.work).number,
+    limits: within(48 * KB),
 };
 
 const LABEL: Call = Call {
     what: "label",
-    number: |n, t, a, w| engine::label(n, t, 0, a, w).number,
-    due: Limits { words: 16, in_order: 1, stack: 48 * KB },
-    today: Limits { words: 1_024, in_order: 1_024, stack: 152 * KB },
+    number: |l| engine::label(l.name, l.table, l.setting, l.answer, l.work).number,
+    limits: within(48 * KB),
 };
 
 const NAMEHASH: Call = Call {
     what: "name hash",
-    number: |n, t, a, w| namehash(n, t, 0, a, w).name.number,
-    due: Limits { words: 16, in_order: 1, stack: 48 * KB },
-    today: Limits { words: 1_024, in_order: 1_024, stack: 152 * KB },
+    number: |l| namehash(l.name, l.table, l.setting, l.answer, l.work).name.number,
+    limits: within(48 * KB),
 };
 
-/// The decomposition of one codepoint is handed on by value, at most four.
-const NFD: Call = Call {
-    what: "nfd",
-    number: |n, t, a, w| nfd(n, t, a, w).number,
-    due: Limits { words: 16, in_order: 1, stack: 4 * KB },
-    today: Limits { words: 16, in_order: 4, stack: 4 * KB },
+/// The codepoints take an array beside what the name call uses.
+const BYTES: Call = Call {
+    what: "name from bytes",
+    number: |l| engine::utf8::name(l.bytes, l.table, l.setting, l.answer, l.work).number,
+    limits: within(48 * KB + 4 * (plain::limits::INPUT + 1) + 256),
 };
 
-const NFC: Call = Call {
-    what: "nfc",
-    number: |n, t, a, w| nfc(n, t, a, w).number,
-    due: Limits { words: 16, in_order: 1, stack: 4 * KB },
-    today: Limits { words: 16, in_order: 4, stack: 4 * KB },
-};
+const NFD: Call =
+    Call { what: "nfd", number: |l| nfd(l.name, l.table, l.answer, l.work).number, limits: within(4 * KB) };
 
-/// The calls of the payee book that take a name, on an empty book: as the name
-/// call.
+/// A bit for each record of the table takes 5.5 KB.
+const NFC: Call =
+    Call { what: "nfc", number: |l| nfc(l.name, l.table, l.answer, l.work).number, limits: within(8 * KB) };
+
+/// Calls that only look at a text.
+const LOOKS: [Call; 2] = [
+    Call { what: "group", number: |l| engine::group(l.name, l.table).number, limits: within(4 * KB) },
+    Call { what: "emoji", number: |l| engine::emoji::emoji(l.name, l.table).number, limits: within(4 * KB) },
+];
+
+/// The calls of the payee book that take a name: as the name call.
 const BOOK: [Call; 3] = [
-    Call {
-        what: "save",
-        number: |n, t, a, w| {
-            let mut area = vec![0; AREA];
-            Book::new(&mut area).save(n, ACCOUNT, &mut Desk { table: t, setting: 0, answer: a, work: w }).number
-        },
-        ..NAME
-    },
-    Call {
-        what: "find",
-        number: |n, t, a, w| {
-            let mut area = vec![0; AREA];
-            Book::new(&mut area).find(n, &mut Desk { table: t, setting: 0, answer: a, work: w }).number
-        },
-        ..NAME
-    },
-    Call {
-        what: "forget",
-        number: |n, t, a, w| {
-            let mut area = vec![0; AREA];
-            Book::new(&mut area).forget(n, &mut Desk { table: t, setting: 0, answer: a, work: w }).number
-        },
-        ..NAME
-    },
+    Call { what: "save", number: |l| l.book(|b, n, d| b.save(n, ACCOUNT, d).number), limits: within(48 * KB) },
+    Call { what: "find", number: |l| l.book(|b, n, d| b.find(n, d).number), limits: within(48 * KB) },
+    Call { what: "forget", number: |l| l.book(|b, n, d| b.forget(n, d).number), limits: within(48 * KB) },
 ];
 
 /// Eight words that nothing else is.
@@ -105,9 +108,8 @@ const ACCOUNT: Account = Account {
     words: [0xACC0_0001, 0xACC1_0003, 0xACC2_0005, 0xACC3_0007, 0xACC4_0009, 0xACC5_000B, 0xACC6_000D, 0xACC7_000F],
 };
 
-/// Bytes of stack of the soundness check: due, and kept to today.
-const SOUNDNESS_DUE: usize = 64 * KB;
-const SOUNDNESS_TODAY: usize = 424 * KB;
+/// Bytes of stack of the soundness check.
+const SOUNDNESS: usize = 64 * KB;
 
 /// Frames that hold an account after save and find.
 const ACCOUNT_COPIES: usize = 3;
@@ -118,11 +120,12 @@ const UNPACK: usize = KB;
 /// Bytes of stack of Keccak-256, whole or a piece.
 const KECCAK: usize = 4 * KB;
 
-/// A name, the words of the answer buffer, and the number that is due from the
-/// name call.
+/// A name, the setting, the words of the answer buffer, and the number that is
+/// due from the name call.
 struct Case {
     what: &'static str,
     name: Vec<u32>,
+    setting: u32,
     room: usize,
     number: u32,
 }
@@ -143,7 +146,7 @@ fn letters(count: usize) -> Vec<u32> {
 }
 
 fn cases() -> Vec<Case> {
-    let case = |what, number, name: &[&[u32]]| Case { what, name: name.concat(), room: 1_024, number };
+    let case = |what, number, name: &[&[u32]]| Case { what, name: name.concat(), setting: 0, room: 1_024, number };
     let capitals: Vec<u32> = letters(40).iter().map(|c| c - 0x20).collect();
     let cyrillic = [0x43C, 0x438, 0x440, 0x436, 0x44B, 0x448];
     let family = [0x1F468, 0x200D, 0x2764, 0xFE0F, 0x200D, 0x1F468];
@@ -158,6 +161,8 @@ fn cases() -> Vec<Case> {
         case("Cyrillic", 0, &[&cyrillic]),
         case("Cyrillic, confused", 0, &[&[0x442, 0x4D5]]),
         case("Hangul", 0, &[&[0xD55C, 0xAD6D, 0xC5B4]]),
+        case("letters that decompose", 0, &[&[0xE9, 0xEB, 0xEE, 0xF6, 0x1E69, 0x1EA5, 0x1ED9]]),
+        case("marks of several classes", 0, &[&[0x1A00], &[0x1A1B, 0x1A1A, 0x1A19, 0x1A18, 0x1A17].repeat(40)]),
         case("Han, 1,000 codepoints", 0, &[&row(0x4E00, 1_000)]),
         case("restricted", 0, &[&row(0x13000, 12)]),
         case("three labels", 0, &[&letters(30), &stop, &cyrillic, &stop, &row(0x4E00, 30)]),
@@ -174,47 +179,70 @@ fn cases() -> Vec<Case> {
         case("14, two codepoints", 14, &[&[0x30, 0x445]]),
         case("14, 300 codepoints", 14, &[&[0x445, 0x430, 0x440, 0x435, 0x43E, 0x441].repeat(50)]),
         Case { room: 100, ..case("15", 15, &[&letters(300)]) },
+        Case { setting: 1, ..case("17, behind a label", 17, &[&cyrillic, &stop, &row(0x13000, 12)]) },
     ]
 }
 
 /// What a call on a name leaves: the number that it answers, the bytes that it
 /// uses, and what stays of the name, of its normal form or of its NFD, which
 /// are worked with too.
-fn left_by(call: &Call, name: &[u32], room: usize, table: &[u32]) -> (u32, usize, Traces) {
-    let (mut answer, mut work) = (vec![0; room], vec![0; 16_384]);
+fn left_by(call: &Call, case: &Case, table: &[u32], area: &mut [u32]) -> (u32, usize, Traces) {
+    let name = &case.name[..];
+    let (mut answer, mut work) = (vec![0; case.room], vec![0; 16_384]);
+    let bytes = utf8(name);
+    let mut lent =
+        Lent { name, bytes: &bytes, table, setting: case.setting, answer: &mut answer, work: &mut work, area };
     let mut number = 0;
-    let left = run(|| number = black_box((call.number)(name, table, &mut answer, &mut work)));
+    let left = run(|| number = black_box((call.number)(&mut lent)));
     let form = answer.split(|&c| c == 0).next().unwrap_or_default();
     let mut decomposed = vec![0; 4_096];
     let length = nfd(name, table, &mut decomposed, &mut work).length;
     let stay = [name, form, &decomposed[..length]].map(|text| traces(&left, text));
     let most = |of: fn(&Traces) -> usize| stay.iter().map(of).max().unwrap_or(0);
+    for bytes in [bytes, utf8(form)] {
+        assert!(!bytes_stay(&left, &bytes), "{}, {}: bytes of the name stay", call.what, case.what);
+    }
     (number, left.used, Traces { words: most(|t| t.words), in_order: most(|t| t.in_order) })
 }
 
-/// Each case within these limits, on the full-size table; of the stack alone
-/// also tables made to reach far into 13 and 14.
-fn keeps(call: &Call, limits: &Limits) {
+/// The name as UTF-8; numbers that are no scalar values as a byte that is none.
+fn utf8(name: &[u32]) -> Vec<u8> {
+    name.iter().flat_map(|&c| plain::utf8::encode(&[c]).unwrap_or(vec![0xFF])).collect()
+}
+
+/// Whether nine bytes of these stand there in order: one word more than a
+/// register holds.
+fn bytes_stay(left: &Left, bytes: &[u8]) -> bool {
+    let parts: HashSet<&[u8]> = bytes.windows(9).collect();
+    let all: Vec<u8> = left.words.iter().flat_map(|w| w.to_le_bytes()).collect();
+    all.windows(9).any(|w| parts.contains(w))
+}
+
+/// Each case within the limits of the call, on the full-size table; of the
+/// stack alone also tables made to reach far into 13 and 14. The book is empty.
+fn keeps(call: &Call) {
     let full = standin::full().words;
     let (mut over, mut most) = (Vec::new(), 0);
-    for Case { what, name, room, number: due } in cases() {
-        let (number, used, Traces { words, in_order }) = left_by(call, &name, room, &full);
+    for case in cases() {
+        let (number, used, Traces { words, in_order }) = left_by(call, &case, &full, &mut vec![0; AREA]);
         if [NAME.what, NAMEHASH.what].contains(&call.what) {
-            assert_eq!(number, due, "{what}");
+            assert_eq!(number, case.number, "{}", case.what);
         }
-        println!("{}, {what} ({number}): {words} words, {in_order} in order, {used} bytes", call.what);
-        if words > limits.words || in_order > limits.in_order {
-            over.push(what);
+        println!("{}, {} ({number}): {words} words, {in_order} in order, {used} bytes", call.what, case.what);
+        if words > call.limits.words || in_order > call.limits.in_order {
+            over.push(case.what);
         }
         most = most.max(used);
     }
     let deep = worst::deep_text(vec![(worst::DEEP_TEXT, worst::DEEP_TEXT + 8)], 230).to_words();
     let wide = worst::wide_whole().to_words();
-    most = most.max(left_by(call, &[worst::DEEP_TEXT; 4], 1_024, &deep).1);
-    most = most.max(left_by(call, &worst::confused(16), 1_024, &wide).1);
+    for (name, table) in [(vec![worst::DEEP_TEXT; 4], deep), (worst::confused(16), wide)] {
+        let case = Case { what: "far", name, setting: 0, room: 1_024, number: 0 };
+        most = most.max(left_by(call, &case, &table, &mut vec![0; AREA]).1);
+    }
     println!("{}: {most} bytes of stack", call.what);
     assert!(over.is_empty(), "{}: text stays after {over:?}", call.what);
-    assert!(most <= limits.stack, "{}: {most} bytes of stack", call.what);
+    assert!(most <= call.limits.stack, "{}: {most} bytes of stack", call.what);
 }
 
 fn soundness_stack() -> usize {
@@ -259,30 +287,65 @@ fn the_scan_sees_what_stays() {
 }
 
 #[test]
-fn name_today() {
-    keeps(&NAME, &NAME.today);
+fn name() {
+    keeps(&NAME);
 }
 
 #[test]
-fn namehash_today() {
-    keeps(&NAMEHASH, &NAMEHASH.today);
+fn name_hash() {
+    keeps(&NAMEHASH);
 }
 
 #[test]
-fn label_today() {
-    keeps(&LABEL, &LABEL.today);
+fn name_from_bytes() {
+    keeps(&BYTES);
 }
 
 #[test]
-fn normal_forms_today() {
-    keeps(&NFD, &NFD.today);
-    keeps(&NFC, &NFC.today);
+fn group_and_emoji() {
+    LOOKS.iter().for_each(keeps);
 }
 
 #[test]
-fn book_today() {
-    for call in &BOOK {
-        keeps(call, &call.today);
+fn label() {
+    keeps(&LABEL);
+}
+
+#[test]
+fn normal_forms() {
+    keeps(&NFD);
+    keeps(&NFC);
+}
+
+#[test]
+fn book() {
+    BOOK.iter().for_each(keeps);
+}
+
+/// The book on a name that is filed, and on one more where it is full: nothing
+/// of the name, nor of the names that are filed.
+#[test]
+fn filed_names_and_a_full_book() {
+    let full = standin::full().words;
+    let case = |name: Vec<u32>| Case { what: "filed", name, setting: 0, room: 1_024, number: 0 };
+    let payees: Vec<Case> = (0..64).map(|i| case(row(0x4E00 + 100 * i, 20))).collect();
+    let mut area = vec![0; AREA];
+    for payee in &payees {
+        assert_eq!(left_by(&BOOK[0], payee, &full, &mut area).0, 0);
+    }
+    let more = case(row(0x9000, 30));
+    for (call, case, due) in [
+        (&BOOK[0], &more, 45),
+        (&BOOK[1], &more, 44),
+        (&BOOK[2], &more, 44),
+        (&BOOK[0], &payees[40], 0),
+        (&BOOK[1], &payees[40], 0),
+        (&BOOK[2], &payees[40], 0),
+    ] {
+        let (number, used, Traces { words, in_order }) = left_by(call, case, &full, &mut area);
+        println!("{}, {number}: {words} words, {in_order} in order, {used} bytes", call.what);
+        assert_eq!(number, due, "{}", call.what);
+        assert!(words <= call.limits.words && in_order <= call.limits.in_order && used <= call.limits.stack);
     }
 }
 
@@ -309,8 +372,8 @@ fn accounts() {
 }
 
 #[test]
-fn soundness_today() {
-    assert!(soundness_stack() <= SOUNDNESS_TODAY);
+fn soundness() {
+    assert!(soundness_stack() <= SOUNDNESS);
 }
 
 #[test]
@@ -335,53 +398,4 @@ fn hashing() {
     });
     println!("keccak256: {} bytes of stack, in pieces {}", whole.used, pieces.used);
     assert!(whole.used <= KECCAK && pieces.used <= KECCAK);
-}
-
-/// The lanes of a block that is not full are the bytes of a label themselves;
-/// after the call no nine in order stand on the stack.
-#[test]
-fn namehash_bytes() {
-    let table = standin::full().words;
-    let (mut answer, mut work) = (vec![0; 1_024], vec![0; 16_384]);
-    for length in [14, 100, 300] {
-        let name = letters(length);
-        let label: Vec<u8> = name.iter().map(|&c| c as u8).collect();
-        let parts: HashSet<&[u8]> = label.windows(9).collect();
-        let left = run(|| {
-            black_box(namehash(&name, &table, 0, &mut answer, &mut work));
-        });
-        let bytes: Vec<u8> = left.words.iter().flat_map(|w| w.to_le_bytes()).collect();
-        assert!(!bytes.windows(9).any(|w| parts.contains(w)), "{length} codepoints");
-    }
-}
-
-#[test]
-#[ignore = "local arrays hold text that some paths leave; the look-alike test has large ones"]
-fn name_due() {
-    keeps(&NAME, &NAME.due);
-}
-
-#[test]
-#[ignore = "as for the name call"]
-fn namehash_due() {
-    keeps(&NAMEHASH, &NAMEHASH.due);
-}
-
-#[test]
-#[ignore = "as for the name call"]
-fn label_due() {
-    keeps(&LABEL, &LABEL.due);
-}
-
-#[test]
-#[ignore = "the decomposition of one codepoint is handed on by value"]
-fn normal_forms_due() {
-    keeps(&NFD, &NFD.due);
-    keeps(&NFC, &NFC.due);
-}
-
-#[test]
-#[ignore = "sets of codepoints stand in local arrays"]
-fn soundness_due() {
-    assert!(soundness_stack() <= SOUNDNESS_DUE);
 }

@@ -407,13 +407,19 @@ fn wholes(rng: &mut Rng, d: &mut Draft) {
     }
 }
 
-/// Members of some groups: the valid ones and the confused ones.
+/// Members of some groups: the valid ones and the confused ones. Those that only
+/// one group holds join no groups, so that their extents leave others outside.
 fn whole(rng: &mut Rng, b: &TableBuilder) -> (Vec<u32>, Vec<u32>) {
+    let holding = |c: u32| b.groups.iter().filter(|g| g.1.iter().any(|&(first, last)| first <= c && c <= last)).count();
+    let apart = rng.percent(60);
     let mut members = Vec::new();
-    for _ in 0..rng.between(2, 6) {
+    for _ in 0..if apart { rng.between(3, 10) } else { rng.between(2, 6) } {
         let (_, of_group) = rng.pick(&b.groups);
         if !of_group.is_empty() {
-            members.push(within(rng, of_group));
+            let c = within(rng, of_group);
+            if !apart || holding(c) == 1 {
+                members.push(c);
+            }
         }
     }
     let confused = rng.below(members.len() + 1);

@@ -10,6 +10,7 @@ pub mod rng;
 pub mod small;
 pub mod tables;
 mod unsound;
+pub mod wholes;
 pub mod worst;
 
 pub use files::file;

@@ -22,7 +22,7 @@ pub struct Hard {
 }
 
 /// Long sections: what is asked of each entry is asked of every other.
-pub const LONG: [Hard; 19] = [
+pub const LONG: [Hard; 23] = [
     Hard { name: "wide ranges", table: wide_ranges, answer: 1 },
     Hard { name: "wide classes", table: wide_classes, answer: 1 },
     Hard { name: "many ignored pairs", table: many_ignored, answer: 8 },
@@ -32,13 +32,17 @@ pub const LONG: [Hard; 19] = [
     Hard { name: "single codepoints, valid and of a group", table: single_pairs, answer: 8 },
     Hard { name: "single codepoints, of 256 groups", table: many_groups, answer: 8 },
     Hard { name: "single codepoints of a group before a pair of all", table: covered_singles, answer: 8 },
+    Hard { name: "wide pairs of one group", table: wide_pairs, answer: 8 },
+    Hard { name: "records of codepoints to themselves", table: to_themselves, answer: 8 },
     Hard { name: "many mappings", table: many_mappings, answer: 8 },
     Hard { name: "emoji of one codepoint", table: single_emoji, answer: 8 },
     Hard { name: "emoji after a valid codepoint", table: emoji_after_valid, answer: 8 },
     Hard { name: "long emoji that start alike", table: long_emoji, answer: 8 },
     Hard { name: "long emoji that start alike and go on valid", table: long_emoji_valid, answer: 8 },
+    Hard { name: "emoji of six that start alike by chance", table: emoji_by_chance, answer: 8 },
     Hard { name: "composition pairs and exclusions", table: pairs_and_exclusions, answer: 8 },
     Hard { name: "composition pairs and classes", table: pairs_and_classes, answer: 8 },
+    Hard { name: "a composition pair, and its items with heads excluded last", table: pairs_excluded_last, answer: 8 },
     Hard { name: "heads that all grow", table: growing_heads, answer: 6 },
     Hard { name: "items that no group holds", table: many_items, answer: 8 },
     Hard { name: "chains of four rounds", table: long_chains, answer: 8 },
@@ -200,6 +204,20 @@ pub fn covered_singles() -> TableBuilder {
     }
 }
 
+/// One range of all planes but the first, again and again.
+pub fn wide_pairs() -> TableBuilder {
+    let all = (0x10000, 0x10FFFF);
+    let pairs = vec![all; fit(2, 4) as usize];
+    TableBuilder { valid: vec![all], groups: vec![(0, pairs)], ..TableBuilder::default() }
+}
+
+/// Records that leave their heads as they are, each of which is looked up to be
+/// seen to be so.
+pub fn to_themselves() -> TableBuilder {
+    let decompositions = (0..fit(3, 0)).map(|i| (FIRST + i, vec![FIRST + i])).collect();
+    TableBuilder { decompositions, ..TableBuilder::default() }
+}
+
 /// Mappings of 32 items, each the last one of a long valid section.
 pub fn many_mappings() -> TableBuilder {
     let valid = 20_000;
@@ -243,6 +261,19 @@ pub fn long_emoji_valid() -> TableBuilder {
     TableBuilder { valid: valid.clone(), groups: vec![(0, valid)], ..table }
 }
 
+/// Emoji of six codepoints: the first is one that is not valid, the last its
+/// own, and between them stand two valid ones in random order, so that where two
+/// sequences differ is a guess.
+pub fn emoji_by_chance() -> TableBuilder {
+    let mut rng = Rng::new(40);
+    let emoji = (0..fit(7, 6)).map(|i| {
+        let between = (0..4).map(|_| rng.code(FIRST + 1, FIRST + 2)).collect::<Vec<u32>>();
+        [&[FIRST], &between[..], &[FIRST + 3 + i]].concat()
+    });
+    let valid = vec![(FIRST + 1, FIRST + 2)];
+    TableBuilder { valid: valid.clone(), emoji: emoji.collect(), groups: vec![(0, valid)], ..TableBuilder::default() }
+}
+
 /// So many two-item decompositions, all different.
 fn pairs(count: u32) -> Vec<(u32, Vec<u32>)> {
     (0..count).map(|i| (FIRST + i, vec![0xF0000, 0xF0000 + i])).collect()
@@ -253,6 +284,18 @@ pub fn pairs_and_exclusions() -> TableBuilder {
     let count = fit(8, 0);
     let exclusions = (0..4 * count).map(|i| 0x40000 + i).collect();
     TableBuilder { decompositions: pairs(count), exclusions, ..TableBuilder::default() }
+}
+
+/// One composition pair, and behind it records with the same items whose heads
+/// stand last among the exclusions: each is asked for by itself and by the pair.
+pub fn pairs_excluded_last() -> TableBuilder {
+    let count = 13_000;
+    let others = (0..fit(1, 5 * count as usize)).map(|i| 0x40000 + i);
+    TableBuilder {
+        decompositions: (0..count).map(|i| (FIRST + i, vec![0xF0000, 0xF0001])).collect(),
+        exclusions: others.chain(FIRST + 1..FIRST + count).collect(),
+        ..TableBuilder::default()
+    }
 }
 
 /// Composition pairs, and as many words of class entries for others.

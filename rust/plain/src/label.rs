@@ -2,6 +2,7 @@
 
 use crate::limits;
 use crate::lookup::Lookup;
+use crate::table::Whole;
 use crate::text::{append_four_rounds, compose, nfd, order};
 use crate::tokens::{strip, tokens, Token};
 use answers::Kind;
@@ -192,27 +193,45 @@ pub fn nsm_run_broken(t: &impl Lookup, decomposed: &[u32]) -> bool {
     false
 }
 
-/// Does some group hold both?
-pub fn share_a_group(t: &impl Lookup, a: u32, b: u32) -> bool {
-    (0..t.group_count()).any(|group| t.group_holds(group, a) && t.group_holds(group, b))
-}
-
-/// Is `member`, a member of the whole of the confused character `c`, in the
-/// extent of `c`? The extent is `c` and every member that shares a group
-/// with it.
-pub fn in_extent(t: &impl Lookup, c: u32, member: u32) -> bool {
-    member == c || share_a_group(t, c, member)
+/// The extent of the confused character `c` in its whole. 02, Item 6:
+/// "starting from the character, add every member that shares a group with one
+/// already in, until nothing is added".
+pub fn extent(t: &impl Lookup, whole: Whole, c: u32) -> BTreeSet<u32> {
+    let mut inside = BTreeSet::from([c]);
+    let mut added = vec![c];
+    let mut asked = BTreeSet::new();
+    while let Some(x) = added.pop() {
+        for group in (0..t.group_count()).filter(|&group| t.group_holds(group, x)) {
+            // What shares a group with x is added once for that group.
+            if asked.insert(group) {
+                added.extend(whole.members().filter(|&m| t.group_holds(group, m) && inside.insert(m)));
+            }
+        }
+    }
+    inside
 }
 
 /// 14: the text holds a confused character, and some group holds for each
 /// confused character a member of its whole outside its extent, and also
 /// every other character.
-pub fn confusable(t: &impl Lookup, text: &[u32]) -> bool {
+pub fn confusable<T: Lookup>(t: &T, text: &[u32]) -> bool {
+    confusable_by(t, text, extent)
+}
+
+/// The same with another reading of the extent.
+pub fn confusable_by<T: Lookup>(t: &T, text: &[u32], extent: impl Fn(&T, Whole, u32) -> BTreeSet<u32>) -> bool {
     let characters: BTreeSet<u32> = text.iter().copied().collect();
-    let could_spell = |group: usize, c: u32| match t.whole_of(c) {
-        None => t.group_holds(group, c),
-        Some(whole) => whole.members().any(|m| t.group_holds(group, m) && !in_extent(t, c, m)),
-    };
-    characters.iter().any(|&c| t.whole_of(c).is_some())
-        && (0..t.group_count()).any(|group| characters.iter().all(|&c| could_spell(group, c)))
+    // What may stand in the place of each character.
+    let mut confused = false;
+    let mut others = Vec::new();
+    for c in characters {
+        let Some(whole) = t.whole_of(c) else {
+            others.push(vec![c]);
+            continue;
+        };
+        let inside = extent(t, whole, c);
+        others.push(whole.members().filter(|m| !inside.contains(m)).collect());
+        confused = true;
+    }
+    confused && (0..t.group_count()).any(|group| others.iter().all(|of| of.iter().any(|&m| t.group_holds(group, m))))
 }

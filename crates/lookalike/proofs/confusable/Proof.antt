@@ -10,14 +10,26 @@ respellings-requires c κs = search needs
 
 any-set-requires : tie.Need-any-set-requires
 any-set-requires c κs =
-    let few = laid-reads _ _ (c .before .before .before .before .before .before .pre) .few in
-    respelt-size _ _ _ _ (c .before .before .respellings .ensures) few
+    let few = laid-reads _ _ (c .before .before .before .before .before .before .before .before .before .before .pre .0) .few in
+    respelt-size _ _ _ _ (c .before .before .before .before .respellings .ensures .0) few
+
+same-length : tie.Need-same-length
+same-length c = search needs
 
 returns : tie.Need-returns
-returns c = respelt-seen _ _ _ _ (c .before .before .before .respellings .ensures) _ (c .before .before .if1 .taken) (c .any-set .ensures)
+returns c =
+    let w = c .before .before .before .before .before .respellings .ensures in
+    (respelt-seen _ _ _ _ (w .0) _ (c .before .before .if1 .taken) (c .any-set .ensures), w .1)
+
+same-length-2 : tie.Need-same-length-2
+same-length-2 c = search needs
 
 returns-2 : tie.Need-returns-2
-returns-2 c = respelt-unseen _ _ _ _ (c .before .respellings .ensures) (c .if1 .left)
+returns-2 c =
+    let w = c .before .before .before .respellings .ensures in
+    (respelt-unseen _ _ _ _ (w .0) (c .if1 .left), w .1)
 
 pub confusable-spec : {M : Type 1} → statement M
-confusable-spec = tie.close (tie.spec respellings-requires any-set-requires returns returns-2)
+confusable-spec =
+    tie.close
+    (tie.spec respellings-requires any-set-requires same-length returns same-length-2 returns-2)

@@ -1,23 +1,27 @@
 -- `lookalike::respellings` meets its contract, by the laws of a walk over the text. Assumes nothing.
 use Prim.Native.Nat.{_-_}
 use native.Mathlib.Omega.{arith}
+use mathlib.Core.Path.{_∙_, sym}
 use mathlib.Core.Logic.{⊎-elim}
 use lib.ListN.{length}
 use Rattle.table.specs.Laid.{theTable}
 use Rattle.table.proofs.SectionLaws.{laid-reads}
+use Rattle.lookalike.specs.Memo.{Memo}
 use Rattle.lookalike.proofs.RespellingLaws.{Spelt, spelt-start, spelt-size, spelt-on, spelt-stop, seen-now, seen-before}
 use borrow.Author.Needs.{needs}
 use Rattle.lookalike.proofs.respellings.Statement.{statement}
 use Rattle.lookalike.proofs.respellings.Tie as tie
 
 abbrev Inv-loop : tie.InvT-loop
-Inv-loop words ix text flags₀ seen₀ i₀ flags seen i = Spelt (theTable words) text flags seen i
+Inv-loop words ix text memo₀ flags₀ seen₀ i₀ memo flags seen i = Spelt (theTable words) text flags seen i × Memo words memo
 
 abbrev μ-loop : tie.MeasureT-loop
-μ-loop words ix text flags₀ seen₀ i₀ flags seen i = length text - i
+μ-loop words ix text memo₀ flags₀ seen₀ i₀ memo flags seen i = length text - i
 
 loop-holds : tie.Need-loop-holds Inv-loop μ-loop
-loop-holds c = rw (c .before .before .pre .1) (spelt-start _ _ (laid-reads _ _ (c .before .before .pre .0) .few))
+loop-holds c =
+    let p = c .before .before .before .pre in
+    (rw (p .1 .1) (spelt-start _ _ (laid-reads _ _ (p .0) .few)), p .1 .0)
 
 mul-narrow : tie.Need-mul-narrow Inv-loop μ-loop
 mul-narrow c = search needs
@@ -27,8 +31,9 @@ shared-slice-read-narrow c = search needs
 
 narrow-requires : tie.Need-narrow-requires Inv-loop μ-loop
 narrow-requires c κs =
-    let l = c .before .before .before .before .before .before .pre .0 in
-    (l, spelt-size _ _ (laid-reads _ _ l .few) _ _ _ (c .before .before .before .loop .inv))
+    let l = c .before .before .before .before .before .before .before .before .pre .0 in
+    let p = c .before .before .before .before .loop .inv in
+    (l, (p .1, spelt-size _ _ (laid-reads _ _ l .few) _ _ _ (p .0)))
 
 add-i : tie.Need-add-i Inv-loop μ-loop
 add-i c = search needs
@@ -38,14 +43,21 @@ loop-less c = search needs
 
 loop-again : tie.Need-loop-again Inv-loop μ-loop
 loop-again c =
-    let p = c .before .before .before .before .before .loop in
-    let r = c .before .narrow .result in
-    let few = laid-reads _ _ (c .before .before .before .before .before .before .before .before .pre .0) .few in
-    spelt-on _ _ few _ _ (p .i) (p .inv) (omega arith) _ _ _ (c .before .narrow .ensures)
-    (⊎-elim (λ w. seen-now (p .seen) r _ (w .0 .taken) (w .1)) (λ w. seen-before (p .seen) r _ (w .0 .left) (w .1)) (c .if1 .came))
+    let p = c .before .before .before .before .before .before .before .before .loop in
+    let n = c .before .before .before .narrow in
+    let few = laid-reads _ _ (c .before .before .before .before .before .before .before .before .before .before .before .before .pre .0) .few in (
+      spelt-on _ _ few _ _ (p .i) (p .inv .0) (omega arith) _ _ _ (n .ensures .0)
+          (⊎-elim (λ w. seen-now (p .seen) (n .result) _ (w .0 .taken) (w .1)) (λ w. seen-before (p .seen) (n .result) _ (w .0 .left) (w .1)) (c .if1 .came)),
+      n .ensures .1,
+    )
+
+same-length : tie.Need-same-length Inv-loop μ-loop
+same-length c = c .before .loop .inv .1 .size ∙ sym (c .before .before .before .before .before .pre .1 .0 .size)
 
 returns : tie.Need-returns Inv-loop μ-loop
-returns c = spelt-stop _ _ (laid-reads _ _ (c .before .before .before .before .pre .0) .few) _ _ (c .before .loop .i) (c .before .loop .inv) (c .loop-test .left)
+returns c =
+    let p = c .before .loop in
+    (spelt-stop _ _ (laid-reads _ _ (c .before .before .before .before .before .pre .0) .few) _ _ (p .i) (p .inv .0) (c .loop-test .left), p .inv .1)
 
 pub respellings-spec : {M : Type 1} → statement M
 respellings-spec =
@@ -60,4 +72,5 @@ respellings-spec =
     add-i
     loop-less
     loop-again
+    same-length
     returns)

@@ -1,14 +1,15 @@
 -- `nfc_front`: a layout fault, a refusal of `decomposed`, or what it leaves, composed in its place. Assumes nothing.
 use native.Mathlib.Omega.{arith}
-use borrow.Author.Needs.{needs}
 use mathlib.Core.Path.{sym, _∙_}
 use lib.Seq.{length-take-le}
 use denote.Ref.{now}
 use Rattle.table.specs.Laid.{theTable}
 use Rattle.table.proofs.SectionLaws.{found-laid}
 use Rattle.text.specs.Composition.{nfc}
+use Rattle.text.proofs.Pairs.{unpaired-none}
 use Rattle.normal_forms.specs.Promise.{Ordered}
 use Rattle.normal_forms.proofs.Answer.{fault-stands, refused-stands, standing-formed, ordered-ready, composed-stands}
+use borrow.Author.Needs.{needs}
 use Rattle.normal_forms.proofs.nfc_front.Statement.{statement}
 use Rattle.normal_forms.proofs.nfc_front.Tie as tie
 
@@ -42,27 +43,25 @@ same-length-2 : tie.Need-same-length-2
 same-length-2 c = search needs
 
 returns-2 : tie.Need-returns-2
-returns-2 c =
-    let d = c .before .before .before .before .before in
-    let l = d .before .before .before .before in
-    refused-stands _ _ _ _ _ _ _ (sym (l .before .before .layout .ensures) ∙ l .found .given .1) nfc _ (c .match2 .keys2) (omega arith) (d .decomposed .ensures)
-
-slice-relend-prefix-compose : tie.Need-slice-relend-prefix-compose
-slice-relend-prefix-compose c = there c .room
+returns-2 c = refused-stands _ _ _ _ _ _ _ (sym (c .before .before .before .before .before .before .before .before .before .before .before .layout .ensures) ∙ c .before .before .before .before .before .before .before .before .before .found .given .1) nfc _ (c .match2 .keys2) (omega arith) (c .before .before .before .before .before .decomposed .ensures)
 
 slice-aggregate-compose : tie.Need-slice-aggregate-compose
-slice-aggregate-compose c = sym (length-take-le _ _ (there (c .before) .room))
+slice-aggregate-compose c = search needs
 
-slice-reshare-prefix-compose : tie.Need-slice-reshare-prefix-compose
-slice-reshare-prefix-compose c = there (c .before) .work-room
+slice-relend-prefix-compose : tie.Need-slice-relend-prefix-compose
+slice-relend-prefix-compose c = there (c .before) .room
 
 slice-aggregate-compose-2 : tie.Need-slice-aggregate-compose-2
-slice-aggregate-compose-2 c = sym (length-take-le _ _ (there (c .before .before) .work-room))
+slice-aggregate-compose-2 c = sym (length-take-le _ _ (there (c .before .before) .room))
+
+slice-reshare-prefix-compose : tie.Need-slice-reshare-prefix-compose
+slice-reshare-prefix-compose c = there (c .before .before) .work-room
+
+slice-aggregate-compose-3 : tie.Need-slice-aggregate-compose-3
+slice-aggregate-compose-3 c = sym (length-take-le _ _ (there (c .before .before .before) .work-room))
 
 compose-requires : tie.Need-compose-requires
-compose-requires c κs =
-    let l = c .before .before .before .before .before .before .before .before .before .before .before .before .before in
-    (found-laid _ _ (sym (l .before .before .layout .ensures) ∙ l .found .given .1), ordered-ready _ _ _ _ _ _ _ (there (c .before .before)))
+compose-requires c κs = (found-laid _ _ (sym (c .before .before .before .before .before .before .before .before .before .before .before .before .before .before .before .before .layout .ensures) ∙ c .before .before .before .before .before .before .before .before .before .before .before .before .before .before .found .given .1), (unpaired-none _, ordered-ready _ _ _ _ _ _ _ (there (c .before .before .before))))
 
 same-length-3 : tie.Need-same-length-3
 same-length-3 c = search needs
@@ -71,10 +70,7 @@ same-length-4 : tie.Need-same-length-4
 same-length-4 c = search needs
 
 returns-3 : tie.Need-returns-3
-returns-3 c =
-    let k = c .before .before in
-    let l = k .before .before .before .before .before .before .before .before .before .before .before .before .before .before in
-    composed-stands _ _ _ _ _ _ _ (sym (l .before .before .layout .ensures) ∙ l .found .given .1) _ _ _ (omega arith) (there (k .before .before .before)) (k .compose .ensures)
+returns-3 c = composed-stands _ _ _ _ _ _ _ (sym (c .before .before .before .before .before .before .before .before .before .before .before .before .before .before .before .before .before .before .before .before .layout .ensures) ∙ c .before .before .before .before .before .before .before .before .before .before .before .before .before .before .before .before .before .before .found .given .1) _ _ _ (omega arith) (there (c .before .before .before .before .before .before .before)) (c .before .before .before .compose .ensures .0)
 
 pub nfc-front-spec : {M : Type 1} → statement M
 nfc-front-spec =
@@ -89,10 +85,11 @@ nfc-front-spec =
     same-length
     same-length-2
     returns-2
-    slice-relend-prefix-compose
     slice-aggregate-compose
-    slice-reshare-prefix-compose
+    slice-relend-prefix-compose
     slice-aggregate-compose-2
+    slice-reshare-prefix-compose
+    slice-aggregate-compose-3
     compose-requires
     same-length-3
     same-length-4

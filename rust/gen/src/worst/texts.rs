@@ -28,8 +28,8 @@ pub struct Long {
     pub number: u32,
 }
 
-/// NFD and NFC have no limit of their own: so many codepoints are tried.
-const FORM: usize = 1 << 16;
+/// Codepoints that become 256 each, within the worked length.
+const DEEP: usize = WORKED / 256;
 
 /// One row of the list below.
 const fn long(
@@ -44,14 +44,17 @@ const fn long(
 }
 
 /// Where a row says "in random order", each comparison's branch is a guess.
-pub const TEXTS: [Long; 29] = [
+pub const TEXTS: [Long; 45] = [
     long("scan: emoji of one codepoint", Call::Name, emoji_beside, letter_a, [16, INPUT], 0),
     long("scan: long emoji that start alike", Call::Name, emoji_alike, letter_a, [16, INPUT], 0),
+    long("scan: emoji that start with FE0F", Call::Name, emoji_of_selectors, letter_a, [16, INPUT], 0),
+    long("scan: emoji that match, in random order", Call::Name, emoji_matching, letter_a, [16, INPUT], 0),
     long("scan: valid behind others", Call::Name, valid_last, letter_a, [16, INPUT], 0),
     long("scan: valid, in random order", Call::Name, valid_random, letter_a, [16, INPUT], 0),
     long("scan: mapped behind others", Call::Name, mapped_last, capital_a, [16, INPUT], 0),
     long("scan: ignored, in random order", Call::Name, ignored_random, joiners, [16, INPUT], 0),
     long("scan: a valid codepoint that becomes 256", Call::Name, valid_deep, deep, [1, INPUT], 12),
+    long("scan: a valid codepoint that becomes another four times", Call::Name, valid_chain, deep, [16, INPUT], 12),
     long("scan: a mapping to 32 that become 256 each", Call::Name, mapped_deep, capital_a, [1, INPUT], 7),
     long("classes, in random order", Call::Name, classes_random, letter_a, [16, WORKED], 0),
     long("ordering: classes that fall", Call::Name, falling_classes, falling, [16, WORKED], 0),
@@ -59,21 +62,34 @@ pub const TEXTS: [Long; 29] = [
     long("the same, classes in random order", Call::Name, pairs_with_class_random, letter_a, [2, WORKED], 0),
     long("composition: pairs whose head is excluded", Call::Name, pairs_excluded, letters_ab, [2, WORKED], 0),
     long("the same, of two equal items", Call::Name, pairs_excluded_equal, letter_a, [2, WORKED], 0),
+    long("composition: other records, in random order", Call::Name, pairs_random, letters_ab, [2, WORKED], 0),
     long("10: fenced, in random order", Call::Name, fenced_random, own, [16, WORKED], 0),
     long("11: marks behind emoji, in random order", Call::Name, marks_random, own_parted, [16, WORKED], 0),
     long("12: a group's pairs, in random order", Call::Name, group_random, own, [16, WORKED], 0),
-    long("13: 43,000 records, 256 of each codepoint", Call::Name, records_13, deep, [1, 4], 0),
-    long("13: NSM in random order", Call::Name, nsm_13, deep, [1, 4], 0),
-    long("13: classes in random order", Call::Name, classes_13, deep, [1, 4], 0),
+    long("13: 43,000 records, 256 of each codepoint", Call::Name, records_13, deep, [1, DEEP], 0),
+    long("13: NSM in random order", Call::Name, nsm_13, deep, [1, DEEP], 0),
+    long("13: the same, 256 different codepoints", Call::Name, nsm_13_different, deep, [1, DEEP], 0),
+    long("13: classes in random order", Call::Name, classes_13, deep, [1, DEEP], 0),
     long("14: many wholes", Call::Name, wholes_14, own, [16, WORKED], 0),
     long("14: a whole of 65,536 in random order", Call::Name, whole_14, own, [1, WORKED], 0),
     long("14: the same, pairs in order", Call::Name, whole_14_in_order, own, [1, WORKED], 0),
-    long("NFD: a codepoint that becomes 256", Call::Nfd, valid_deep, deep, [1, FORM], 0),
-    long("NFD: classes, in random order", Call::Nfd, classes_random, letter_a, [16, FORM], 0),
-    long("NFD: classes that fall", Call::Nfd, falling_classes, falling, [1_024, FORM], 0),
-    long("NFC: pairs whose head has a class", Call::Nfc, pairs_with_class, letter_a, [2, FORM], 0),
-    long("NFC: pairs whose head is excluded", Call::Nfc, pairs_excluded_equal, letter_a, [2, FORM], 0),
-    long("NFC: one codepoint that becomes 256 in such pairs", Call::Nfc, deep_pairs, deep, [1, FORM], 0),
+    long("14: the same, pairs that hold all", Call::Name, whole_14_wide, own, [1, WORKED], 0),
+    long("14: the same, labels of one codepoint", Call::Name, whole_14, labels_in_turn::<1>, [1, WORKED], 0),
+    long("14: 2 wholes in turn", Call::Name, wholes_in_turn::<2>, labels_in_turn::<2>, [3, WORKED], 0),
+    long("14: 17 wholes in turn", Call::Name, wholes_in_turn::<17>, labels_in_turn::<17>, [33, WORKED], 0),
+    long("14: 17 wholes in turn, one label", Call::Name, wholes_in_turn::<17>, in_turn::<17>, [17, WORKED], 0),
+    long("14: the same, members that fall", Call::Name, wholes_falling::<17>, in_turn::<17>, [17, WORKED], 0),
+    long("14: the same, pairs that hold a member", Call::Name, wholes_held::<17>, in_turn::<17>, [17, WORKED], 0),
+    long("14: 64 wholes in turn", Call::Name, wholes_in_turn::<64>, labels_in_turn::<64>, [127, WORKED], 0),
+    long("14: a whole for each codepoint", Call::Name, whole_each, in_turn::<WORKED>, [16, WORKED], 0),
+    long("14: a codepoint of many confused lists", Call::Name, wholes_alike, own, [16, WORKED], 0),
+    long("NFD: a codepoint that becomes 256", Call::Nfd, valid_deep, deep, [1, DEEP], 0),
+    long("NFD: a codepoint that becomes another four times", Call::Nfd, valid_chain, deep, [16, WORKED], 0),
+    long("NFD: classes, in random order", Call::Nfd, classes_random, letter_a, [16, WORKED], 0),
+    long("NFD: classes that fall", Call::Nfd, falling_classes, falling, [16, WORKED], 0),
+    long("NFC: pairs whose head has a class", Call::Nfc, pairs_with_class, letter_a, [2, WORKED], 0),
+    long("NFC: pairs whose head is excluded", Call::Nfc, pairs_excluded_equal, letter_a, [2, WORKED], 0),
+    long("NFC: codepoints that become 256 in such pairs", Call::Nfc, deep_pairs, deep, [1, DEEP], 0),
 ];
 
 // The texts.
@@ -105,6 +121,17 @@ const OWN: u32 = 0x3042;
 
 fn own(count: usize) -> Vec<u32> {
     vec![OWN; count]
+}
+
+/// COUNT codepoints from OWN on, again and again.
+fn in_turn<const COUNT: usize>(count: usize) -> Vec<u32> {
+    (0..count).map(|i| OWN + (i % COUNT) as u32).collect()
+}
+
+/// The same, each a label; no stop stands last.
+fn labels_in_turn<const COUNT: usize>(count: usize) -> Vec<u32> {
+    let label = |i: usize| OWN + (i / 2 % COUNT) as u32;
+    (0..count).map(|i| if i % 2 == 1 && i + 1 < count { 0x2E } else { label(i) }).collect()
 }
 
 const EMOJI: u32 = 0x1F4A9;
@@ -162,6 +189,18 @@ fn emoji_alike() -> TableBuilder {
     TableBuilder { emoji, ..ascii() }
 }
 
+/// None is passed over by its first codepoint.
+fn emoji_of_selectors() -> TableBuilder {
+    let emoji = (0..fit(33, 4)).map(|i| [&[0xFE0F; 31][..], &[FIRST + i]].concat()).collect();
+    TableBuilder { emoji, ..ascii() }
+}
+
+/// Half of the sequences are the text's codepoint, so that each is a guess.
+fn emoji_matching() -> TableBuilder {
+    let emoji = (0..fit(2, 4)).map(|i| vec![if i % 2 == 0 { 0x61 } else { FIRST + i }]).collect();
+    TableBuilder { emoji: shuffled(emoji), ..ascii() }
+}
+
 fn valid_last() -> TableBuilder {
     TableBuilder { valid: [singles(FIRST, fit(2, 4), 1), vec![one(0x61)]].concat(), ..TableBuilder::default() }
 }
@@ -196,6 +235,12 @@ fn valid_deep() -> TableBuilder {
         decompositions: records_before(becomes_256(), 4),
         ..TableBuilder::default()
     }
+}
+
+/// One codepoint stays one, but is looked up four times.
+fn valid_chain() -> TableBuilder {
+    let chain = (0..4).map(|k| (DEEP_TEXT + k, vec![DEEP_TEXT + k + 1])).collect();
+    TableBuilder { decompositions: records_before(chain, 4), ..valid_deep() }
 }
 
 fn mapped_deep() -> TableBuilder {
@@ -258,6 +303,13 @@ fn pairs_excluded_equal() -> TableBuilder {
     TableBuilder { decompositions: same_pairs(16_000, [0x61, 0x61]), exclusions: excluded_last(16_000), ..ascii() }
 }
 
+/// Records of one and of two items, of which each may be the text's.
+fn pairs_random() -> TableBuilder {
+    let kinds = [vec![0x61], vec![0x61, 0x62], vec![0x61, FIRST], vec![FIRST, 0x62], vec![0x62, 0x61]];
+    let records = (0..33_000).map(|i| (HEAD, kinds[i % 5].clone())).collect();
+    TableBuilder { decompositions: shuffled(records), exclusions: vec![HEAD], ..ascii() }
+}
+
 /// What DEEP_TEXT becomes 256 times stands in pairs whose head has a class: one
 /// codepoint asks 255 times.
 fn deep_pairs() -> TableBuilder {
@@ -290,6 +342,24 @@ fn nsm_13() -> TableBuilder {
     super::deep_text(pairs_around(DEEP_TEXT, 65_000), 0)
 }
 
+/// Eight layers: 1, 4, 16 and 64 codepoints decompose to four of the next layer
+/// each, without a codepoint twice, then 256 to the same four, and again 4, 16
+/// and 64 to as many as there are.
+fn nsm_13_different() -> TableBuilder {
+    let layer = |k: u32| 1 << (2 * if k > 4 { k - 4 } else { k });
+    let at = |k: u32, i: u32| if k == 0 { DEEP_TEXT } else { DEEP_TEXT + 0x100 * k + i };
+    let items = |k: u32, i: u32| (0..4).map(|j| at(k + 1, if k == 4 { j } else { 4 * i + j })).collect();
+    let records = (0..8).flat_map(|k| (0..layer(k)).map(move |i| (at(k, i), items(k, i))));
+    let all = vec![(DEEP_TEXT, DEEP_TEXT + 0x900)];
+    TableBuilder {
+        valid: all.clone(),
+        nsm: pairs_around(DEEP_TEXT, 63_000),
+        decompositions: records.collect(),
+        groups: vec![(0, all)],
+        ..TableBuilder::default()
+    }
+}
+
 fn classes_13() -> TableBuilder {
     let mut table = super::deep_text(vec![], 0);
     table.classes.splice(0..0, classes_around(DEEP_TEXT, 43_000));
@@ -316,6 +386,63 @@ fn whole_and_pairs(arrange: fn(Vec<(u32, u32)>) -> Vec<(u32, u32)>) -> TableBuil
 
 fn whole_14() -> TableBuilder {
     whole_and_pairs(shuffled)
+}
+
+/// Pairs each of which holds every other member.
+fn whole_14_wide() -> TableBuilder {
+    whole_and_pairs(|pairs| (0..pairs.len() as u32).map(|i| (FIRST - 1 - i % 997, FIRST + 2 * 65_535)).collect())
+}
+
+/// COUNT codepoints from OWN on, in one group, each with a whole of its own; the
+/// other members, two apart, are 65,536 in all.
+fn wholes_of<const COUNT: usize>(pairs: Vec<(u32, u32)>) -> TableBuilder {
+    let all = (OWN, OWN + COUNT as u32 - 1);
+    let others = shuffled((0..65_536 - 4 * COUNT as u32).map(|i| FIRST + 2 * i).collect());
+    let wholes = others.chunks(others.len().div_ceil(COUNT)).enumerate();
+    TableBuilder {
+        valid: vec![all],
+        groups: vec![(2, [pairs, vec![all]].concat())],
+        wholes: wholes.map(|(i, members)| (members.to_vec(), vec![OWN + i as u32])).collect(),
+        ..TableBuilder::default()
+    }
+}
+
+/// With pairs between the members: more wholes than are remembered.
+fn wholes_in_turn<const COUNT: usize>() -> TableBuilder {
+    wholes_of::<COUNT>(shuffled(singles(FIRST + 1, 32_600, 4)))
+}
+
+/// The same, the members from the highest down: each is put in order before all
+/// that were read.
+fn wholes_falling<const COUNT: usize>() -> TableBuilder {
+    let mut table = wholes_in_turn::<COUNT>();
+    for (valid, _) in &mut table.wholes {
+        valid.sort_unstable_by(|a, b| b.cmp(a));
+    }
+    table
+}
+
+/// With pairs of one member each, or between two.
+fn wholes_held<const COUNT: usize>() -> TableBuilder {
+    wholes_of::<COUNT>(shuffled(singles(FIRST, 32_600, 3)))
+}
+
+/// As many wholes as the text may have codepoints, some ten members in each.
+fn whole_each() -> TableBuilder {
+    let mut table = wholes_of::<WORKED>(vec![]);
+    for (valid, _) in &mut table.wholes {
+        valid.truncate(10);
+    }
+    let words = table.to_words().len();
+    let between = shuffled(singles(FIRST + 1, fit(2, words), 4));
+    table.groups[0].1.splice(0..0, between);
+    table
+}
+
+/// OWN is the last of thousands of confused lists, of which the first counts.
+fn wholes_alike() -> TableBuilder {
+    let wholes = (0..fit(12, 16)).map(|i| (vec![], (0..9).map(|k| FIRST + 9 * i + k).chain([OWN]).collect()));
+    TableBuilder { wholes: wholes.collect(), ..own_group() }
 }
 
 fn whole_14_in_order() -> TableBuilder {

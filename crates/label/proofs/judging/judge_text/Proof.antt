@@ -1,8 +1,8 @@
 -- `label::judging::judge_text` meets its contract: the group of the text alone, and the verdict in it. Assumes nothing.
 use mathlib.Core.Path.{ap}
-use borrow.Author.Needs.{needs}
 use Rattle.groups.specs.declared.GroupSearch.{GroupSearch}
 use Rattle.label.proofs.JudgingLaws.{judged-none, judged-in-group}
+use borrow.Author.Needs.{needs}
 use Rattle.label.proofs.judging.judge_text.Statement.{statement}
 use Rattle.label.proofs.judging.judge_text.Tie as tie
 
@@ -45,20 +45,24 @@ enum-told c = search needs
 same-length : tie.Need-same-length
 same-length c = search needs
 
-returns : tie.Need-returns
-returns c =
-    let found = c .before .before .before .before .before .before in
-    let alone = found .before .before .before .before .before .text-alone .ensures in
-    judged-in-group _ _ _ _ _ _ alone _ (ap (λ (x : GroupSearch). x .found) (found .group-of .ensures)) _ _ _ (c .before .before .before .before .found .given .1) _ (c .judge-in-group .ensures)
-
 same-length-2 : tie.Need-same-length-2
 same-length-2 c = search needs
 
+returns : tie.Need-returns
+returns c =
+    let found = c .before .before .before .before .before .before .before .before .before .group-of .ensures in
+    let alone = c .before .before .before .before .before .before .before .before .before .before .before .before .before .before .text-alone .ensures in
+    let w = c .before .before .judge-in-group .ensures in
+    (judged-in-group _ _ _ _ _ _ alone _ (ap (λ (x : GroupSearch). x .found) found) _ _ _ (c .before .before .before .before .before .before .before .found .given .1) _ (w .0), w .1)
+
+same-length-3 : tie.Need-same-length-3
+same-length-3 c = search needs
+
 returns-2 : tie.Need-returns-2
 returns-2 c =
-    let found = c .before .before in
-    let alone = found .before .before .before .before .before .text-alone .ensures in
-    judged-none _ _ _ _ _ _ alone _ (ap (λ (x : GroupSearch). x .found) (found .group-of .ensures)) (c .enum-told .given .1)
+    let found = c .before .before .group-of .ensures in
+    let alone = c .before .before .before .before .before .before .before .text-alone .ensures in
+    (judged-none _ _ _ _ _ _ alone _ (ap (λ (x : GroupSearch). x .found) found) (c .enum-told .given .1), c .before .before .before .before .before .before .before .before .before .before .before .before .pre .1 .1 .1)
 
 pub judge-text-spec : {M : Type 1} → statement M
 judge-text-spec =
@@ -77,6 +81,7 @@ judge-text-spec =
     judge-in-group-requires
     enum-told
     same-length
-    returns
     same-length-2
+    returns
+    same-length-3
     returns-2)

@@ -1,81 +1,38 @@
--- `table::lookup::in_pairs` meets its contract, by the laws of a walk over pairs. Assumes nothing.
-use Prim.Native.Nat.{_-_}
-use native.Mathlib.Omega.{arith}
+-- `table::lookup::in_pairs` meets its contract: what is skipped has no part in the answer. Assumes nothing.
+use Rattle.table.proofs.Fours.{left-same}
 use borrow.Author.Needs.{needs}
-use mathlib.Core.Path.{sym, _∙_}
-use lib.ListN.{length}
-use Rattle.table.specs.Part.{inPairs}
-use Rattle.table.proofs.Lookups.{Walk, walk-start, pairs-hit, pairs-on, pairs-stop}
 use Rattle.table.proofs.lookup.in_pairs.Statement.{statement}
 use Rattle.table.proofs.lookup.in_pairs.Tie as tie
 
-abbrev Inv-loop : tie.InvT-loop
-Inv-loop part c i₀ i = Walk (inPairs c) part i
+skip-pairs-requires : tie.Need-skip-pairs-requires
+skip-pairs-requires c κs = search needs
 
-abbrev μ-loop : tie.MeasureT-loop
-μ-loop part c i₀ i = length part - i
+mul-in-any : tie.Need-mul-in-any
+mul-in-any c = search needs
 
-loop-holds : tie.Need-loop-holds Inv-loop μ-loop
-loop-holds c = walk-start _ _
+sub-in-any : tie.Need-sub-in-any
+sub-in-any c = search needs
 
-sub-loop : tie.Need-sub-loop Inv-loop μ-loop
-sub-loop c = search needs
+part-in-any-start : tie.Need-part-in-any-start
+part-in-any-start c = search needs
 
-mul-between : tie.Need-mul-between Inv-loop μ-loop
-mul-between c = search needs
+part-in-any-end : tie.Need-part-in-any-end
+part-in-any-end c = search needs
 
-shared-slice-read-between : tie.Need-shared-slice-read-between Inv-loop μ-loop
-shared-slice-read-between c = search needs
+in-any-requires : tie.Need-in-any-requires
+in-any-requires c κs = search needs
 
-add-between : tie.Need-add-between Inv-loop μ-loop
-add-between c = search needs
-
-mul-between-2 : tie.Need-mul-between-2 Inv-loop μ-loop
-mul-between-2 c = search needs
-
-shared-slice-read-between-2 : tie.Need-shared-slice-read-between-2 Inv-loop μ-loop
-shared-slice-read-between-2 c = search needs
-
-between-requires : tie.Need-between-requires Inv-loop μ-loop
-between-requires c κs = search needs
-
-returns : tie.Need-returns Inv-loop μ-loop
-returns c =
-    let b = c .before in
-    let p = b .before .before .before .before in
-    pairs-hit _ _ (p .loop .i) (p .loop .inv) (omega arith) (sym (c .if1 .taken) ∙ b .between .ensures)
-
-add-i : tie.Need-add-i Inv-loop μ-loop
-add-i c = search needs
-
-loop-less : tie.Need-loop-less Inv-loop μ-loop
-loop-less c = search needs
-
-loop-again : tie.Need-loop-again Inv-loop μ-loop
-loop-again c =
-    let b = c .before in
-    let p = b .before .before .before .before in
-    pairs-on _ _ (p .loop .i) (p .loop .inv) (omega arith) (sym (c .if1 .left) ∙ b .between .ensures)
-
-returns-2 : tie.Need-returns-2 Inv-loop μ-loop
-returns-2 c = pairs-stop _ _ (c .before .loop .i) (c .before .loop .inv) (c .loop-test .left)
+returns : tie.Need-returns
+returns c = left-same _ _ _ (c .before .before .skip-pairs .ensures) _ (c .in-any .ensures)
 
 pub in-pairs-spec : {M : Type 1} → statement M
 in-pairs-spec =
     tie.close
     (tie.spec
-    Inv-loop
-    μ-loop
-    loop-holds
-    sub-loop
-    mul-between
-    shared-slice-read-between
-    add-between
-    mul-between-2
-    shared-slice-read-between-2
-    between-requires
-    returns
-    add-i
-    loop-less
-    loop-again
-    returns-2)
+    skip-pairs-requires
+    mul-in-any
+    sub-in-any
+    part-in-any-start
+    part-in-any-end
+    in-any-requires
+    returns)

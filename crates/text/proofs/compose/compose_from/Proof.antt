@@ -1,21 +1,22 @@
 -- `compose::compose_from` meets its contract, by what the loop keeps. Assumes nothing.
-use Prim.Native.Nat.{_<_, _-_}
+use Prim.Native.Nat.{_-_}
 use mathlib.Core.Path.{sym, ap, _∙_}
 use native.Mathlib.Omega.{arith}
 use borrow.Author.Needs.{needs}
-use denote.Ref.{now}
 use lib.ListN.{length}
 use Rattle.table.specs.Laid.{theTable}
 use Rattle.text.specs.Work.{composedTo}
+use Rattle.text.specs.Unpaired.{Unpaired}
 use Rattle.text.proofs.Composing.{Composing, composing-start, taken, next-starter, mark-stays, composing-stop}
 use Rattle.text.proofs.compose.compose_from.Statement.{statement}
 use Rattle.text.proofs.compose.compose_from.Tie as tie
 
 abbrev Inv-loop : tie.InvT-loop
-Inv-loop words ix text₀ classes first start₀ put₀ i₀ last₀ text start put i last = Composing (theTable words) text₀ classes text start put i last
+Inv-loop words ix unpaired₀ text₀ classes first start₀ put₀ i₀ last₀ unpaired text start put i last =
+    Composing (theTable words) text₀ classes text start put i last × Unpaired (theTable words) unpaired
 
 abbrev μ-loop : tie.MeasureT-loop
-μ-loop words ix text₀ classes first start₀ put₀ i₀ last₀ text start put i last = length text₀ - i
+μ-loop words ix unpaired₀ text₀ classes first start₀ put₀ i₀ last₀ unpaired text start put i last = length text₀ - i
 
 add-put : tie.Need-add-put Inv-loop μ-loop
 add-put c = omega arith
@@ -25,8 +26,8 @@ add-i c = omega arith
 
 loop-holds : tie.Need-loop-holds Inv-loop μ-loop
 loop-holds c =
-    let s = c .before .before .before in
-    composing-start (theTable (now (s .args .words))) (now (s .args .text)) (now (s .args .classes)) (s .args .first) (s .pre .1 .0 .classes) (s .pre .1 .0 .ordered) (s .pre .1 .1 .0) (s .pre .1 .1 .1)
+    let s = c .before .before .before .before in
+    (composing-start _ _ _ _ (s .pre .1 .1 .0 .classes) (s .pre .1 .1 .0 .ordered) (s .pre .1 .1 .1 .0) (s .pre .1 .1 .1 .1), s .pre .1 .0)
 
 mul-c : tie.Need-mul-c Inv-loop μ-loop
 mul-c c = omega arith
@@ -50,7 +51,7 @@ add-i-2 : tie.Need-add-i-2 Inv-loop μ-loop
 add-i-2 c = omega arith
 
 taken-up-requires : tie.Need-taken-up-requires Inv-loop μ-loop
-taken-up-requires c κs = c .before .before .before .before .before .before .before .before .pre .0
+taken-up-requires c κs = (c .before .before .before .before .before .before .before .before .before .before .pre .0, c .before .before .before .before .before .loop .inv .1)
 
 enum-known-h : tie.Need-enum-known-h Inv-loop μ-loop
 enum-known-h c = search needs
@@ -66,11 +67,8 @@ loop-less c = omega arith
 
 loop-again : tie.Need-loop-again Inv-loop μ-loop
 loop-again c =
-    let l = c .before .before .before .before .before .before .before .before in
-    let a = l .before .before .before .before .args in
-    let p = c .before .before .before in
-    let more : l .loop .i < length (now (a .text)) = omega arith in
-    taken (theTable (now (a .words))) (now (a .text)) (now (a .classes)) (l .loop .text) (l .loop .start) (l .loop .put) (l .loop .i) (l .loop .last) (l .loop .inv) more (c .before .h .given .0 .0) (sym (p .taken-up .ensures) ∙ ap composedTo (c .before .h .given .1))
+    let p = c .before .before .before .before .before .taken-up .ensures in
+    (taken _ _ _ _ _ _ _ _ (c .before .before .before .before .before .before .before .before .before .before .before .loop .inv .0) (omega (arith, c .before .before .before .before .before .before .before .before .before .before .loop-test .taken, c .before .before .before .before .before .before .before .before .before .before .before .loop .inv .0)) _ (sym (p .is) ∙ ap composedTo (c .before .h .given .1)), p .unpaired)
 
 enum-told : tie.Need-enum-told Inv-loop μ-loop
 enum-told c = search needs
@@ -89,31 +87,25 @@ loop-less-2 c = omega arith
 
 loop-again-2 : tie.Need-loop-again-2 Inv-loop μ-loop
 loop-again-2 c =
-    let l = c .before .before .before .before .before .before .before .before in
-    let a = l .before .before .before .before .args in
-    let p = c .before .before .before in
-    let more : l .loop .i < length (now (a .text)) = omega arith in
-    next-starter (theTable (now (a .words))) (now (a .text)) (now (a .classes)) (l .loop .text) (l .loop .start) (l .loop .put) (l .loop .i) (l .loop .last) (l .loop .inv) more (sym (p .taken-up .ensures) ∙ ap composedTo (c .before .enum-told .given .1)) (c .if1 .taken)
+    let p = c .before .before .before .before .before .taken-up .ensures in
+    (next-starter _ _ _ _ _ _ _ _ (c .before .before .before .before .before .before .before .before .before .before .before .loop .inv .0) (omega (arith, c .before .before .before .before .before .before .before .before .before .before .loop-test .taken, c .before .before .before .before .before .before .before .before .before .before .before .loop .inv .0)) (sym (p .is) ∙ ap composedTo (c .before .enum-told .given .1)) (c .if1 .taken), p .unpaired)
 
 loop-less-3 : tie.Need-loop-less-3 Inv-loop μ-loop
 loop-less-3 c = omega arith
 
 loop-again-3 : tie.Need-loop-again-3 Inv-loop μ-loop
 loop-again-3 c =
-    let l = c .before .before .before .before .before .before .before .before in
-    let a = l .before .before .before .before .args in
-    let p = c .before .before .before in
-    let more : l .loop .i < length (now (a .text)) = omega arith in
-    mark-stays (theTable (now (a .words))) (now (a .text)) (now (a .classes)) (l .loop .text) (l .loop .start) (l .loop .put) (l .loop .i) (l .loop .last) (l .loop .inv) more (sym (p .taken-up .ensures) ∙ ap composedTo (c .before .enum-told .given .1)) (c .if1 .left)
+    let p = c .before .before .before .before .before .taken-up .ensures in
+    (mark-stays _ _ _ _ _ _ _ _ (c .before .before .before .before .before .before .before .before .before .before .before .loop .inv .0) (omega (arith, c .before .before .before .before .before .before .before .before .before .before .loop-test .taken, c .before .before .before .before .before .before .before .before .before .before .before .loop .inv .0)) (sym (p .is) ∙ ap composedTo (c .before .enum-told .given .1)) (c .if1 .left), p .unpaired)
 
 same-length : tie.Need-same-length Inv-loop μ-loop
-same-length c = omega arith
+same-length c = c .before .loop .inv .1 .size ∙ sym (c .before .before .before .before .before .before .pre .1 .0 .size)
+
+same-length-2 : tie.Need-same-length-2 Inv-loop μ-loop
+same-length-2 c = omega (arith, c .before .loop .inv .0)
 
 returns : tie.Need-returns Inv-loop μ-loop
-returns c =
-    let l = c .before in
-    let a = l .before .before .before .before .args in
-    composing-stop (theTable (now (a .words))) (now (a .text)) (now (a .classes)) (l .loop .text) (l .loop .start) (l .loop .put) (l .loop .i) (l .loop .last) (l .loop .inv) (omega arith)
+returns c = (composing-stop _ _ _ _ _ _ _ _ (c .before .loop .inv .0) (omega (arith, c .loop-test .left)), c .before .loop .inv .1)
 
 pub compose-from-spec : {M : Type 1} → statement M
 compose-from-spec =
@@ -146,4 +138,5 @@ compose-from-spec =
     loop-less-3
     loop-again-3
     same-length
+    same-length-2
     returns)

@@ -1,8 +1,6 @@
 -- `compose::pair_at` meets its contract. Assumes nothing.
 use mathlib.Core.Path.{_∙_}
-use denote.Ref.{now}
-use Rattle.table.specs.Laid.{theTable}
-use Rattle.text.proofs.Pairs.{count-differs, first-differs, second-differs, items-agree}
+use Rattle.text.proofs.Pairs.{count-differs, first-differs, second-differs, items-agree, pair-may}
 use borrow.Author.Needs.{needs}
 use Rattle.text.proofs.compose.pair_at.Statement.{statement}
 use Rattle.text.proofs.compose.pair_at.Tie as tie
@@ -18,8 +16,8 @@ shared-slice-read-if1 c = search needs
 
 returns : tie.Need-returns
 returns c =
-    let s = c .before .before .before .before in
-    count-differs (theTable (now (s .args .words))) (now (s .args .part)) (s .args .at) (s .args .a) (s .args .b) (s .pre .1) (c .if1 .taken)
+    let s = c .before .before .before .before .before in
+    record { is = count-differs _ _ _ _ _ (s .pre .1 .1 .0) (c .if1 .taken); unpaired = s .pre .1 .0 .0 }
 
 add-if2 : tie.Need-add-if2
 add-if2 c = search needs
@@ -32,8 +30,8 @@ shared-slice-read-if2 c = search needs
 
 returns-2 : tie.Need-returns-2
 returns-2 c =
-    let s = c .before .before .before .before .before .before in
-    first-differs (theTable (now (s .args .words))) (now (s .args .part)) (s .args .at) (s .args .a) (s .args .b) (s .pre .1) (c .before .before .if1 .left) (c .if2 .taken)
+    let s = c .before .before .before .before .before .before .before in
+    record { is = first-differs _ _ _ _ _ (s .pre .1 .1 .0) (c .before .before .if1 .left) (c .if2 .taken); unpaired = s .pre .1 .0 .0 }
 
 add-if3 : tie.Need-add-if3
 add-if3 c = search needs
@@ -46,22 +44,31 @@ shared-slice-read-if3 c = search needs
 
 returns-3 : tie.Need-returns-3
 returns-3 c =
-    let s = c .before .before .before .before .before .before .before .before in
-    second-differs (theTable (now (s .args .words))) (now (s .args .part)) (s .args .at) (s .args .a) (s .args .b) (s .pre .1) (c .before .before .before .before .if1 .left) (c .before .before .if2 .left) (c .if3 .taken)
+    let s = c .before .before .before .before .before .before .before .before .before in
+    record { is = second-differs _ _ _ _ _ (s .pre .1 .1 .0) (c .before .before .before .before .if1 .left) (c .before .before .if2 .left) (c .if3 .taken); unpaired = s .pre .1 .0 .0 }
 
-mul-may-compose : tie.Need-mul-may-compose
-mul-may-compose c = search needs
+mul-is-pair : tie.Need-mul-is-pair
+mul-is-pair c = search needs
 
-shared-slice-read-may-compose : tie.Need-shared-slice-read-may-compose
-shared-slice-read-may-compose c = search needs
+shared-slice-read-is-pair : tie.Need-shared-slice-read-is-pair
+shared-slice-read-is-pair c = search needs
 
-may-compose-requires : tie.Need-may-compose-requires
-may-compose-requires c κs = search needs
+is-pair-requires : tie.Need-is-pair-requires
+is-pair-requires c κs =
+    let s = c .before .before .before .before .before .before .before .before .before .before .before in
+    (s .pre .0, (s .pre .1 .0, s .pre .1 .1 .1 ∙ pair-may _ (s .args .part .now) _ _ (s .pre .1 .1 .0) (c .before .before .before .before .before .before .if1 .left) (c .before .before .before .before .if2 .left)))
+
+same-length : tie.Need-same-length
+same-length c = search needs
 
 returns-4 : tie.Need-returns-4
 returns-4 c =
-    let s = c .before .before .before .before .before .before .before .before .before .before in
-    c .may-compose .ensures ∙ items-agree (theTable (now (s .args .words))) (now (s .args .part)) (s .args .at) (s .args .a) (s .args .b) (s .pre .1) (c .before .before .before .before .before .before .if1 .left) (c .before .before .before .before .if2 .left) (c .before .before .if3 .left)
+    let s = c .before .before .before .before .before .before .before .before .before .before .before .before .before .before in
+    let q = c .before .before .is-pair .ensures in
+    record {
+      is = q .is ∙ items-agree _ _ _ _ _ (s .pre .1 .1 .0) (c .before .before .before .before .before .before .before .before .before .if1 .left) (c .before .before .before .before .before .before .before .if2 .left) (c .before .before .before .before .before .if3 .left);
+      unpaired = q .unpaired;
+    }
 
 pub pair-at-spec : {M : Type 1} → statement M
 pair-at-spec =
@@ -79,7 +86,8 @@ pair-at-spec =
     mul-if3
     shared-slice-read-if3
     returns-3
-    mul-may-compose
-    shared-slice-read-may-compose
-    may-compose-requires
+    mul-is-pair
+    shared-slice-read-is-pair
+    is-pair-requires
+    same-length
     returns-4)

@@ -2,65 +2,60 @@
 use Prim.Native.Nat.{_-_}
 use mathlib.Core.Path.{sym, _∙_}
 use native.Mathlib.Omega.{arith}
-use denote.Ref.{now}
 use lib.ListN.{length}
+use borrow.Author.Needs.{needs}
 use Rattle.table.specs.Laid.{theTable}
-use Rattle.text.proofs.Pairs.{PairWalk, pair-start, pair-fits, pair-hit, pair-on, pair-stop}
+use Rattle.text.proofs.Pairs.{PairWalk, pair-start, pair-fits, pair-number, pair-numbered, pair-hit, pair-on, pair-stop}
 use Rattle.text.proofs.compose.pair_in.Statement.{statement}
 use Rattle.text.proofs.compose.pair_in.Tie as tie
 
 abbrev Inv-loop : tie.InvT-loop
-Inv-loop words ix part a b at₀ at = PairWalk (theTable words) part a b at
+Inv-loop words ix unpaired₀ part a b at₀ number₀ unpaired at number = PairWalk (theTable words) part a b at number unpaired
 
 abbrev μ-loop : tie.MeasureT-loop
-μ-loop words ix part a b at₀ at = length part - at
+μ-loop words ix unpaired₀ part a b at₀ number₀ unpaired at number = length part - at
 
 loop-holds : tie.Need-loop-holds Inv-loop μ-loop
 loop-holds c =
-    let s = c .before .before in
-    pair-start (now (s .args .words)) (s .args .ix) (now (s .args .part)) (s .args .a) (s .args .b) (s .pre .0) (s .pre .1)
+    let s = c .before .before .before in
+    pair-start _ _ _ _ _ _ (s .pre .0) (s .pre .1 .1) (s .pre .1 .0)
 
 pair-at-requires : tie.Need-pair-at-requires Inv-loop μ-loop
 pair-at-requires c κs =
-    let l = c .before in
-    let a = l .before .before .before .args in
-    (l .before .before .before .pre .0, pair-fits (theTable (now (a .words))) (now (a .part)) (a .a) (a .b) (l .loop .at) (l .loop .inv) (c .loop-test .taken))
+    let s = c .before .before .before .before .before .before in
+    let w = c .before .before .loop .inv in
+    let h = c .before .loop-test .taken in
+    (s .pre .0, ((w .unpaired, pair-number _ _ _ _ _ _ _ w h), (pair-fits _ _ _ _ _ _ _ w h, pair-numbered _ _ _ _ _ _ _ w h)))
 
-mul-t10 : tie.Need-mul-t10 Inv-loop μ-loop
-mul-t10 c = omega arith
+mul-t14 : tie.Need-mul-t14 Inv-loop μ-loop
+mul-t14 c = search needs
 
-shared-slice-read-t12 : tie.Need-shared-slice-read-t12 Inv-loop μ-loop
-shared-slice-read-t12 c = omega arith
+shared-slice-read-t16 : tie.Need-shared-slice-read-t16 Inv-loop μ-loop
+shared-slice-read-t16 c = c .before .before .before .before .before .before .loop-test .taken
+
+same-length : tie.Need-same-length Inv-loop μ-loop
+same-length c = c .before .before .before .before .pair-at .ensures .unpaired .size ∙ sym (c .before .before .before .before .before .before .before .before .before .before .before .pre .1 .0 .size)
 
 returns : tie.Need-returns Inv-loop μ-loop
-returns c =
-    let l = c .before .before .before .before in
-    let a = l .before .before .before .args in
-    pair-hit (theTable (now (a .words))) (now (a .part)) (a .a) (a .b) (l .loop .at) (l .loop .inv) (c .before .before .before .loop-test .taken) (sym (c .before .before .pair-at .ensures) ∙ c .before .if1 .taken)
+returns c = pair-hit _ _ _ _ _ _ _ (c .before .before .before .before .before .before .before .loop .inv) (c .before .before .before .before .before .before .loop-test .taken) _ _ (c .before .before .before .before .pair-at .ensures) (c .before .if1 .taken)
 
 behind-requires : tie.Need-behind-requires Inv-loop μ-loop
-behind-requires c κs =
-    let l = c .before .before .before in
-    let a = l .before .before .before .args in
-    pair-fits (theTable (now (a .words))) (now (a .part)) (a .a) (a .b) (l .loop .at) (l .loop .inv) (c .before .before .loop-test .taken)
+behind-requires c κs = pair-fits _ _ _ _ _ _ _ (c .before .before .before .before .before .before .loop .inv) (c .before .before .before .before .before .loop-test .taken)
+
+add-number : tie.Need-add-number Inv-loop μ-loop
+add-number c = omega (arith, pair-number _ _ _ _ _ _ _ (c .before .before .before .before .before .before .before .loop .inv) (c .before .before .before .before .before .before .loop-test .taken))
 
 loop-less : tie.Need-loop-less Inv-loop μ-loop
-loop-less c =
-    let l = c .before .before .before .before in
-    let a = l .before .before .before .args in
-    omega (arith, c .behind .ensures, c .before .before .before .loop-test .taken)
+loop-less c = omega (arith, c .behind .ensures, c .before .before .before .before .before .before .loop-test .taken)
 
 loop-again : tie.Need-loop-again Inv-loop μ-loop
-loop-again c =
-    let l = c .before .before .before .before in
-    let a = l .before .before .before .args in
-    rw (c .behind .ensures) (pair-on (theTable (now (a .words))) (now (a .part)) (a .a) (a .b) (l .loop .at) (l .loop .inv) (c .before .before .before .loop-test .taken) (sym (c .before .before .pair-at .ensures) ∙ c .before .if1 .left))
+loop-again c = pair-on _ _ _ _ _ _ _ (c .before .before .before .before .before .before .before .loop .inv) (c .before .before .before .before .before .before .loop-test .taken) _ _ (c .before .before .before .before .pair-at .ensures) _ (c .behind .ensures) (c .before .if1 .left)
+
+same-length-2 : tie.Need-same-length-2 Inv-loop μ-loop
+same-length-2 c = c .before .loop .inv .unpaired .size ∙ sym (c .before .before .before .before .before .pre .1 .0 .size)
 
 returns-2 : tie.Need-returns-2 Inv-loop μ-loop
-returns-2 c =
-    let l = c .before in
-    let a = l .before .before .before .args in
-    pair-stop (theTable (now (a .words))) (now (a .part)) (a .a) (a .b) (l .loop .at) (l .loop .inv) (c .loop-test .left)
+returns-2 c = pair-stop _ _ _ _ _ _ _ (c .before .loop .inv) (c .loop-test .left)
 
 pub pair-in-spec : {M : Type 1} → statement M
 pair-in-spec =
@@ -70,10 +65,13 @@ pair-in-spec =
     μ-loop
     loop-holds
     pair-at-requires
-    mul-t10
-    shared-slice-read-t12
+    mul-t14
+    shared-slice-read-t16
+    same-length
     returns
     behind-requires
+    add-number
     loop-less
     loop-again
+    same-length-2
     returns-2)

@@ -1,7 +1,5 @@
 -- `compose::pair_of` meets its contract. Assumes nothing.
 use mathlib.Core.Path.{_∙_}
-use denote.Ref.{now}
-use Rattle.table.specs.Laid.{theTable}
 use Rattle.text.proofs.Composing.{pair-hangul, pair-table}
 use borrow.Author.Needs.{needs}
 use Rattle.text.proofs.compose.pair_of.Statement.{statement}
@@ -21,17 +19,26 @@ table-pair-requires c κs = search needs
 
 returns : tie.Need-returns
 returns c =
-    let a = c .before .before .before .before .before .args in
     let p = c .before .before .before .hangul-pair in
-    pair-hangul (theTable (now (a .words))) (a .a) (a .b) (c .before .h .given .0 .0) (p .result) (p .ensures) (c .before .h .given .1)
+    record { is = pair-hangul _ _ _ _ _ (p .ensures) (c .before .h .given .1); unpaired = c .before .before .before .before .before .before .pre .1 }
+
+same-length : tie.Need-same-length
+same-length c = search needs
 
 returns-2 : tie.Need-returns-2
 returns-2 c =
-    let a = c .before .before .before .before .before .args in
-    let p = c .before .before .before .hangul-pair in
-    c .table-pair .ensures ∙ pair-table (theTable (now (a .words))) (a .a) (a .b) (p .result) (p .ensures) (c .before .enum-told .given .1)
+    let p = c .before .before .before .before .before .before .hangul-pair in
+    let q = c .before .before .table-pair .ensures in
+    record { is = q .is ∙ pair-table _ _ _ _ (p .ensures) (c .before .before .before .before .enum-told .given .1); unpaired = q .unpaired }
 
 pub pair-of-spec : {M : Type 1} → statement M
 pair-of-spec =
     tie.close
-    (tie.spec hangul-pair-requires enum-known-h enum-told table-pair-requires returns returns-2)
+    (tie.spec
+    hangul-pair-requires
+    enum-known-h
+    enum-told
+    table-pair-requires
+    returns
+    same-length
+    returns-2)

@@ -1,77 +1,77 @@
--- `decompose::replaced` meets its contract. Assumes nothing.
-use mathlib.Core.Path.{refl, sym, _∙_}
+-- `decompose::replaced` meets its contract: the loop copies what is put, one by one. Assumes nothing.
+use Prim.Native.Nat.{_-_}
+use mathlib.Core.Path.{refl, sym}
 use native.Mathlib.Omega.{arith}
-use denote.Ref.{now}
-use Rattle.table.specs.Lookup.{itemsOf}
-use Rattle.table.specs.Layout.{mostParts}
-use Rattle.table.specs.Laid.{theTable, within}
-use Rattle.table.proofs.Searches.{items-there, items-missing}
-use Rattle.text.proofs.Syllables.{syllable}
-use Rattle.text.proofs.Rounds.{single-syllable, single-items, single-itself}
 use borrow.Author.Needs.{needs}
+use Rattle.text.specs.Rounds.{itemsBy}
+use Rattle.text.proofs.Replacing.{by-none, Copying, copy-start, copy-more, copied}
 use Rattle.text.proofs.decompose.replaced.Statement.{statement}
 use Rattle.text.proofs.decompose.replaced.Tie as tie
 
-is-syllable-requires : tie.Need-is-syllable-requires
-is-syllable-requires c κs = search needs
+abbrev Inv-loop : tie.InvT-loop
+Inv-loop words c by n items₀ i₀ items i = Copying (itemsBy words by) items i
 
-sub-jamo : tie.Need-sub-jamo
-sub-jamo c = omega (arith, syllable (c .before .before .before .args .c) (sym (c .before .is-syllable .ensures) ∙ c .if1 .taken))
+abbrev μ-loop : tie.MeasureT-loop
+μ-loop words c by n items₀ i₀ items i = n - i
 
-jamo-requires : tie.Need-jamo-requires
-jamo-requires c κs = omega (arith, syllable (c .before .before .before .args .c) (sym (c .before .is-syllable .ensures) ∙ c .if1 .taken))
+single-requires : tie.Need-single-requires Inv-loop μ-loop
+single-requires c κs = search needs
 
-returns : tie.Need-returns
+count-requires : tie.Need-count-requires Inv-loop μ-loop
+count-requires c κs = c .single .ensures .fits
+
+returns : tie.Need-returns Inv-loop μ-loop
 returns c =
-    let a = c .before .before .before .before .args in
-    let s = c .before .before .is-syllable in
-    rw (← single-syllable (theTable (now (a .words))) (a .c) (sym (s .ensures) ∙ c .before .if1 .taken)) (c .jamo .ensures)
+    let k = c .before in
+    let o = k .before in
+    record { is = sym (by-none _ _ _ _ (o .single .ensures) _ (k .count .ensures) (c .if1 .taken)); few = omega arith; whole = refl }
 
-decomposition-items-requires : tie.Need-decomposition-items-requires
-decomposition-items-requires c κs = search needs
+loop-holds : tie.Need-loop-holds Inv-loop μ-loop
+loop-holds c = copy-start _
 
-enum-known-s : tie.Need-enum-known-s
-enum-known-s c = search needs
+item-requires : tie.Need-item-requires Inv-loop μ-loop
+item-requires c κs =
+    let k = c .before .before .before in
+    (k .before .single .ensures .fits, omega (arith, k .count .ensures))
 
-copied-requires : tie.Need-copied-requires
-copied-requires c κs =
-    let d = c .before .before .before in
-    let a = d .before .before .before .before .args in
-    let s = c .before .s .given in
-    let i = items-there (now (a .words)) mostParts (itemsOf (theTable (now (a .words)) .decompositions) (a .c)) (d .decomposition-items .result) (d .decomposition-items .ensures) (s .0 .0) (s .1) in
-    (i .fits .ordered, i .fits .inside, i .few)
+mul-items : tie.Need-mul-items Inv-loop μ-loop
+mul-items c = search needs
 
-enum-told : tie.Need-enum-told
-enum-told c = search needs
+array-write-items : tie.Need-array-write-items Inv-loop μ-loop
+array-write-items c = search needs
 
-returns-2 : tie.Need-returns-2
+add-i : tie.Need-add-i Inv-loop μ-loop
+add-i c = search needs
+
+loop-less : tie.Need-loop-less Inv-loop μ-loop
+loop-less c = search needs
+
+loop-again : tie.Need-loop-again Inv-loop μ-loop
+loop-again c =
+    let l = c .before .before in
+    let k = l .before .before in
+    copy-more _ _ _ (l .loop .inv) (omega (arith, k .count .ensures)) (k .before .single .ensures .few) _ (c .item .ensures)
+
+returns-2 : tie.Need-returns-2 Inv-loop μ-loop
 returns-2 c =
-    let d = c .before .before .before .before in
-    let a = d .before .before .before .before .args in
-    let s = c .before .before .s .given in
-    let t = theTable (now (a .words)) in
-    let i = items-there (now (a .words)) mostParts (itemsOf (t .decompositions) (a .c)) (d .decomposition-items .result) (d .decomposition-items .ensures) (s .0 .0) (s .1) in
-    rw (← single-items t (a .c) (within (s .0 .0) (now (a .words))) (sym (d .before .before .is-syllable .ensures) ∙ d .before .if1 .left) (i .same)) (c .copied .ensures)
-
-returns-3 : tie.Need-returns-3
-returns-3 c =
-    let d = c .before .before in
-    let a = d .before .before .before .before .args in
-    let t = theTable (now (a .words)) in
-    let i = items-missing (now (a .words)) mostParts (itemsOf (t .decompositions) (a .c)) (d .decomposition-items .result) (d .decomposition-items .ensures) (c .enum-told .given .1) in
-    record { is = single-itself t (a .c) (sym (d .before .before .is-syllable .ensures) ∙ d .before .if1 .left) i; few = omega arith; whole = refl }
+    let l = c .before in
+    let k = l .before .before in
+    copied _ _ _ _ _ _ _ (k .before .single .ensures) (k .count .ensures) (l .before .if1 .left) (l .loop .inv) (c .loop-test .left)
 
 pub replaced-spec : {M : Type 1} → statement M
 replaced-spec =
     tie.close
     (tie.spec
-    is-syllable-requires
-    sub-jamo
-    jamo-requires
+    Inv-loop
+    μ-loop
+    single-requires
+    count-requires
     returns
-    decomposition-items-requires
-    enum-known-s
-    copied-requires
-    enum-told
-    returns-2
-    returns-3)
+    loop-holds
+    item-requires
+    mul-items
+    array-write-items
+    add-i
+    loop-less
+    loop-again
+    returns-2)

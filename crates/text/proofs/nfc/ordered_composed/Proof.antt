@@ -1,5 +1,4 @@
 -- `nfc::ordered_composed` meets its contract: what the ordering leaves is ready for composition. Assumes nothing.
-use denote.Ref.{now}
 use Rattle.table.specs.Laid.{theTable}
 use Rattle.text.proofs.Texts.{ready, ordered}
 use borrow.Author.Needs.{needs}
@@ -14,10 +13,9 @@ order-requires c κs = search needs
 
 compose-requires : tie.Need-compose-requires
 compose-requires c κs =
-    let o = c .before .before .before .before .before .before in
-    let p = o .before .before .before .before .before in
-    let s = p .before .before .before .before .before .before in
-    (s .pre .0, ready (theTable (now (s .args .words))) (now (s .args .text)) _ _ _ (p .put-classes .ensures) (o .order .ensures .0) (o .order .ensures .1))
+    let s = c .before .before .before .before .before .before .before .before .before .before .before .before .before .before .before .before .before .before .before in
+    let o = c .before .before .before .before .before .before .before .order .ensures in
+    (s .pre .0, (s .pre .1 .0, ready _ (s .args .text .now) _ _ _ (c .before .before .before .before .before .before .before .before .before .before .before .before .put-classes .ensures) (o .0) (o .1)))
 
 same-length : tie.Need-same-length
 same-length c = search needs
@@ -25,13 +23,14 @@ same-length c = search needs
 same-length-2 : tie.Need-same-length-2
 same-length-2 c = search needs
 
+same-length-3 : tie.Need-same-length-3
+same-length-3 c = search needs
+
 returns : tie.Need-returns
 returns c =
-    let k = c .before .before in
-    let o = k .before .before .before .before .before .before .before in
-    let p = o .before .before .before .before .before in
-    let s = p .before .before .before .before .before .before in
-    rw (← ordered (theTable (now (s .args .words))) (now (s .args .text)) _ _ (p .put-classes .ensures) (o .order .ensures .0)) (k .compose .ensures)
+    let s = c .before .before .before .before .before .before .before .before .before .before .before .before .before .before .before .before .before .before .before .before .before .before .before .before in
+    let k = c .before .before .before .before .compose .ensures in
+    (rw (← ordered (theTable (s .args .words .now)) (s .args .text .now) _ _ (c .before .before .before .before .before .before .before .before .before .before .before .before .before .before .before .before .before .put-classes .ensures) (c .before .before .before .before .before .before .before .before .before .before .before .before .order .ensures .0)) (k .0), k .1)
 
 pub ordered-composed-spec : {M : Type 1} → statement M
 ordered-composed-spec =
@@ -42,4 +41,5 @@ ordered-composed-spec =
     compose-requires
     same-length
     same-length-2
+    same-length-3
     returns)

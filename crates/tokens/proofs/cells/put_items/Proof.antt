@@ -13,7 +13,7 @@ abbrev μ-loop : tie.MeasureT-loop
 μ-loop words ix w₀ from to r₀ i₀ w r i = to - i
 
 loop-holds : tie.Need-loop-holds Inv-loop μ-loop
-loop-holds c = items-start _ _ _ _ _ (c .before .before .pre .1 .2 .filled)
+loop-holds c = items-start _ _ _ _ _ (c .before .before .pre .1 .1 .filled)
 
 mul-c : tie.Need-mul-c Inv-loop μ-loop
 mul-c c = search needs
@@ -33,14 +33,14 @@ loop-less c = search needs
 loop-again : tie.Need-loop-again Inv-loop μ-loop
 loop-again c =
     let l = c .before .before .before .before .before .before in
-    items-more _ _ _ _ _ _ _ _ _ _ (l .before .before .before .pre .1 .2 .inside) (l .loop .inv) (c .before .before .before .before .before .loop-test .taken) (c .before .before .put-text .ensures)
+    items-more _ _ _ _ _ _ _ _ _ _ (l .before .before .before .pre .1 .1 .inside) (l .loop .inv) (c .before .before .before .before .before .loop-test .taken) (c .before .before .put-text .ensures)
 
 same-length : tie.Need-same-length Inv-loop μ-loop
 same-length c = c .before .loop .inv .same
 
 returns : tie.Need-returns Inv-loop μ-loop
 returns c =
-    items-stop _ _ _ _ _ _ _ _ (c .before .before .before .before .pre .1 .2) (c .before .loop .inv) (c .loop-test .left)
+    items-stop _ _ _ _ _ _ _ _ (c .before .loop .inv) (c .loop-test .left)
 
 pub put-items-spec : {M : Type 1} → statement M
 put-items-spec =

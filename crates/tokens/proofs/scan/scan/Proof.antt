@@ -35,7 +35,7 @@ step-requires c κs =
     let l = c .before .before .before in
     let p = l .before .before .before .before .pre in
     let i = l .loop .inv in
-    (p .0, (omega (arith, p .1 .0, i .same), omega (arith, p .1 .1, i .few, i .inside), scan-left _ _ _ _ _ _ i (c .before .before .loop-test .taken)))
+    (p .0, (omega (arith, p .1 .0, i .same), scan-left _ _ _ _ _ _ i (c .before .before .loop-test .taken)))
 
 enum-known-went : tie.Need-enum-known-went Inv-loop μ-loop
 enum-known-went c = search needs

@@ -1,5 +1,4 @@
 -- `tokens::scan::step` meets its contract: an emoji where one is found, else one codepoint. Assumes nothing.
-use native.Mathlib.Omega.{arith}
 use borrow.Author.Needs.{needs}
 use Rattle.tokens.proofs.Steps.{step-sequence, step-emoji, step-alone}
 use Rattle.tokens.proofs.scan.step.Statement.{statement}
@@ -15,7 +14,7 @@ put-emoji-requires : tie.Need-put-emoji-requires
 put-emoji-requires c κs =
     let d = c .before .before in
     let p = d .before .before .before .before .before .before .pre in
-    (p .1 .0, omega (arith, p .1 .1), step-sequence _ _ _ _ (d .before .before .find .ensures) _ _ _ _ (d .found .given .1))
+    (p .1 .0, step-sequence _ _ _ _ (d .before .before .find .ensures) _ _ _ _ (d .found .given .1))
 
 enum-told : tie.Need-enum-told
 enum-told c = search needs
@@ -33,7 +32,7 @@ returns : tie.Need-returns
 returns c =
     let e = c .before .before .before .before .before in
     let f = e .before .before in
-    step-emoji _ _ _ _ (f .before .before .before .before .pre .1 .2) (f .find .ensures) _ _ _ _ (e .found .given .1) _ _ _ _ (c .before .before .put-emoji .ensures)
+    step-emoji _ _ _ _ (f .before .before .before .before .pre .1 .1) (f .find .ensures) _ _ _ _ (e .found .given .1) _ _ _ _ (c .before .before .put-emoji .ensures)
 
 same-length-2 : tie.Need-same-length-2
 same-length-2 c = search needs
@@ -42,7 +41,7 @@ returns-2 : tie.Need-returns-2
 returns-2 c =
     let e = c .before .before .before .before .before in
     let f = e .before .before in
-    step-alone _ _ _ _ (f .before .before .before .before .pre .1 .2) (f .find .ensures) (e .enum-told .given .1) _ _ _ _ (c .before .before .take-one .ensures)
+    step-alone _ _ _ _ (f .before .before .before .before .pre .1 .1) (f .find .ensures) (e .enum-told .given .1) _ _ _ _ (c .before .before .take-one .ensures)
 
 pub step-spec : {M : Type 1} → statement M
 step-spec =

@@ -20,7 +20,7 @@ put-items-requires : tie.Need-put-items-requires
 put-items-requires c κs =
     let d = c .before .before in
     let p = d .before .before .before .before .before .pre in
-    (p .0, (p .1 .0, p .1 .1, one-items _ _ _ _ (d .before .before .alone .ensures) _ (d .found .given .1)))
+    (p .0, (p .1, one-items _ _ _ _ (d .before .before .alone .ensures) _ (d .found .given .1)))
 
 enum-told-2 : tie.Need-enum-told-2
 enum-told-2 c = search needs

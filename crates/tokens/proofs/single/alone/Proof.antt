@@ -8,12 +8,8 @@ use Rattle.tokens.proofs.single.alone.Statement.{statement}
 is-valid-requires : tie.Need-is-valid-requires
 is-valid-requires c κs = search needs
 
-returns : tie.Need-returns
-returns c =
-    alone-valid _ _ (sym (c .if1 .taken) ∙ c .before .is-valid .ensures)
-
-mapped-items-requires : tie.Need-mapped-items-requires
-mapped-items-requires c κs = search needs
+items-unless-requires : tie.Need-items-unless-requires
+items-unless-requires c κs = search needs
 
 enum-known-items : tie.Need-enum-known-items
 enum-known-items c = search needs
@@ -21,35 +17,42 @@ enum-known-items c = search needs
 enum-told : tie.Need-enum-told
 enum-told c = search needs
 
+returns : tie.Need-returns
+returns c =
+    let m = c .before .before .before in
+    alone-valid _ _ _ (m .before .is-valid .ensures) _ (m .items-unless .ensures) (c .if1 .taken)
+
 is-ignored-requires : tie.Need-is-ignored-requires
 is-ignored-requires c κs = search needs
 
 returns-2 : tie.Need-returns-2
 returns-2 c =
-    let e = c .before .before in
+    let e = c .before .before .before in
     let m = e .before .before in
-    alone-ignored _ _ (sym (m .before .if1 .left) ∙ m .before .before .is-valid .ensures) _ (m .mapped-items .ensures) (e .enum-told .given .1) (sym (c .if2 .taken) ∙ c .before .is-ignored .ensures)
+    alone-ignored _ _ _ (m .before .is-valid .ensures) _ (m .items-unless .ensures) (e .enum-told .given .1) (c .before .before .if1 .left)
+    (sym (c .if2 .taken) ∙ c .before .is-ignored .ensures)
 
 returns-3 : tie.Need-returns-3
 returns-3 c =
     let m = c .before .before .before in
-    alone-mapped _ _ (sym (m .before .if1 .left) ∙ m .before .before .is-valid .ensures) _ (m .mapped-items .ensures) _ (c .before .items .given .1)
+    alone-mapped _ _ _ (m .before .is-valid .ensures) _ (m .items-unless .ensures) _ (c .before .items .given .1)
 
 returns-4 : tie.Need-returns-4
 returns-4 c =
-    let e = c .before .before in
+    let e = c .before .before .before in
     let m = e .before .before in
-    alone-disallowed _ _ (sym (m .before .if1 .left) ∙ m .before .before .is-valid .ensures) _ (m .mapped-items .ensures) (e .enum-told .given .1) (sym (c .if2 .left) ∙ c .before .is-ignored .ensures)
+    alone-disallowed _ _ _ (m .before .is-valid .ensures) _ (m .items-unless .ensures) (e .enum-told .given .1) (c .before .before .if1 .left)
+    (sym (c .if2 .left) ∙ c .before .is-ignored .ensures)
 
 pub alone-spec : {M : Type 1} → statement M
 alone-spec =
     tie.close
     (tie.spec
     is-valid-requires
-    returns
-    mapped-items-requires
+    items-unless-requires
     enum-known-items
     enum-told
+    returns
     is-ignored-requires
     returns-2
     returns-3

@@ -1,0 +1,5 @@
+pub mod NumberLaws
+pub mod MarkLaws
+pub mod TakeLaws
+pub mod SweepLaws
+pub mod JoinLaws

@@ -1,0 +1,42 @@
+-- `tokens::emoji::better` meets its contract: the second match counts only where it takes more. Assumes nothing.
+use borrow.Author.Needs.{needs}
+use borrow.Author.Tests.{lt-ltb, le-ltb}
+use Rattle.finder.proofs.emoji.better.Tie as tie
+use Rattle.finder.proofs.emoji.better.Statement.{statement}
+
+enum-known-a : tie.Need-enum-known-a
+enum-known-a c = search needs
+
+enum-known-b : tie.Need-enum-known-b
+enum-known-b c = search needs
+
+returns : tie.Need-returns
+returns c = rw (c .before .before .before .before .before .a .given .1, c .before .before .b .given .1, lt-ltb _ _ (c .if1 .taken))
+
+enum-told : tie.Need-enum-told
+enum-told c = search needs
+
+enum-told-2 : tie.Need-enum-told-2
+enum-told-2 c = search needs
+
+returns-2 : tie.Need-returns-2
+returns-2 c = rw (c .before .before .before .before .before .a .given .1, c .before .before .b .given .1, le-ltb _ _ (c .if1 .left))
+
+returns-3 : tie.Need-returns-3
+returns-3 c = rw (c .before .before .before .a .given .1, c .enum-told .given .1)
+
+returns-4 : tie.Need-returns-4
+returns-4 c = search needs
+
+pub better-spec : {M : Type 1} → statement M
+better-spec =
+    tie.close
+    (tie.spec
+    enum-known-a
+    enum-known-b
+    returns
+    enum-told
+    enum-told-2
+    returns-2
+    returns-3
+    returns-4)

@@ -1,0 +1,5 @@
+pub mod Emoji
+pub mod Matching
+pub mod Finding
+pub mod Took
+pub mod Match

@@ -1,0 +1,75 @@
+-- What the answers of the emoji finder stand for. Assumes nothing.
+use Prim.Native.Nat.{ℕ, _+_, _≤_}
+use mathlib.Core.Path.{_≡_}
+use mathlib.Core.List.{List, []}
+use mathlib.Core.Option.{Option, none, some, Option·getD}
+use mathlib.Core.Bool.{cond}
+use lib.ListN.{length}
+use lib.Dec.{eqb, ltb}
+use Rattle.table.specs.declared.Span.{Span}
+use Rattle.table.specs.Layout.{mostItems, sequences}
+use Rattle.table.specs.Laid.{within}
+use Rattle.finder.specs.declared.emoji.Taking as taking
+use Rattle.finder.specs.declared.emoji.Taking.{Taking}
+use Rattle.finder.specs.declared.emoji.Match as match
+use Rattle.finder.specs.declared.emoji.Match.{Match}
+use Rattle.finder.specs.Emoji.{Taken, Found, strip}
+
+-- what a sequence takes
+abbrev pub takenOf : Taking → Option Taken
+takenOf (taking.the-variants.Whole n s) = some (record { length = n; selectors = s })
+takenOf taking.the-variants.Nothing = none
+
+-- the match that an answer stands for, its sequence among the words
+abbrev pub foundOf : List ℕ → Match → Option Found
+foundOf ws (match.the-variants.Found n s k f) =
+    some (record { number = n; taken = record { length = k; selectors = f }; stripped = strip (within s ws) })
+foundOf ws match.the-variants.Nothing = none
+
+-- the match of a record that takes so much
+abbrev pub matchOf : ℕ → Span → Taking → Match
+matchOf n s (taking.the-variants.Whole k f) = cond (eqb k 0) match.the-variants.Nothing (match.the-variants.Found n s k f)
+matchOf n s taking.the-variants.Nothing = match.the-variants.Nothing
+
+-- of two matches the one that takes more, and of equals the first
+abbrev pub betterOf : Match → Match → Match
+betterOf match.the-variants.Nothing b = b
+betterOf (match.the-variants.Found n s k f) match.the-variants.Nothing = match.the-variants.Found n s k f
+betterOf (match.the-variants.Found n s k f) (match.the-variants.Found m t j g) =
+    cond (ltb k j) (match.the-variants.Found m t j g) (match.the-variants.Found n s k f)
+
+-- the match with its sequence so much further on
+abbrev pub onward : ℕ → Match → Match
+onward by (match.the-variants.Found n s k f) = match.the-variants.Found n (record { from = by + s .from; to = by + s .to }) k f
+onward by match.the-variants.Nothing = match.the-variants.Nothing
+
+-- a sequence of at most 32 words that lies within the words
+pub record SequenceFits (ws : List ℕ) (s : Span) : Type 0 where
+  pub ordered : s .from ≤ s .to
+  pub inside : s .to ≤ length ws
+  pub short : s .to ≤ s .from + mostItems
+
+-- the sequence of a match lies within the words
+abbrev pub MatchFits : List ℕ → Match → Type 0
+MatchFits ws (match.the-variants.Found n s k f) = SequenceFits ws s
+MatchFits ws match.the-variants.Nothing = Unit {0}
+
+-- what a match takes is some of the rest
+abbrev pub MatchTakes : List ℕ → Match → Type 0
+MatchTakes rest (match.the-variants.Found n s k f) = (1 ≤ k) × (k ≤ length rest)
+MatchTakes rest match.the-variants.Nothing = Unit {0}
+
+-- what the finder answers where o is to be found
+pub record FoundBy (ws rest : List ℕ) (o : Option Found) (r : Match) : Type 0 where
+  pub same : foundOf ws r ≡ o
+  pub fits : MatchFits ws r
+  pub takes : MatchTakes rest r
+
+-- the sequences that the words of a section hold
+unfoldable pub sequencesOf : List ℕ → List (List ℕ)
+unfolding sequences
+sequencesOf part = Option·getD (sequences (length part) part) []
+
+-- the words are those of a section of sequences
+pub record Sequences (part : List ℕ) : Type 0 where
+  pub parses : sequences (length part) part ≡ some (sequencesOf part)

@@ -1,0 +1,173 @@
+// Finding an emoji sequence at the start of an input.
+use table::Sections;
+use table::Span;
+use table::lookup::counted;
+ghost use mathlib.Core.Path.{_≡_};
+ghost use mathlib.Core.Bool.{not};
+ghost use mathlib.Core.List.{[], _∷_};
+ghost use Rattle.lists.specs.Lists.{isSome};
+ghost use Rattle.table.specs.Laid.{Laid, theTable};
+ghost use Rattle.finder.specs.Emoji.{takes, find};
+ghost use Rattle.finder.specs.Match.{takenOf, matchOf, betterOf, FoundBy, Sequences, sequencesOf};
+
+// What a sequence takes of an input: so many codepoints, with so many FE0F among them.
+pub enum Taking {
+    Whole { length: usize, selectors: usize },
+    Nothing,
+}
+
+// A match: the number of the record, where its sequence stands, how many codepoints it takes and how many FE0F are among them.
+pub enum Match {
+    Found {
+        number: usize,
+        sequence: Span,
+        taken: usize,
+        selectors: usize,
+    },
+    Nothing,
+}
+
+// What the sequence takes from the start of the rest.
+pub fn takes(seq: &[u32], rest: &[u32]) -> Taking
+    ensures { λ r. ⌜ takenOf r ≡ takes (now (seq .entry)) (now (rest .entry)) ⌝ }
+{
+    let mut i: usize = 0;
+    let mut at: usize = 0;
+    let mut selectors: usize = 0;
+    while i < seq.len() {
+        let e = seq[i];
+        i += 1;
+        if at < rest.len() && rest[at] == e {
+            at += 1;
+            if e == 0xFE0F {
+                selectors += 1;
+            }
+            continue;
+        }
+        if e != 0xFE0F {
+            return Taking::Nothing;
+        }
+    }
+    Taking::Whole {
+        length: at,
+        selectors,
+    }
+}
+
+// Whether e alone, as a sequence, takes nothing of the rest; then no sequence that starts with e does.
+fn misses(e: u32, rest: &[u32]) -> bool
+    ensures { λ r. ⌜ r ≡ not (isSome (takes (e ∷ []) (now (rest .entry)))) ⌝ }
+{
+    if e == 0xFE0F {
+        return false;
+    }
+    if rest.len() == 0 {
+        return true;
+    }
+    e != rest[0]
+}
+
+// The match of a record that takes so much: "A match takes at least one codepoint."
+fn matched(number: usize, sequence: Span, taking: Taking) -> Match
+    ensures { λ r. ⌜ r ≡ matchOf number sequence taking ⌝ }
+{
+    match taking {
+        Taking::Whole { length, selectors } => {
+            if length == 0 {
+                return Match::Nothing;
+            }
+            Match::Found {
+                number,
+                sequence,
+                taken: length,
+                selectors,
+            }
+        }
+        Taking::Nothing => Match::Nothing,
+    }
+}
+
+// Of two matches the one that takes more, and of equals the first.
+fn better(a: Match, b: Match) -> Match
+    ensures { λ r. ⌜ r ≡ betterOf a b ⌝ }
+{
+    match a {
+        Match::Found {
+            number: _,
+            sequence: _,
+            taken,
+            selectors: _,
+        } => {
+            let k = taken;
+            match b {
+                Match::Found {
+                    number: _,
+                    sequence: _,
+                    taken,
+                    selectors: _,
+                } => {
+                    if k < taken {
+                        return b;
+                    }
+                    a
+                }
+                Match::Nothing => a,
+            }
+        }
+        Match::Nothing => b,
+    }
+}
+
+// The match of the sequences of a section that takes most of the rest, "ties go to the first record". Most records are passed over by
+// their first codepoint.
+fn find_in(part: &[u32], rest: &[u32]) -> Match
+    requires { ⌜ Sequences (now part) ⌝ }
+    ensures { λ r. ⌜ FoundBy (now (part .entry)) (now (rest .entry)) (find (sequencesOf (now (part .entry))) (now (rest .entry))) r ⌝ }
+{
+    let mut best = Match::Nothing;
+    let mut number: usize = 0;
+    let mut at: usize = 0;
+    while at < part.len() {
+        let sequence = counted(part, at);
+        let from = sequence.from;
+        let to = sequence.to;
+        let here = number;
+        number += 1;
+        at = to;
+        if misses(part[from], rest) {
+            continue;
+        }
+        let taking = takes(&part[from..to], rest);
+        let next = matched(here, sequence, taking);
+        best = better(best, next);
+    }
+    best
+}
+
+// The emoji sequence of the table that matches the rest of a label and takes most of it.
+pub fn find(words: &[u32], ix: Sections, rest: &[u32]) -> Match
+    requires { ⌜ Laid (now words) ix ⌝ }
+    ensures { λ r. ⌜ FoundBy (now (words .entry)) (now (rest .entry)) (find (theTable (now (words .entry)) .emoji) (now (rest .entry))) r ⌝ }
+{
+    let s = ix.emoji;
+    let from = s.from;
+    let to = s.to;
+    let m = find_in(&words[from..to], rest);
+    match m {
+        Match::Found {
+            number,
+            sequence,
+            taken,
+            selectors,
+        } => Match::Found {
+            number,
+            sequence: Span {
+                from: from + sequence.from,
+                to: from + sequence.to,
+            },
+            taken,
+            selectors,
+        },
+        Match::Nothing => Match::Nothing,
+    }
+}
