@@ -22,11 +22,11 @@ static int forms(void) {
     if (other(wanlopheng_nfd(text, 1, table, 20, answer, 1, work, 2), 52, 0) || answer[0] != 0) return 15;
     if (other(wanlopheng_nfc(text, 1, table, 20, answer, 1, work, 1), 51, 0)) return 16;
     if (other(wanlopheng_nfc(text, 1, table, 19, answer, 3, work, 2), 1, 0)) return 17;
-    static uint32_t longest[1025];
+    static uint32_t longest[WANLOPHENG_ANSWER_WORDS + 1];
     answer[0] = work[0] = 7;
-    if (other(wanlopheng_nfd(longest, 1025, table, 20, answer, 3, work, 2), WANLOPHENG_FORM_TOO_LONG, 0)) return 18;
-    if (other(wanlopheng_nfc(longest, 1025, table, 20, answer, 3, work, 2), WANLOPHENG_FORM_TOO_LONG, 0)) return 19;
-    if (other(wanlopheng_nfc(longest, 1024, table, 20, answer, 3, work, 2), 51, 0) || answer[0] != 0 || work[0] != 0) return 20;
+    if (other(wanlopheng_nfd(longest, WANLOPHENG_ANSWER_WORDS + 1, table, 20, answer, 3, work, 2), WANLOPHENG_FORM_TOO_LONG, 0)) return 18;
+    if (other(wanlopheng_nfc(longest, WANLOPHENG_ANSWER_WORDS + 1, table, 20, answer, 3, work, 2), WANLOPHENG_FORM_TOO_LONG, 0)) return 19;
+    if (other(wanlopheng_nfc(longest, WANLOPHENG_ANSWER_WORDS, table, 20, answer, 3, work, 2), 51, 0) || answer[0] != 0 || work[0] != 0) return 20;
     return 0;
 }
 
