@@ -20,9 +20,9 @@ extern "C" {
 #define WANLOPHENG_VERSION "0.1.0"
 
 /* Sizes of buffers, in elements. */
-#define WANLOPHENG_INPUT_MOST 4096     /* codepoints of an input */
-#define WANLOPHENG_ANSWER_WORDS 1024   /* an answer of this size holds every normal form */
-#define WANLOPHENG_WORK_WORDS 2048     /* the least work area */
+#define WANLOPHENG_INPUT_MOST 16384    /* codepoints of an input */
+#define WANLOPHENG_ANSWER_WORDS 4096   /* an answer of this size holds every normal form */
+#define WANLOPHENG_WORK_WORDS 8192     /* the least work area */
 #define WANLOPHENG_TABLE_WORDS 131072  /* the largest table */
 #define WANLOPHENG_FILE_BYTES 524293   /* its file */
 #define WANLOPHENG_BOOK_WORDS 16912    /* the area of a payee book */
@@ -87,7 +87,7 @@ struct wanlopheng_name {
 };
 
 /* Normalises a name. After success the answer holds the normal form and then zeros, after a refusal zeros alone; the work area,
- * of at least 2,048 words, holds zeros either way. An answer of 1,024 words holds every normal form. With a setting other than 0, labels of
+ * of at least 8,192 words, holds zeros either way. An answer of 4,096 words holds every normal form. With a setting other than 0, labels of
  * restricted groups are refused as 17, after 14 in each label. */
 struct wanlopheng_name wanlopheng_name(const uint32_t *input, size_t input_length, const uint32_t *words, size_t words_length,
                                        uint32_t setting, uint32_t *answer, size_t answer_length, uint32_t *work, size_t work_length);
@@ -108,7 +108,7 @@ struct wanlopheng_label wanlopheng_label(const uint32_t *input, size_t input_len
 
 /* What the search for a group answers. */
 struct wanlopheng_group {
-    uint32_t number;      /* 0: searched. 1: the words have a layout fault. 3: over 4,096 codepoints. */
+    uint32_t number;      /* 0: searched. 1: the words have a layout fault. 3: over 16,384 codepoints. */
     size_t place;         /* 0 */
     uint32_t found;       /* 1: a group holds every codepoint of the text. 0: none does. 0 beside a refusal, as all that follows */
     size_t group;         /* its number, counted from 0; 0 where none was found */
@@ -262,7 +262,7 @@ struct wanlopheng_namehash wanlopheng_namehash(const uint32_t *input, size_t inp
 /* What the calls for NFD and NFC answer. The full decomposition of the text needs room in the answer and in the work area,
  * for NFC too. */
 struct wanlopheng_form {
-    uint32_t number; /* 0: done. 1: the words have a layout fault. 50: the full decomposition has over 1,024 codepoints.
+    uint32_t number; /* 0: done. 1: the words have a layout fault. 50: the full decomposition has over 4,096 codepoints.
                         51: the work area is too small for it. 52: the answer is too small for it. Tried in this order. */
     size_t length;   /* the number of codepoints; 0 beside a refusal */
 };

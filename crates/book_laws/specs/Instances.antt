@@ -3,6 +3,7 @@ use Prim.Native.Nat.{ℕ}
 use mathlib.Core.Path.{_≡_, refl, _∙_}
 use mathlib.Core.List.{List, [], _∷_}
 use lib.ListN.{length}
+use Rattle.limits.specs.Limits.{leastWork}
 use Rattle.book_slots.specs.Book.{frontSize}
 use Rattle.book.specs.Calls.{BookValues}
 use Rattle.cases.specs.SmallTable.{smallTable}
@@ -19,9 +20,9 @@ told n a = record { number = n; place = 0; account = a }
 -- its second codepoint; too small a work area; no room for the answer; forget; find; reset
 abbrev pub calls : List Call
 calls =
-    by find (0x61 ∷ []) 8 2048 ∷ by (save (account 7)) (0x41 ∷ []) 8 2048 ∷ by find (0x61 ∷ []) 8 2048 ∷ by (save (account 9)) (0x61 ∷ []) 1 2048
-    ∷ by find (0x41 ∷ []) 8 2048 ∷ by find [] 8 2048 ∷ by find (0x61 ∷ 0x21 ∷ []) 8 2048 ∷ by find (0x61 ∷ []) 8 9 ∷ by find (0x61 ∷ []) 0 2048
-    ∷ by forget (0x61 ∷ []) 8 2048 ∷ by find (0x41 ∷ []) 8 2048 ∷ reset 0 0 ∷ []
+    by find (0x61 ∷ []) 8 leastWork ∷ by (save (account 7)) (0x41 ∷ []) 8 leastWork ∷ by find (0x61 ∷ []) 8 leastWork ∷ by (save (account 9)) (0x61 ∷ []) 1 leastWork
+    ∷ by find (0x41 ∷ []) 8 leastWork ∷ by find [] 8 leastWork ∷ by find (0x61 ∷ 0x21 ∷ []) 8 leastWork ∷ by find (0x61 ∷ []) 8 9 ∷ by find (0x61 ∷ []) 0 leastWork
+    ∷ by forget (0x61 ∷ []) 8 leastWork ∷ by find (0x41 ∷ []) 8 leastWork ∷ reset 0 0 ∷ []
 
 abbrev pub due : List BookValues
 due =

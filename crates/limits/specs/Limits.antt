@@ -1,19 +1,19 @@
--- The limits of the calls (01, "Refusal numbers"). Every other bound is derived from these by name. The only facts that proofs use of them
+-- The limits of the calls (01, "Refusal numbers", moved by 02, Item 5). Every other bound is derived from these by name. The only facts that proofs use of them
 -- are at the end. Assumes nothing.
 use Prim.Native.Nat.{ℕ, _*_, _≤_}
 use native.Mathlib.Omega.{arith}
 
--- "input over 4,096 codepoints"
+-- "Input goes to 16,384 codepoints"
 abbrev pub mostInput : ℕ
-mostInput = 4096
+mostInput = 16384
 
--- "worked length over 1,024"; "Exactly 1,024 passes."
+-- "the worked length to 4,096"; exactly as many pass
 abbrev pub mostWorked : ℕ
-mostWorked = 1024
+mostWorked = 4096
 
--- "work area under 2,048 words"
+-- "the work area to 8,192 words"
 abbrev pub leastWork : ℕ
-leastWork = 2048
+leastWork = 8192
 
 pub worked-in-input : mostWorked ≤ mostInput
 worked-in-input = omega arith

@@ -84,18 +84,18 @@ module _ (memo ys : List ℕ) (j : ℕ) (size : length memo ≡ memoSize) (h : j
 
 -- The slot that is written next is put behind all slots.
 module _ (ws memo : List ℕ) (w : Memo ws memo) (v : ℕ) where
-  next-memo : Memo ws (set memo 4160 v)
+  next-memo : Memo ws (set memo (slotCount * slotSize) v)
   next-memo =
       record {
-        size = length-set memo 4160 v ∙ w .size;
-        each = λ i h. rw (slot-front (set memo 4160 v) memo i (take-set-le (slotSize * i + slotSize) memo 4160 v (omega arith))) (w .each i h);
+        size = length-set memo (slotCount * slotSize) v ∙ w .size;
+        each = λ i h. rw (slot-front (set memo (slotCount * slotSize) v) memo i (take-set-le (slotSize * i + slotSize) memo (slotCount * slotSize) v (omega arith))) (w .each i h);
       }
 
   -- then one slot is written
   pub recalled-new : (valid confused : Span) (ys : List ℕ) (j : ℕ) → j < slotCount → SlotFor ws valid confused ys
-      → Recalled ws valid confused (putMid (slotSize * j) (slotSize * j + slotSize - slotSize * j) (set memo 4160 v) ys) j
+      → Recalled ws valid confused (putMid (slotSize * j) (slotSize * j + slotSize - slotSize * j) (set memo (slotCount * slotSize) v) ys) j
   recalled-new valid confused ys j h s =
-      let l : List ℕ = set memo 4160 v in
+      let l : List ℕ = set memo (slotCount * slotSize) v in
       let long : length l ≡ memoSize = next-memo .size in
       let e : length ys ≡ slotSize = s .slot .size in
       let here : slotAt (putMid (slotSize * j) (slotSize * j + slotSize - slotSize * j) l ys) j ≡ ys = slot-same l ys j long h e in
@@ -186,16 +186,16 @@ filled ws (a ∷ b ∷ c ∷ d ∷ s) ys valid confused k n =
     })
 
 -- the slot that is written lies within the memo
-pub next-fits : (memo : List ℕ) (v j : ℕ) → length memo ≡ memoSize → j < slotCount → slotSize * j + slotSize ≤ length (set memo 4160 v)
+pub next-fits : (memo : List ℕ) (v j : ℕ) → length memo ≡ memoSize → j < slotCount → slotSize * j + slotSize ≤ length (set memo (slotCount * slotSize) v)
 next-fits memo v j e h = simp length-set (omega arith)
 
 pub next-length : (memo : List ℕ) (v j : ℕ) → length memo ≡ memoSize → j < slotCount
-    → length (take (slotSize * j + slotSize - slotSize * j) (drop (slotSize * j) (set memo 4160 v))) ≡ slotSize
-next-length memo v j e h = part-length (set memo 4160 v) _ j (length-set memo 4160 v ∙ e) h (slot-part (set memo 4160 v) j)
+    → length (take (slotSize * j + slotSize - slotSize * j) (drop (slotSize * j) (set memo (slotCount * slotSize) v))) ≡ slotSize
+next-length memo v j e h = part-length (set memo (slotCount * slotSize) v) _ j (length-set memo (slotCount * slotSize) v ∙ e) h (slot-part (set memo (slotCount * slotSize) v) j)
 
 pub recalled-length : (memo : List ℕ) (v : ℕ) (ys : List ℕ) (j : ℕ) → length memo ≡ memoSize → j < slotCount → length ys ≡ slotSize
-    → length (putMid (slotSize * j) (slotSize * j + slotSize - slotSize * j) (set memo 4160 v) ys) ≡ length memo
-recalled-length memo v ys j e h f = now-size (set memo 4160 v) ys j (length-set memo 4160 v ∙ e) h f ∙ length-set memo 4160 v
+    → length (putMid (slotSize * j) (slotSize * j + slotSize - slotSize * j) (set memo (slotCount * slotSize) v) ys) ≡ length memo
+recalled-length memo v ys j e h f = now-size (set memo (slotCount * slotSize) v) ys j (length-set memo (slotCount * slotSize) v ∙ e) h f ∙ length-set memo (slotCount * slotSize) v
 
 -- the groups are those of the table
 pub filled-from : (ws s ys : List ℕ) (valid confused : Span) (gs : List Group) → gs ≡ theTable ws .groups → Keyed valid confused s

@@ -1,5 +1,5 @@
 -- What the look-alike test remembers: the components of the wholes that it met last, each in a slot of its own. Assumes nothing.
-use Prim.Native.Nat.{ℕ, _*_, _≤_, _<_}
+use Prim.Native.Nat.{ℕ, _+_, _*_, _≤_, _<_}
 use mathlib.Core.Path.{_≡_}
 use mathlib.Core.Bool.{Bool, _&&_, _||_}
 use mathlib.Core.List.{List}
@@ -12,7 +12,7 @@ use Rattle.components.specs.Components.{Components}
 
 -- so many slots
 abbrev pub slotCount : ℕ
-slotCount = 16
+slotCount = 8
 
 -- each has the places of the valid and of the confused list of a whole, and behind them a number for each group
 abbrev pub keyed : ℕ
@@ -23,7 +23,7 @@ slotSize = 260
 
 -- and behind all of them the slot that is written next
 abbrev pub memoSize : ℕ
-memoSize = 4161
+memoSize = slotCount * slotSize + 1
 
 abbrev pub slotAt : List ℕ → ℕ → List ℕ
 slotAt memo j = take slotSize (drop (slotSize * j) memo)

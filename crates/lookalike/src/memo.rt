@@ -13,12 +13,15 @@ ghost use Rattle.table.specs.Laid.{Laid, Fits};
 ghost use Rattle.table.specs.Layout.{mostWords};
 ghost use Rattle.lookalike.specs.Memo.{slotSize, validIn, confusedIn, sameSpans, Keyed, SlotFor, Memo, Sought, Recalled};
 
-const SLOTS: usize = 16;
+const SLOTS: usize = 8;
 
 const SLOT: usize = 260;
 
+// Where the slot that is written next stands.
+const NEXT: usize = SLOTS * SLOT;
+
 // Words of a memo.
-pub const MEMO: usize = 4161;
+pub const MEMO: usize = NEXT + 1;
 
 // Whether a slot is for the whole whose lists stand there.
 fn is_for(slot: &[u32], valid: Span, confused: Span) -> bool
@@ -98,8 +101,8 @@ pub fn recall(words: &[u32], ix: Sections, memo: &mut [u32], valid: Span, confus
     if found < SLOTS {
         return found;
     }
-    let j = memo[4160] as usize % SLOTS;
-    memo[4160] = j as u32 + 1;
+    let j = memo[NEXT] as usize % SLOTS;
+    memo[NEXT] = j as u32 + 1;
     let from = SLOT * j;
     let to = from + SLOT;
     fill(words, ix, &mut memo[from..to], valid, confused);

@@ -4,6 +4,7 @@
 use crate::engine::Engine;
 use crate::tally::Tally;
 use gen::{Rng, Vocabulary};
+use plain::limits::{INPUT, WORKED, WORK_WORDS};
 use plain::{Kind, Label, Name, Refusal, Soundness};
 use std::fmt;
 
@@ -43,8 +44,8 @@ pub struct Counts {
     pub label_calls: CallCounts,
     /// Names, each counted once, that were accepted.
     pub accepted_names: u64,
-    pub names_of_4096: u64,
-    pub accepted_names_of_4096: u64,
+    pub longest_names: u64,
+    pub accepted_longest_names: u64,
     /// Emoji, ASCII, unrestricted group, restricted group.
     pub kinds: [u64; 4],
     pub sound: u64,
@@ -84,7 +85,7 @@ const RULES: std::ops::RangeInclusive<u32> = 0..=7;
 impl Counts {
     /// What was reached too seldom, as the comparison asks it: every refusal
     /// and kind 500 times, every soundness answer 200 times, 40,000 accepted
-    /// names and a name of 4,096 codepoints.
+    /// names and a name of as many codepoints as an input may have.
     pub fn missing(&self) -> Vec<String> {
         let mut missing = Vec::new();
         let mut ask = |what: String, count: u64, least: u64| {
@@ -111,7 +112,7 @@ impl Counts {
         ask("sound".into(), self.sound, 200);
         ask("unpacked".into(), self.unpack_calls.accepted, 500);
         ask("accepted names".into(), self.accepted_names, 40_000);
-        ask("names of 4,096".into(), self.names_of_4096, 1);
+        ask("longest names".into(), self.longest_names, 1);
         missing
     }
 }
@@ -119,7 +120,7 @@ impl Counts {
 impl fmt::Display for Counts {
     fn fmt(&self, f: &mut fmt::Formatter) -> fmt::Result {
         writeln!(f, "tables {}, names {}, accepted {}", self.tables, self.names, self.accepted_names)?;
-        writeln!(f, "names of 4,096 codepoints {}, accepted {}", self.names_of_4096, self.accepted_names_of_4096)?;
+        writeln!(f, "names of {INPUT} codepoints {}, accepted {}", self.longest_names, self.accepted_longest_names)?;
         writeln!(f, "name call: {}", self.name_calls)?;
         writeln!(f, "label call: {}", self.label_calls)?;
         let [emoji, ascii, group, restricted] = self.kinds;
@@ -175,9 +176,9 @@ fn marks(size: usize, salt: u32) -> Vec<u32> {
 
 fn work_size(rng: &mut Rng) -> usize {
     match rng.below(100) {
-        0 => *rng.pick(&[0, 1, 1024, 2047, 2047, 2047]),
-        1..=4 => rng.between(2049, 3000),
-        _ => 2048,
+        0 => *rng.pick(&[0, 1, WORK_WORDS / 4, WORK_WORDS - 1, WORK_WORDS - 1, WORK_WORDS - 1]),
+        1..=4 => rng.between(WORK_WORDS + 1, WORK_WORDS + 1_000),
+        _ => WORK_WORDS,
     }
 }
 
@@ -187,8 +188,8 @@ fn answer_size(rng: &mut Rng, name: &[u32]) -> usize {
         2..=3 => rng.below(8),
         4..=6 => name.len(),
         7..=8 => name.len().saturating_sub(1),
-        9..=12 => 1024,
-        13..=15 => rng.between(1025, 5000),
+        9..=12 => WORKED,
+        13..=15 => rng.between(WORKED + 1, WORKED + 4_000),
         _ => name.len() + rng.between(8, 40),
     }
 }
@@ -254,9 +255,9 @@ impl Both<'_> {
         let accepted = u64::from(answer.is_ok());
         self.report.counts.names += 1;
         self.report.counts.accepted_names += accepted;
-        if name.len() == plain::limits::INPUT {
-            self.report.counts.names_of_4096 += 1;
-            self.report.counts.accepted_names_of_4096 += accepted;
+        if name.len() == INPUT {
+            self.report.counts.longest_names += 1;
+            self.report.counts.accepted_longest_names += accepted;
         }
         if let Ok(Name { length, .. }) = answer {
             if rng.percent(6) {

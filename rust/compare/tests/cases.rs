@@ -2,6 +2,7 @@
 //! document, the errors met in the field, layout, unpacking and soundness.
 
 use gen::small::*;
+use plain::limits::{INPUT, WORKED, WORK_WORDS};
 use plain::*;
 
 const NO_ROOM: u32 = 15;
@@ -9,7 +10,7 @@ const NO_ROOM: u32 = 15;
 /// A call with marks in the buffers: its answer and the words of the answer
 /// buffer, once the work area is seen to be zero.
 fn lent<R>(room: usize, call: impl FnOnce(&mut [u32], &mut [u32]) -> R) -> (R, Vec<u32>) {
-    let (mut answer, mut work) = (vec![0xFFFF_FFFF; room], vec![0xFFFF_FFFF; 2048]);
+    let (mut answer, mut work) = (vec![0xFFFF_FFFF; room], vec![0xFFFF_FFFF; WORK_WORDS]);
     let flat = call(&mut answer, &mut work);
     assert!(work.iter().all(|&w| w == 0));
     (flat, answer)
@@ -37,15 +38,15 @@ fn run_label(words: &[u32], input: &[u32], room: usize) -> Result<(Vec<u32>, Kin
 /// A one-label name: both calls give this answer, and the label this kind.
 fn gives(input: &[u32], answer: &[u32], kind: Kind) {
     let words = small_table().to_words();
-    assert_eq!(run_name(&words, input, 1024), Ok((answer.to_vec(), 1)), "{input:X?}");
-    assert_eq!(run_label(&words, input, 1024), Ok((answer.to_vec(), kind)), "{input:X?}");
+    assert_eq!(run_name(&words, input, WORKED), Ok((answer.to_vec(), 1)), "{input:X?}");
+    assert_eq!(run_label(&words, input, WORKED), Ok((answer.to_vec(), kind)), "{input:X?}");
 }
 
 /// A one-label name: both calls refuse it so.
 fn refused(input: &[u32], number: u32, place: usize) {
     let words = small_table().to_words();
-    assert_eq!(run_name(&words, input, 1024), Err(Refusal { number, place }), "{input:X?}");
-    assert_eq!(run_label(&words, input, 1024), Err(Refusal { number, place }), "{input:X?}");
+    assert_eq!(run_name(&words, input, WORKED), Err(Refusal { number, place }), "{input:X?}");
+    assert_eq!(run_label(&words, input, WORKED), Err(Refusal { number, place }), "{input:X?}");
 }
 
 fn group(number: usize) -> Kind {
@@ -85,11 +86,11 @@ fn names_at_the_counter() {
     assert_eq!(run_name(&words, &[0x61, 0x2E], 5), Err(Refusal::new(6, 1)));
     assert_eq!(run_name(&words, &[0x61], 0), Err(Refusal::new(NO_ROOM, 0)));
     assert_eq!(run_label(&words, &[0x61], 0), Err(Refusal::new(NO_ROOM, 0)));
-    gives(&[0x61; 1024], &[0x61; 1024], Kind::Ascii);
-    refused(&[0x61; 1025], 7, 0);
-    refused(&[0x2E3B; 341], 9, 0);
-    refused(&[0x2E3B; 342], 7, 0);
-    let mut long = vec![0x34F; 4096];
+    gives(&[0x61; WORKED], &[0x61; WORKED], Kind::Ascii);
+    refused(&[0x61; WORKED + 1], 7, 0);
+    refused(&[0x2E3B; WORKED / 3], 9, 0);
+    refused(&[0x2E3B; WORKED / 3 + 1], 7, 0);
+    let mut long = vec![0x34F; INPUT];
     long[0] = 0x61;
     gives(&long, &[0x61], Kind::Ascii);
     long.push(0x34F);
@@ -129,7 +130,7 @@ fn examples_of_the_source() {
     refused(&mixed, 12, 0);
     let words = small_table().to_words();
     let two = [&text("bahrain")[..], &[0x2E, 0x645, 0x635, 0x631]].concat();
-    assert_eq!(run_name(&words, &two, 1024), Ok((two.clone(), 2)));
+    assert_eq!(run_name(&words, &two, WORKED), Ok((two.clone(), 2)));
     // Six NSM in one run; four different ones pass.
     refused(&[0x625, 0x610, 0x611, 0x612, 0x613, 0x614], 13, 0);
     gives(&[0x627, 0x610, 0x611, 0x612, 0x613], &[0x627, 0x610, 0x611, 0x612, 0x613], group(ARABIC));
@@ -147,8 +148,8 @@ fn examples_of_the_source() {
     // Hangul.
     gives(&[0x1112, 0x1161, 0x11AB], &[0xD55C], group(KOREAN));
     gives(&[0xD558, 0x11AB], &[0xD55C], group(KOREAN));
-    gives(&[0xD55C; 341], &[0xD55C; 341], group(KOREAN));
-    refused(&[0xD55C; 342], 7, 0);
+    gives(&[0xD55C; WORKED / 3], &[0xD55C; WORKED / 3], group(KOREAN));
+    refused(&[0xD55C; WORKED / 3 + 1], 7, 0);
 }
 
 #[test]
@@ -169,7 +170,7 @@ fn errors_met_in_the_field() {
     // Leaving the old tail: `run_name` fills the buffers with marks, and here
     // a longer answer stood in them.
     let words = small_table().to_words();
-    let (mut answer, mut work) = ([0; 9], [0; 2048]);
+    let (mut answer, mut work) = ([0; 9], [0; WORK_WORDS]);
     assert!(name(&text("abcdefgh"), &words, &mut answer, &mut work).is_ok());
     assert_eq!(answer, [0x61, 0x62, 0x63, 0x64, 0x65, 0x66, 0x67, 0x68, 0]);
     assert!(name(&text("ba"), &words, &mut answer, &mut work).is_ok());
@@ -204,36 +205,36 @@ fn order_of_refusals() {
         given
     };
     let no = |number: u32, place: usize| Err(Refusal { number, place });
-    let bad_long = vec![0xD800; 4097];
+    let bad_long = vec![0xD800; INPUT + 1];
     // 1, 2, 3, 4 in order, over the whole name and the empty one too.
     assert_eq!(call(&bad_long, &[], 3, 0), no(1, 0));
-    assert_eq!(call(&bad_long, &words, 3, 2047), no(2, 0));
-    assert_eq!(call(&bad_long, &words, 3, 2048), no(3, 0));
-    assert_eq!(call(&[0x21, 0x61, 0xDFFF, 0x110000], &words, 3, 2048), no(4, 2));
-    assert_eq!(call(&[], &[], 3, 2048), no(1, 0));
+    assert_eq!(call(&bad_long, &words, 3, WORK_WORDS - 1), no(2, 0));
+    assert_eq!(call(&bad_long, &words, 3, WORK_WORDS), no(3, 0));
+    assert_eq!(call(&[0x21, 0x61, 0xDFFF, 0x110000], &words, 3, WORK_WORDS), no(4, 2));
+    assert_eq!(call(&[], &[], 3, WORK_WORDS), no(1, 0));
     assert_eq!(call(&[], &words, 3, 100), no(2, 0));
     // Label by label: a 14 in label 0 before a 5 in label 1.
-    assert_eq!(call(&[0x30, 0x445, 0x2E, 0x21], &words, 9, 2048), no(14, 0));
-    assert_eq!(call(&[0x61, 0x2E, 0x62, 0x21], &words, 9, 2048), no(5, 3));
-    assert_eq!(call(&[0x61, 0x2E, 0x30, 0x445], &words, 9, 2048), no(14, 1));
-    // 5 is looked for in the whole label, before 7; an empty label past 1,024
-    // is 6.
-    let mut long = vec![0x61; 2000];
+    assert_eq!(call(&[0x30, 0x445, 0x2E, 0x21], &words, 9, WORK_WORDS), no(14, 0));
+    assert_eq!(call(&[0x61, 0x2E, 0x62, 0x21], &words, 9, WORK_WORDS), no(5, 3));
+    assert_eq!(call(&[0x61, 0x2E, 0x30, 0x445], &words, 9, WORK_WORDS), no(14, 1));
+    // 5 is looked for in the whole label, before 7; an empty label past the
+    // worked limit is 6.
+    let mut long = vec![0x61; WORKED + 976];
     long.push(0x21);
-    assert_eq!(call(&long, &words, 9, 2048), no(5, 2000));
-    let mut long = vec![0x61; 1024];
+    assert_eq!(call(&long, &words, 9, WORK_WORDS), no(5, WORKED + 976));
+    let mut long = vec![0x61; WORKED];
     long.push(0x2E);
-    assert_eq!(call(&long, &words, 9, 2048), no(6, 1));
+    assert_eq!(call(&long, &words, 9, WORK_WORDS), no(6, 1));
     long.push(0x61);
-    assert_eq!(call(&long, &words, 9, 2048), no(7, 1));
+    assert_eq!(call(&long, &words, 9, WORK_WORDS), no(7, 1));
     // 15 comes after every label.
-    assert_eq!(call(&[0x61, 0x62, 0x2E, 0x21], &words, 1, 2048), no(5, 3));
-    assert_eq!(call(&[0x61, 0x62, 0x2E, 0x63], &words, 3, 2048), no(15, 0));
-    assert_eq!(call(&[0x61, 0x62, 0x2E, 0x63], &words, 4, 2048), Ok(Name { length: 4, labels: 2 }));
-    // Exactly 1,024 with stops passes.
-    let mut exact = vec![0x61; 1024];
+    assert_eq!(call(&[0x61, 0x62, 0x2E, 0x21], &words, 1, WORK_WORDS), no(5, 3));
+    assert_eq!(call(&[0x61, 0x62, 0x2E, 0x63], &words, 3, WORK_WORDS), no(15, 0));
+    assert_eq!(call(&[0x61, 0x62, 0x2E, 0x63], &words, 4, WORK_WORDS), Ok(Name { length: 4, labels: 2 }));
+    // Exactly the worked limit with stops passes.
+    let mut exact = vec![0x61; WORKED];
     exact[500] = 0x2E;
-    assert_eq!(call(&exact, &words, 2000, 5000), Ok(Name { length: 1024, labels: 2 }));
+    assert_eq!(call(&exact, &words, WORKED + 976, WORK_WORDS + 3), Ok(Name { length: WORKED, labels: 2 }));
 }
 
 #[test]

@@ -1,6 +1,7 @@
 //! Cases for the readings of the scope document that show on unsound tables
 //! or at the edges of its sentences.
 
+use plain::limits::{INPUT, WORKED};
 use plain::*;
 
 fn base() -> TableBuilder {
@@ -126,7 +127,7 @@ fn empty_emoji_tokens() {
     assert_eq!(run(&b, &[0x61, FE0F, 0x300]), Ok((vec![0x61, 0x300], first()))); // parts texts
     b.marks = vec![(0x300, 0x300)];
     assert_eq!(run(&b, &[0x61, FE0F, 0x300]), Err(Refusal::new(11, 0)));
-    assert_eq!(run(&b, &[FE0F; 4096]), Ok((vec![], Kind::Emoji)));
+    assert_eq!(run(&b, &[FE0F; INPUT]), Ok((vec![], Kind::Emoji)));
     assert_eq!(run_name(&b, &[FE0F, STOP, FE0F]), Ok((vec![STOP], 2)));
     // Two fenced around one are side by side.
     b.fenced = vec![(0x62, 0x62)];
@@ -206,7 +207,7 @@ fn nsm_across_emoji() {
     assert_eq!(run(&b, &[0x61, 0x304, 0x1F468, 0x305, 0x304]), Err(Refusal::new(13, 0)));
 }
 
-/// The second decomposition may have 262,144 codepoints.
+/// The second decomposition may have 1,048,576 codepoints.
 #[test]
 fn second_decomposition_is_long() {
     let y = |i: u32| 0x4E00 + i;
@@ -216,12 +217,13 @@ fn second_decomposition_is_long() {
         groups: vec![(0, vec![(y(0), y(8))])],
         ..TableBuilder::default()
     };
-    assert_eq!(run(&b, &[y(0); 4]), Ok((vec![y(4); 1024], first())));
-    assert_eq!(run(&b, &[y(0); 5]), Err(Refusal::new(7, 0)));
+    let most = WORKED / 256;
+    assert_eq!(run(&b, &vec![y(0); most]), Ok((vec![y(4); WORKED], first())));
+    assert_eq!(run(&b, &vec![y(0); most + 1]), Err(Refusal::new(7, 0)));
     b.nsm = vec![(y(8), y(8))];
-    assert_eq!(run(&b, &[y(0); 4]), Err(Refusal::new(13, 0)));
+    assert_eq!(run(&b, &vec![y(0); most]), Err(Refusal::new(13, 0)));
     b.nsm = vec![(y(4), y(4))];
-    assert_eq!(run(&b, &[y(0); 4]), Ok((vec![y(4); 1024], first())));
+    assert_eq!(run(&b, &vec![y(0); most]), Ok((vec![y(4); WORKED], first())));
 }
 
 /// The whole of a character is the first whose confused list holds it.

@@ -2,6 +2,7 @@
 
 use compare::{compare, say, Engine, Plain, Settings};
 use plain::label::{self, Finished};
+use plain::limits::{INPUT, WORKED, WORK_WORDS};
 use plain::text::{compose, four_rounds, order};
 use plain::tokens::strip;
 use plain::*;
@@ -122,7 +123,7 @@ impl Assembled {
 
     /// The place is, for 5, the index in the label.
     fn judge(&self, t: &Table, input: &[u32], before: usize) -> Result<Form, Refusal> {
-        let limit = if self.is(WorkedLengthOffByOne) { 1025 } else { 1024 };
+        let limit = if self.is(WorkedLengthOffByOne) { WORKED + 1 } else { WORKED };
         if self.is(SevenBeforeFive) && input.len() > 2 * limit {
             return refuse(7, 0);
         }
@@ -238,7 +239,7 @@ impl Assembled {
     }
 
     fn input_fault(&self, input: &[u32]) -> Result<(), Refusal> {
-        if input.len() > 4096 {
+        if input.len() > INPUT {
             return refuse(3, 0);
         }
         match input.iter().position(|&c| !is_scalar(c)) {
@@ -249,7 +250,7 @@ impl Assembled {
 
     fn whole_name(&self, input: &[u32], words: &[u32], room: usize, work: usize) -> Result<(Vec<u32>, usize), Refusal> {
         let table = parse(words).ok_or(Refusal::new(1, 0))?;
-        if work < 2048 {
+        if work < WORK_WORDS {
             return refuse(2, 0);
         }
         self.input_fault(input)?;
@@ -297,7 +298,7 @@ impl Assembled {
 
     fn one_label(&self, input: &[u32], words: &[u32], room: usize, work: usize) -> Result<(Vec<u32>, Kind), Refusal> {
         let table = parse(words).ok_or(Refusal::new(1, 0))?;
-        if work < 2048 {
+        if work < WORK_WORDS {
             return refuse(2, 0);
         }
         self.input_fault(input)?;
@@ -515,7 +516,7 @@ fn errors_met_in_the_field_fail() {
     ];
     for (wrong, input) in cases {
         let run = |engine: &dyn Engine| {
-            let (mut answer, mut work) = ([5; 9], [5; 2048]);
+            let (mut answer, mut work) = ([5; 9], [5; WORK_WORDS]);
             let given = engine.name(input, &words, &mut answer, &mut work);
             (given, answer, work)
         };
@@ -529,7 +530,7 @@ fn errors_met_in_the_field_fail() {
 fn one_hop_fails() {
     use gen::wholes::item_6::{table, A, E};
     let words = table().to_words();
-    let run = |engine: Wrong, name: &[u32]| Assembled(engine).name(name, &words, &mut [0; 9], &mut [0; 2048]);
+    let run = |engine: Wrong, name: &[u32]| Assembled(engine).name(name, &words, &mut [0; 9], &mut [0; WORK_WORDS]);
     assert_eq!(run(ExtentOfOneHop, &[A]), refuse(14, 0));
     assert_eq!(run(Nothing, &[A]), Ok(Name { length: 1, labels: 1 }));
     assert_eq!(run(ExtentOfOneHop, &[E]), refuse(14, 0));

@@ -14,7 +14,7 @@ use std::time::Duration;
 /// Bytes of a line, and of a table file.
 pub const LINE: usize = 8_192;
 pub const FILE: usize = 32_768;
-const ANSWER: usize = 1_024;
+const ANSWER: usize = plain::limits::WORKED;
 
 /// The numbers of a line: upper-case hex of 1 to 8 digits, parted by single
 /// spaces.

@@ -122,8 +122,8 @@ fn long_lines() {
     // 2,730 numbers with a blank behind each, and one more number.
     let most = |last: &str| "61 ".repeat(2_730) + last;
     assert_eq!(most("61").len(), LINE);
-    assert_eq!(run(Some(&file), most("61").as_bytes()), "no 7 0\nend 1\n");
-    assert_eq!(run(Some(&file), (most("61") + "\n61\n").as_bytes()), "no 7 0\nok 61\nend 2\n");
+    assert_eq!(run(Some(&file), most("61").as_bytes()), format!("ok {}\nend 1\n", most("61")));
+    assert_eq!(run(Some(&file), (most("61") + "\n61\n").as_bytes()), format!("ok {}\nok 61\nend 2\n", most("61")));
     assert_eq!(run(Some(&file), most("610").as_bytes()), "bad\n");
     assert_eq!(run(Some(&file), (most("610") + "\n61\n").as_bytes()), "bad\n");
     assert_eq!(run(Some(&file), ("61\n".to_string() + &most("610") + "\n61\n").as_bytes()), "ok 61\nbad\n");
@@ -134,10 +134,12 @@ fn long_lines() {
     assert_eq!(run(Some(&file), many.as_bytes()), "no 5 0\nend 1\n");
     let ignored = "61 ".to_string() + &"E ".repeat(4_000);
     run(Some(&file), ignored.trim_end().as_bytes());
-    // The longest answer.
-    let worked = |n: usize| vec!["61"; n].join(" ");
-    assert_eq!(run(Some(&file), worked(1_024).as_bytes()), format!("ok {}\nend 1\n", worked(1_024)));
-    assert_eq!(run(Some(&file), worked(1_025).as_bytes()), "no 7 0\nend 1\n");
+    // The limit of the worked length; 61 as often would be too long a line.
+    let times = |n: usize, word: &str| vec![word; n].join(" ");
+    assert_eq!(run(Some(&file), times(4_096, "61").as_bytes()), "bad\n");
+    assert_eq!(run(Some(&file), times(1_025, "61").as_bytes()), format!("ok {}\nend 1\n", times(1_025, "61")));
+    assert_eq!(run(Some(&file), times(1_365, "2E3B").as_bytes()), "no 9 0\nend 1\n");
+    assert_eq!(run(Some(&file), times(1_366, "2E3B").as_bytes()), "no 7 0\nend 1\n");
 }
 
 #[test]

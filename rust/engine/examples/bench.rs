@@ -8,10 +8,11 @@ mod painted;
 
 use engine::normal_forms::{nfc, nfd};
 use gen::worst;
+use plain::limits::{WORKED, WORK_WORDS};
 use std::hint::black_box;
 
-const ROOM: usize = 1_024;
-const WORK: usize = 2_048;
+const ROOM: usize = WORKED;
+const WORK: usize = WORK_WORDS;
 
 /// Names of many scripts, some refused.
 const NAMES: [&str; 12] = [

@@ -4,6 +4,7 @@
 
 use engine::book::{Account, Book, Desk, AREA};
 use plain::book::{self, FORM, FRONT, SLOT, SLOTS};
+use plain::limits::{WORKED, WORK_WORDS};
 use std::hint::black_box;
 use std::time::Instant;
 
@@ -34,11 +35,11 @@ fn main() {
     let table = standin::names().words;
     let name: Vec<u32> = "vitalik.eth".chars().map(u32::from).collect();
     let account = Account { words: [7; 8] };
-    let (mut answer, mut work) = (vec![0; 1_024], vec![0; 2_048]);
+    let (mut answer, mut work) = (vec![0; WORKED], vec![0; WORK_WORDS]);
     let alone = micros(|| {
         black_box(engine::name(&name, &table, 0, &mut answer, &mut work));
     });
-    println!("name call alone, an answer buffer of 1,024 words: {alone:.1} us");
+    println!("name call alone, an answer buffer of {WORKED} words: {alone:.1} us");
     for (what, area) in [
         ("0 payees", filled(0, 0)),
         ("63 payees of 12 codepoints", filled(63, 12)),

@@ -14,6 +14,7 @@ use engine::normal_forms::{nfc, nfd};
 use engine::Soundness;
 use gen::worst::texts::{Call, Long, TEXTS};
 use gen::worst::{in_random_order, Hard, DEEP, LONG};
+use plain::limits::{WORKED, WORK_WORDS};
 use plain::TableBuilder;
 use std::io::Read;
 use std::process::{Command, Stdio};
@@ -79,8 +80,8 @@ fn texts(long: &Long, limit: f64) {
     let mut count = long.first;
     loop {
         let text = (long.text)(count);
-        let room = if long.call == Call::Name { 4_096 } else { 256 * count };
-        let (mut answer, mut work) = (vec![0; room], vec![0; room.max(8_192)]);
+        let room = if long.call == Call::Name { WORKED } else { 256 * count };
+        let (mut answer, mut work) = (vec![0; room], vec![0; room.max(WORK_WORDS)]);
         let (number, time) = timed(|| call(long, &text, &table, &mut answer, &mut work));
         if count == long.first {
             assert_eq!(number, long.number, "{}", long.what);

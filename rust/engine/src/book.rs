@@ -99,7 +99,7 @@ extern "C" {
 /// How a name is read: the table, the setting (0 off, else labels of restricted
 /// groups are refused as 17), and the buffers that the calls are lent, which
 /// are zeros after each. The answer buffer needs room for the normal form, the
-/// work area 2,048 words.
+/// work area 8,192 words.
 pub struct Desk<'a> {
     pub table: &'a [u32],
     pub setting: u32,

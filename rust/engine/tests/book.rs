@@ -9,10 +9,11 @@ use engine::book::{Account, Book, Desk, AREA};
 use gen::{Rng, Vocabulary};
 use marked::lent;
 use plain::book::{self as due, FORM, FRONT, SLOT, SLOTS};
+use plain::limits::{INPUT, WORKED, WORK_WORDS};
 use plain::TableBuilder;
 use std::collections::HashMap;
 
-const WORK: usize = 2_048;
+const WORK: usize = WORK_WORDS;
 
 /// A call, with what it takes besides the area and the buffers.
 #[derive(Clone, Debug)]
@@ -115,7 +116,7 @@ fn names(rng: &mut Rng, words: &[u32], builder: &TableBuilder, count: usize) -> 
     let mut names = vec![vec![]];
     for _ in 0..count {
         let name = vocabulary.name(rng);
-        let mut answer = vec![0; 1_024];
+        let mut answer = vec![0; WORKED];
         if let Ok(accepted) = plain::name_with(&name, words, 0, &mut answer, &mut [0; WORK]) {
             names.push(answer[..accepted.length].to_vec());
         }
@@ -124,7 +125,7 @@ fn names(rng: &mut Rng, words: &[u32], builder: &TableBuilder, count: usize) -> 
     if let Some(&(first, _)) = builder.valid.iter().find(|pair| pair.0 >= 0x61 && pair.1 <= 0x7A) {
         names.extend([254, 255, 256, 300].map(|length| vec![first; length]));
         if rng.percent(20) {
-            names.push(vec![first; 4_097]);
+            names.push(vec![first; INPUT + 1]);
         }
     }
     let strange = *rng.pick(&[0xD800, 0x11_0000, u32::MAX]);
@@ -214,7 +215,7 @@ fn round(rng: &mut Rng, seen: &mut Seen, calls: usize) {
             85..=98 => Call::Forget(name),
             _ => Call::Reset,
         };
-        let room = if rng.percent(90) { 1_024 } else { rng.below(6) };
+        let room = if rng.percent(90) { WORKED } else { rng.below(6) };
         let work = if rng.percent(97) { WORK + rng.below(3) } else { rng.below(WORK) };
         let terms = Terms { table: &words, setting, room, work };
         let answer = proved(&call, &mut ours, &terms);
@@ -272,7 +273,7 @@ fn table() -> Vec<u32> {
 }
 
 fn terms(table: &[u32]) -> Terms<'_> {
-    Terms { table, setting: 0, room: 1_024, work: WORK }
+    Terms { table, setting: 0, room: WORKED, work: WORK }
 }
 
 fn number(answer: Answer) -> u32 {

@@ -5,6 +5,7 @@ mod proved;
 use compare::{check_again, check_joining, compare, Engine, Plain, Settings};
 use engine::{Refusal, Soundness};
 use gen::worst::DEEP;
+use plain::limits::{INPUT, WORKED, WORK_WORDS};
 use proved::Proved;
 
 /// 200,000 random names over 2,000 random tables: answers and every word of
@@ -50,7 +51,7 @@ fn both_tables_are_sound() {
 #[test]
 fn errors_met_in_the_field() {
     let words = gen::small_table().to_words();
-    let (mut answer, mut work) = ([7; 9], [7; 2_048]);
+    let (mut answer, mut work) = ([7; 9], [7; WORK_WORDS]);
     let mut call = |name: &[u32]| {
         let r = engine::name(name, &words, 0, &mut answer, &mut work);
         assert!(work.iter().all(|&w| w == 0));
@@ -89,7 +90,7 @@ fn soundness_of_deep_tables() {
 /// The proved name call as the plain version, on one name.
 fn as_plain(name: &[u32], words: &[u32]) -> Result<Vec<u32>, Refusal> {
     let lent = |engine: &dyn Engine| {
-        let (mut answer, mut work) = (vec![7; 4_096], vec![7; 2_048]);
+        let (mut answer, mut work) = (vec![7; INPUT], vec![7; WORK_WORDS]);
         let given = engine.name(name, words, &mut answer, &mut work);
         (given, answer, work)
     };
@@ -116,8 +117,8 @@ fn around_the_worked_limit() {
             }
         }
     }
-    assert_eq!(as_plain(&vec![0x61; 1_024], &words).map(|form| form.len()), Ok(1_024));
-    assert_eq!(as_plain(&vec![0x61; 1_025], &words).map_err(|r| r.number), Err(7));
+    assert_eq!(as_plain(&vec![0x61; WORKED], &words).map(|form| form.len()), Ok(WORKED));
+    assert_eq!(as_plain(&vec![0x61; WORKED + 1], &words).map_err(|r| r.number), Err(7));
 }
 
 /// A record that has the items of a pair and is none is passed over each time

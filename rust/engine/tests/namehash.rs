@@ -6,12 +6,13 @@ mod marked;
 use engine::namehash::namehash;
 use gen::{Rng, Vocabulary};
 use marked::lent;
+use plain::limits::{WORKED, WORK_WORDS};
 use plain::namehash::namehash_with;
 use plain::TableBuilder;
 use std::path::Path;
 
-const ROOM: usize = 1_024;
-const WORK: usize = 2_048;
+const ROOM: usize = WORKED;
+const WORK: usize = WORK_WORDS;
 const ZEROS: [u8; 32] = [0; 32];
 
 /// The call on this input, compared with the plain version: the refusal or the

@@ -164,16 +164,19 @@ fn the_most_that_four_rounds_make() {
     }
 }
 
-/// The worked limit: a full decomposition of 1,024 codepoints passes, one of
-/// 1,025 is refused, whatever the buffers are and however long the text is.
+/// The worked limit: a full decomposition of as many codepoints passes, one
+/// more is refused, whatever the buffers are and however long the text is.
 #[test]
 fn the_worked_limit() {
     let b = TableBuilder { decompositions: vec![(0x41, vec![0x41; 4])], ..TableBuilder::default() };
     let words = b.to_words();
     let most = plain::limits::WORKED;
-    assert_eq!(compare(&[0x41; 4], &words, most, most), 0);
+    let deep = vec![0x41; most / 256];
+    assert_eq!(compare(&deep, &words, most, most), 0);
     assert_eq!(compare(&vec![0x42; most], &words, most, most), 0);
-    for text in [vec![0x41, 0x41, 0x41, 0x41, 0x42], vec![0x42; most + 1], vec![0x42; 100_000], vec![0x41; 9]] {
+    for text in
+        [[&deep[..], &[0x42]].concat(), vec![0x42; most + 1], vec![0x42; 100_000], vec![0x41; 2 * deep.len() + 1]]
+    {
         for (room, work) in [(100_000, 100_000), (0, 100_000), (100_000, 0), (0, 0)] {
             assert_eq!(compare(&text, &words, room, work), 50);
         }

@@ -6,11 +6,12 @@ mod marked;
 
 use gen::{Rng, Vocabulary};
 use marked::lent;
+use plain::limits::{WORKED, WORK_WORDS};
 use plain::TableBuilder;
 
 const SETTINGS: [u32; 4] = [0, 1, 2, 0xFFFF_FFFF];
-const ROOM: usize = 1_024;
-const WORK: usize = 2_048;
+const ROOM: usize = WORKED;
+const WORK: usize = WORK_WORDS;
 
 /// Both calls on this input with this setting, compared; the name's refusal.
 fn compare(input: &[u32], words: &[u32], setting: u32) -> u32 {

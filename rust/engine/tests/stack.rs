@@ -10,6 +10,7 @@ use engine::namehash::namehash;
 use engine::normal_forms::{nfc, nfd};
 use gen::worst;
 use painted::{run, traces, Left, Traces};
+use plain::limits::{WORKED, WORK_WORDS};
 use std::collections::HashSet;
 use std::hint::black_box;
 
@@ -146,7 +147,7 @@ fn letters(count: usize) -> Vec<u32> {
 }
 
 fn cases() -> Vec<Case> {
-    let case = |what, number, name: &[&[u32]]| Case { what, name: name.concat(), setting: 0, room: 1_024, number };
+    let case = |what, number, name: &[&[u32]]| Case { what, name: name.concat(), setting: 0, room: WORKED, number };
     let capitals: Vec<u32> = letters(40).iter().map(|c| c - 0x20).collect();
     let cyrillic = [0x43C, 0x438, 0x440, 0x436, 0x44B, 0x448];
     let family = [0x1F468, 0x200D, 0x2764, 0xFE0F, 0x200D, 0x1F468];
@@ -169,7 +170,8 @@ fn cases() -> Vec<Case> {
         case("4, behind text", 4, &[&row(0x4E00, 300), &[0xD800]]),
         case("5, behind text", 5, &[&letters(200), &[0x40]]),
         case("6, behind a label", 6, &[&cyrillic, &stop, &stop, &letters(9)]),
-        case("7", 7, &[&row(0x4E00, 1_030)]),
+        // Above every place in a table, which are on the stack too.
+        case("7", 7, &[&row(0x2_1000, WORKED as u32 + 6)]),
         case("8", 8, &[&letters(200), &[0x5F]]),
         case("9", 9, &[&[0x78, 0x6E, 0x2D, 0x2D], &letters(200)]),
         case("10", 10, &[&letters(200), &[0x2019]]),
@@ -237,7 +239,7 @@ fn keeps(call: &Call) {
     let deep = worst::deep_text(vec![(worst::DEEP_TEXT, worst::DEEP_TEXT + 8)], 230).to_words();
     let wide = worst::wide_whole().to_words();
     for (name, table) in [(vec![worst::DEEP_TEXT; 4], deep), (worst::confused(16), wide)] {
-        let case = Case { what: "far", name, setting: 0, room: 1_024, number: 0 };
+        let case = Case { what: "far", name, setting: 0, room: WORKED, number: 0 };
         most = most.max(left_by(call, &case, &table, &mut vec![0; AREA]).1);
     }
     println!("{}: {most} bytes of stack", call.what);
@@ -327,7 +329,7 @@ fn book() {
 #[test]
 fn filed_names_and_a_full_book() {
     let full = standin::full().words;
-    let case = |name: Vec<u32>| Case { what: "filed", name, setting: 0, room: 1_024, number: 0 };
+    let case = |name: Vec<u32>| Case { what: "filed", name, setting: 0, room: WORKED, number: 0 };
     let payees: Vec<Case> = (0..64).map(|i| case(row(0x4E00 + 100 * i, 20))).collect();
     let mut area = vec![0; AREA];
     for payee in &payees {
@@ -353,7 +355,7 @@ fn filed_names_and_a_full_book() {
 /// the stack: in the frames that hand it on, and nowhere in parts.
 #[test]
 fn accounts() {
-    let (mut area, mut answer, mut work) = (vec![0; AREA], [0; 64], [0; 2_048]);
+    let (mut area, mut answer, mut work) = (vec![0; AREA], [0; 64], [0; WORK_WORDS]);
     let full = standin::full().words;
     let name = letters(20);
     let mut copies = |what, call: fn(&mut Book, &[u32], &mut Desk) -> u32| {

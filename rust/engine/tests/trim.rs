@@ -2,6 +2,7 @@
 //! own slice, not a copy.
 
 use gen::Rng;
+use plain::limits::WORK_WORDS;
 use plain::BLANKS;
 
 /// The proved part is the plain one, at the same address, which is returned as
@@ -70,7 +71,7 @@ fn long_inputs() {
 #[test]
 fn the_name_call_does_not_trim() {
     let made = standin::names();
-    let (mut answer, mut work) = ([7; 4], [7; 2_048]);
+    let (mut answer, mut work) = ([7; 4], [7; WORK_WORDS]);
     let mut name = |input: &[u32]| {
         let r = engine::name(input, &made.words, 0, &mut answer, &mut work);
         (r.number, r.place, r.length, answer)

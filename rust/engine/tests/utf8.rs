@@ -6,7 +6,7 @@ mod marked;
 use engine::utf8::{name, read, write, Utf8};
 use gen::{Rng, Vocabulary};
 use marked::lent;
-use plain::limits;
+use plain::limits::{INPUT, WORKED, WORK_WORDS};
 use std::time::{Duration, Instant};
 
 const NONE: u32 = 0x0707_0707;
@@ -254,8 +254,8 @@ fn the_byte_form_is_the_name_call_on_what_was_read() {
                 *rng.pick_mut(&mut bytes) = rng.word() as u8;
             }
             let setting = *rng.pick(&[0, 1, u32::MAX]);
-            let room = *rng.pick(&[0, 3, 1_024]);
-            let work = *rng.pick(&[0, 2_047, 2_048, 2_048, 2_048, 2_050]);
+            let room = *rng.pick(&[0, 3, WORKED]);
+            let work = *rng.pick(&[0, WORK_WORDS - 1, WORK_WORDS, WORK_WORDS, WORK_WORDS, WORK_WORDS + 2]);
             seen[named_alike(&bytes, &made.words, setting, room, work) as usize] += 1;
         }
     }
@@ -269,18 +269,20 @@ fn the_byte_form_is_the_name_call_on_what_was_read() {
 #[test]
 fn the_byte_form_at_the_limit() {
     let words = standin::names().words;
-    let most = limits::INPUT;
+    let most = INPUT;
     for count in [most - 1, most, most + 1, most + 2, 3 * most] {
         for c in [0x61, 0x34F, 0x4E00, 0x1F4A9] {
             let bytes = plain::utf8::encode(&vec![c; count]).expect("scalar values");
-            let found = named_alike(&bytes, &words, 0, 1_024, 2_048);
+            let found = named_alike(&bytes, &words, 0, WORKED, WORK_WORDS);
             assert_eq!(found == 3, count > most, "{count} times {c:X}: {found}");
             if count > most {
-                assert_eq!(named_alike(&bytes, &words, 0, 0, 2_047), 2);
-                assert_eq!(named_alike(&bytes, &[], 0, 1_024, 0), 1);
+                assert_eq!(named_alike(&bytes, &words, 0, 0, WORK_WORDS - 1), 2);
+                assert_eq!(named_alike(&bytes, &[], 0, WORKED, 0), 1);
             }
             let broken = [&bytes[..], b"\xC3"].concat();
-            for (words, room, work) in [(&words[..], 1_024, 2_048), (&words, 0, 0), (&[], 5, 3), (&words, 7, 5_000)] {
+            for (words, room, work) in
+                [(&words[..], WORKED, WORK_WORDS), (&words, 0, 0), (&[], 5, 3), (&words, 7, 5_000)]
+            {
                 assert_eq!(named_alike(&broken, words, 0, room, work), 30);
             }
         }

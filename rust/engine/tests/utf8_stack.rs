@@ -7,12 +7,13 @@
 mod painted;
 
 use painted::{run, traces, Traces};
+use plain::limits::{INPUT, WORK_WORDS};
 use std::hint::black_box;
 
 const KB: usize = 1 << 10;
 
 /// What the array takes, with one word more than an input may have.
-const ARRAY: usize = 4 * (plain::limits::INPUT + 1);
+const ARRAY: usize = 4 * (INPUT + 1);
 
 /// What the name call may use of the stack, as in stack.rs.
 const NAME: usize = 48 * KB;
@@ -23,7 +24,7 @@ const WORDS: usize = 16;
 
 /// Codepoints that no place in a table is as large as.
 fn text() -> Vec<u32> {
-    (0x2_1000..0x2_1000 + 4_000).collect()
+    (0x2_1000..).take(INPUT - 96).collect()
 }
 
 #[test]
@@ -32,12 +33,12 @@ fn the_array_is_cleared_on_every_way_out() {
     let text = text();
     let bytes = plain::utf8::encode(&text).expect("scalar values");
     let cases: [(&str, &[u8], &[u8], &[u32], usize, u32); 6] = [
-        ("30 behind text", b"", b"\xFF", &table, 2_048, 30),
-        ("30, cut", b"", b"\xF0\xA1", &table, 2_048, 30),
-        ("1", b"", b"", &[], 2_048, 1),
-        ("2", b"", b"", &table, 2_047, 2),
-        ("5 before text", b"@", b"", &table, 2_048, 5),
-        ("3: one codepoint more than have room", &b"a".repeat(98), b"", &table, 2_048, 3),
+        ("30 behind text", b"", b"\xFF", &table, WORK_WORDS, 30),
+        ("30, cut", b"", b"\xF0\xA1", &table, WORK_WORDS, 30),
+        ("1", b"", b"", &[], WORK_WORDS, 1),
+        ("2", b"", b"", &table, WORK_WORDS - 1, 2),
+        ("5 before text", b"@", b"", &table, WORK_WORDS, 5),
+        ("3: one codepoint more than have room", &b"a".repeat(98), b"", &table, WORK_WORDS, 3),
     ];
     for (what, front, back, table, work, due) in cases {
         let name = [front, &bytes, back].concat();

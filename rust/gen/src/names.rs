@@ -1,6 +1,7 @@
 //! Random names that use what a table has.
 
 use crate::rng::Rng;
+use plain::limits::{INPUT, WORKED};
 use plain::{TableBuilder, FE0F, STOP};
 
 /// What names over one table are made of.
@@ -305,16 +306,16 @@ impl Vocabulary {
         }
     }
 
-    /// A name whose worked length is about 1,024, or far over it.
+    /// A name whose worked length is about the limit, or far over it.
     fn long(&self, rng: &mut Rng) -> Vec<u32> {
         let mut name = Vec::new();
         let of = if rng.percent(70) { &self.ascii } else { &self.valid };
         let c = Self::one(rng, of);
         match rng.below(5) {
-            0 => name.resize(rng.between(1022, 1026), c),
+            0 => name.resize(rng.between(WORKED - 2, WORKED + 2), c),
             1 => {
-                // Labels whose lengths and stops together come near 1,024.
-                let due = rng.between(1021, 1027);
+                // Labels whose lengths and stops together come near the limit.
+                let due = rng.between(WORKED - 3, WORKED + 3);
                 while name.len() < due {
                     let length = rng.between(1, 60).min(due - name.len());
                     name.resize(name.len() + length, c);
@@ -324,14 +325,14 @@ impl Vocabulary {
                 }
             }
             2 => match self.mapped.iter().find(|m| m.1.len() > 2) {
-                Some(m) => name.resize((1024 / m.1.len()) + rng.below(3), m.0),
-                None => name.resize(1024, c),
+                Some(m) => name.resize((WORKED / m.1.len()) + rng.below(3), m.0),
+                None => name.resize(WORKED, c),
             },
             3 => match self.decompositions.first() {
-                Some(d) => name.resize(rng.between(250, 1030), d.0),
-                None => name.resize(rng.between(340, 343), rng.code(0xAC01, 0xAC1B)),
+                Some(d) => name.resize(rng.between(WORKED / 4 - 6, WORKED + 6), d.0),
+                None => name.resize(rng.between(WORKED / 3 - 1, WORKED / 3 + 2), rng.code(0xAC01, 0xAC1B)),
             },
-            _ => name.resize(rng.between(341, 342), rng.code(0xAC01, 0xAC1B)),
+            _ => name.resize(rng.between(WORKED / 3, WORKED / 3 + 1), rng.code(0xAC01, 0xAC1B)),
         }
         match rng.below(12) {
             0 => name.push(0x21),
@@ -360,11 +361,11 @@ impl Vocabulary {
     /// A name that is long in codepoints or in worked length.
     pub fn long_name(&self, rng: &mut Rng) -> Vec<u32> {
         if rng.percent(35) {
-            let length = rng.between(1500, 4096);
+            let length = rng.between(WORKED + WORKED / 2, INPUT);
             return self.filled(rng, length);
         }
         let mut name = Vec::new();
-        while name.len() < rng.between(200, 1000) {
+        while name.len() < rng.between(WORKED / 5, WORKED - WORKED / 40) {
             if !name.is_empty() {
                 name.push(STOP);
             }
@@ -377,9 +378,9 @@ impl Vocabulary {
     pub fn name(&self, rng: &mut Rng) -> Vec<u32> {
         let mut name = match rng.below(1000) {
             0..=4 => Vec::new(),
-            5..=9 => self.filled(rng, 4096),
+            5..=9 => self.filled(rng, INPUT),
             10..=17 => {
-                let length = rng.between(4097, 4100);
+                let length = rng.between(INPUT + 1, INPUT + 4);
                 self.filled(rng, length)
             }
             18..=34 => self.long(rng),

@@ -52,18 +52,18 @@ pub use tokens::{tokens, Token};
 pub use trim::{trim, BLANKS};
 pub use utf8::{name_bytes, utf8_read, utf8_write};
 
-/// The numbers that 01 names.
+/// The numbers that 01 names, the last three as 02, Item 5 has them.
 pub mod limits {
     /// Words of a table.
     pub const TABLE_WORDS: usize = 131_072;
     /// Groups of a table.
     pub const GROUPS: usize = 256;
     /// Words that a work area needs.
-    pub const WORK_WORDS: usize = 2_048;
+    pub const WORK_WORDS: usize = 8_192;
     /// Codepoints of an input.
-    pub const INPUT: usize = 4_096;
+    pub const INPUT: usize = 16_384;
     /// Worked length of a name.
-    pub const WORKED: usize = 1_024;
+    pub const WORKED: usize = 4_096;
     /// Non-spacing marks in one run.
     pub const NSM_RUN: usize = 4;
 }

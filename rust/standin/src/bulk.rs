@@ -5,6 +5,7 @@ use crate::shards::on_all_processors;
 use crate::Made;
 use compare::Engine;
 use gen::Rng;
+use plain::limits::WORKED;
 use plain::{Kind, Refusal};
 use std::collections::BTreeMap;
 
@@ -184,7 +185,7 @@ impl Vocabulary {
         let among = if rng.percent(60) { 8.min(self.groups.len()) } else { self.groups.len() };
         let group = rng.below(among);
         let style = rng.below(100);
-        let length = if rng.below(500) == 0 { rng.between(900, 1100) } else { rng.between(1, 10) };
+        let length = if rng.below(500) == 0 { rng.between(WORKED - 124, WORKED + 76) } else { rng.between(1, 10) };
         if rng.percent(6) {
             out.extend(std::iter::repeat_n(0x5F, rng.between(1, 3)));
         }

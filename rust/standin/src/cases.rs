@@ -61,12 +61,19 @@ pub fn counter() -> Vec<Case> {
         refused("2E", 6, 0),
         refused("61 2E 2E 62", 6, 1),
         Case { name: hex("61"), room: 0, due: Due::Refused(Refusal::new(15, 0)) },
+        same(&times(4096, "61"), &["ASCII"]),
+        refused(&times(4097, "61"), 7, 0),
+        refused(&times(1365, "2E3B"), 9, 0),
+        refused(&times(1366, "2E3B"), 7, 0),
+        gives(&format!("61 {}", times(16383, "34F")), "61", &["ASCII"]),
+        refused(&format!("61 {}", times(16384, "34F")), 3, 0),
+        // The limits before Item 5, by those of today.
         same(&times(1024, "61"), &["ASCII"]),
-        refused(&times(1025, "61"), 7, 0),
+        same(&times(1025, "61"), &["ASCII"]),
         refused(&times(341, "2E3B"), 9, 0),
-        refused(&times(342, "2E3B"), 7, 0),
+        refused(&times(342, "2E3B"), 9, 0),
         gives(&format!("61 {}", times(4095, "34F")), "61", &["ASCII"]),
-        refused(&format!("61 {}", times(4096, "34F")), 3, 0),
+        gives(&format!("61 {}", times(4096, "34F")), "61", &["ASCII"]),
     ]
 }
 

@@ -49,11 +49,11 @@ pub use table::Table;
 /// The limits of the calls.
 pub mod limits {
     /// Codepoints of an input.
-    pub const INPUT: usize = 4_096;
+    pub const INPUT: usize = 16_384;
     /// Words of an answer buffer that holds every normal form.
-    pub const ANSWER_WORDS: usize = 1_024;
+    pub const ANSWER_WORDS: usize = 4_096;
     /// Words that a work area needs.
-    pub const WORK_WORDS: usize = 2_048;
+    pub const WORK_WORDS: usize = 8_192;
     /// Words of the largest table.
     pub const TABLE_WORDS: usize = 131_072;
 }

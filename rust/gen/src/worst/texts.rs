@@ -28,6 +28,9 @@ pub struct Long {
     pub number: u32,
 }
 
+/// Wholes in turn, one more than a call remembers.
+const PAST: usize = 9;
+
 /// Codepoints that become 256 each, within the worked length.
 const DEEP: usize = WORKED / 256;
 
@@ -76,10 +79,10 @@ pub const TEXTS: [Long; 45] = [
     long("14: the same, pairs that hold all", Call::Name, whole_14_wide, own, [1, WORKED], 0),
     long("14: the same, labels of one codepoint", Call::Name, whole_14, labels_in_turn::<1>, [1, WORKED], 0),
     long("14: 2 wholes in turn", Call::Name, wholes_in_turn::<2>, labels_in_turn::<2>, [3, WORKED], 0),
-    long("14: 17 wholes in turn", Call::Name, wholes_in_turn::<17>, labels_in_turn::<17>, [33, WORKED], 0),
-    long("14: 17 wholes in turn, one label", Call::Name, wholes_in_turn::<17>, in_turn::<17>, [17, WORKED], 0),
-    long("14: the same, members that fall", Call::Name, wholes_falling::<17>, in_turn::<17>, [17, WORKED], 0),
-    long("14: the same, pairs that hold a member", Call::Name, wholes_held::<17>, in_turn::<17>, [17, WORKED], 0),
+    long("14: 9 wholes in turn", Call::Name, wholes_in_turn::<PAST>, labels_in_turn::<PAST>, [2 * PAST - 1, WORKED], 0),
+    long("14: 9 wholes in turn, one label", Call::Name, wholes_in_turn::<PAST>, in_turn::<PAST>, [PAST, WORKED], 0),
+    long("14: the same, members that fall", Call::Name, wholes_falling::<PAST>, in_turn::<PAST>, [PAST, WORKED], 0),
+    long("14: the same, pairs that hold a member", Call::Name, wholes_held::<PAST>, in_turn::<PAST>, [PAST, WORKED], 0),
     long("14: 64 wholes in turn", Call::Name, wholes_in_turn::<64>, labels_in_turn::<64>, [127, WORKED], 0),
     long("14: a whole for each codepoint", Call::Name, whole_each, in_turn::<WORKED>, [16, WORKED], 0),
     long("14: a codepoint of many confused lists", Call::Name, wholes_alike, own, [16, WORKED], 0),

@@ -1,7 +1,8 @@
 -- `lookalike::memo::recall` meets its contract: the slot is there, or is written. Assumes nothing.
-use Prim.Native.Nat.{_%_, _+_}
+use Prim.Native.Nat.{_%_, _+_, _*_}
 use native.Mathlib.Omega.{arith}
 use lib.ListN.{getD}
+use Rattle.lookalike.specs.Memo.{slotCount, slotSize}
 use Rattle.lookalike.proofs.MemoLaws.{next-fits, next-length, recalled-length, recalled-old, recalled-new}
 use borrow.Author.Needs.{needs}
 use Rattle.lookalike.proofs.memo.recall.Statement.{statement}
@@ -20,7 +21,7 @@ slice-read-j : tie.Need-slice-read-j
 slice-read-j c = search needs
 
 cast-j : tie.Need-cast-j
-cast-j c = omega (arith, c .slice-known2 .given 4160)
+cast-j c = omega (arith, c .slice-known2 .given (slotCount * slotSize))
 
 cast-memo : tie.Need-cast-memo
 cast-memo c = search needs
@@ -49,23 +50,23 @@ part-fill-start c = search needs
 part-fill-end : tie.Need-part-fill-end
 part-fill-end c =
     let m = c .before .before .before .before .before .before .args .memo .now in
-    next-fits m (getD m 4160 0 % 16 + 1) (getD m 4160 0 % 16) (c .before .before .before .before .before .before .pre .1 .1 .size) (omega arith)
+    next-fits m (getD m (slotCount * slotSize) 0 % slotCount + 1) (getD m (slotCount * slotSize) 0 % slotCount) (c .before .before .before .before .before .before .pre .1 .1 .size) (omega arith)
 
 fill-requires : tie.Need-fill-requires
 fill-requires c κs =
     let p = c .before .before .before .before .before .before .before .pre in
     let m = c .before .before .before .before .before .before .before .args .memo .now in
-    (p .0, (p .1 .0, next-length m (getD m 4160 0 % 16 + 1) (getD m 4160 0 % 16) (p .1 .1 .size) (omega arith)))
+    (p .0, (p .1 .0, next-length m (getD m (slotCount * slotSize) 0 % slotCount + 1) (getD m (slotCount * slotSize) 0 % slotCount) (p .1 .1 .size) (omega arith)))
 
 same-length-2 : tie.Need-same-length-2
 same-length-2 c =
     let m = c .before .before .before .before .before .before .before .before .before .before .args .memo .now in
-    recalled-length m (getD m 4160 0 % 16 + 1) (c .before .before .fill .last .1 .1 .0) (getD m 4160 0 % 16) (c .before .before .before .before .before .before .before .before .before .before .pre .1 .1 .size) (omega arith) (c .before .before .fill .ensures .slot .size)
+    recalled-length m (getD m (slotCount * slotSize) 0 % slotCount + 1) (c .before .before .fill .last .1 .1 .0) (getD m (slotCount * slotSize) 0 % slotCount) (c .before .before .before .before .before .before .before .before .before .before .pre .1 .1 .size) (omega arith) (c .before .before .fill .ensures .slot .size)
 
 returns-2 : tie.Need-returns-2
 returns-2 c =
     let m = c .before .before .before .before .before .before .before .before .before .before .args .memo .now in
-    recalled-new _ m (c .before .before .before .before .before .before .before .before .before .before .pre .1 .1) (getD m 4160 0 % 16 + 1) _ _ _ (getD m 4160 0 % 16) (omega arith) (c .before .before .fill .ensures)
+    recalled-new _ m (c .before .before .before .before .before .before .before .before .before .before .pre .1 .1) (getD m (slotCount * slotSize) 0 % slotCount + 1) _ _ _ (getD m (slotCount * slotSize) 0 % slotCount) (omega arith) (c .before .before .fill .ensures)
 
 pub recall-spec : {M : Type 1} → statement M
 recall-spec =
