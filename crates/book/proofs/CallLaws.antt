@@ -5,21 +5,19 @@ use mathlib.Core.Path.{_≡_, refl, sym, ap, _∙_}
 use mathlib.Core.List.{List, _++_}
 use lib.ListN.{length, take, drop, replicate, take-append-drop}
 use lib.Seq.{length-take-le}
-use borrow.Author.Tests.{eq-eqb, ne-eqb}
 use borrow.Rule.Slice.PartMut.{midOf, putMid}
-use Rattle.lists.specs.Lists.{joinedMap}
 use Rattle.buffers.proofs.Parts.{mid-tail, length-tail, put-tail}
 use Rattle.answers.specs.Verdict.{Verdict, accepted, refused, next}
-use Rattle.book_slots.specs.Book.{frontSize, slotCount, slotSize, formRoom, areaSize, Slot, inSlot, slotsOf, slotsIn, emptySlot}
-use Rattle.book_slots.specs.SlotLaws.{zeros-slots}
-use Rattle.book.specs.declared.BookAnswer.{BookAnswer}
-use Rattle.book.specs.declared.BookAnswer.the-variants.{Done, OtherSize}
-use Rattle.book.specs.declared.filing.Filing.{Filing}
-use Rattle.book.specs.declared.filing.Filing.the-variants.{Refused, Form}
-use Rattle.book.specs.Calls.{BookValues, Kept, bookNumber, bookPlace, noAccount, areaAfter, bookResult, opened, formFor, byForm, resetCall}
-use Rattle.book.specs.Promise.{bookValues, Leaves, ResetCalls}
-use Rattle.book.specs.Steps.{Stands, FilingIs, Files, slotsAfter, Works, Judged}
-use Rattle.book.proofs.OpenLaws.{right-size}
+use Rattle.book_slots.specs.Book.{frontSize, slotCount, slotSize, formRoom, areaSize, Slot, slotsOf, slotsIn}
+use Rattle.book_answers.specs.declared.BookAnswer.{BookAnswer}
+use Rattle.book_filing.specs.declared.Filing.{Filing}
+use Rattle.book_filing.specs.declared.Filing.the-variants.{Refused, Form}
+use Rattle.book_answers.specs.Calls.{BookValues, Kept, bookNumber, bookPlace, noAccount, areaAfter, bookResult, opened, formFor, byForm}
+use Rattle.book_answers.specs.Promise.{bookValues, Leaves}
+use Rattle.book_filing.specs.Forms.{Stands, FilingIs, Files}
+use Rattle.book_jobs.specs.Works.{slotsAfter, Works}
+use Rattle.book.specs.Steps.{Judged}
+use Rattle.book_filing.proofs.OpenLaws.{right-size}
 
 -- a refusal before the form is the call's
 next-refused : {A B C : Type 0} (o : Verdict A) (v : Verdict B) (g : A → B → Verdict C) (n p : ℕ) → next o (λ a. v) ≡ refused n p
@@ -115,24 +113,3 @@ leaves v area area′ answer answer′ answer″ work work′ work″ values j a
       answer = a ∙ ap (λ (n : ℕ). replicate n 0) (j .same);
       work = w ∙ ap (λ (n : ℕ). replicate n 0) (j .same-work);
     }
-
--- reset
-module _ (area answer answer′ work work′ : List ℕ) (a : answer′ ≡ replicate (length answer) 0) (w : work′ ≡ replicate (length work) 0) where
-  pub reset-other : (length area ≡ areaSize → ⊥) → ResetCalls area area answer answer′ work work′ OtherSize
-  unfolding resetCall bookResult
-  reset-other h = rw (ne-eqb (length area) areaSize h) (record { values = refl; area = refl; answer = a; work = w })
-
-  pub reset-done : length area ≡ areaSize → (after : List ℕ) → after ≡ replicate (length (midOf frontSize (length area - frontSize) area)) 0
-      → ResetCalls area (putMid frontSize (length area - frontSize) area after) answer answer′ work work′ Done
-  unfolding resetCall bookResult
-  reset-done h after e =
-      let long : length (midOf frontSize (length area - frontSize) area) ≡ slotSize * slotCount =
-      length-tail frontSize area ∙ omega (arith, h) in
-      let slots : after ≡ joinedMap inSlot (replicate slotCount emptySlot) = e ∙ rw long (zeros-slots slotCount) in
-      rw (eq-eqb (length area) areaSize h)
-      (record {
-        values = refl;
-        area = put-tail frontSize area after ∙ ap (λ (x : List ℕ). take frontSize area ++ x) slots;
-        answer = a;
-        work = w;
-      })

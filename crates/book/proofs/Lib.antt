@@ -1,4 +1,1 @@
-pub mod OpenLaws
-pub mod FormLaws
-pub mod JobLaws
 pub mod CallLaws

@@ -1,18 +1,17 @@
-// The calls of the book: each answers, and leaves the answer buffer and the work area as zeros.
-use crate::BookAnswer;
-use crate::FindAnswer;
-use crate::filing::Filing;
-use crate::filing::form_for;
-use crate::jobs::find_in;
-use crate::jobs::forget_in;
-use crate::jobs::no_account;
-use crate::jobs::save_in;
-use book_slots::AREA;
+// The calls of the book that take a name: each answers, and leaves the answer buffer and the work area as zeros.
+use book_answers::BookAnswer;
+use book_answers::FindAnswer;
+use book_filing::Filing;
+use book_filing::form_for;
+use book_jobs::find_in;
+use book_jobs::forget_in;
+use book_jobs::no_account;
+use book_jobs::save_in;
 use book_slots::Account;
 use book_slots::FRONT;
 ghost use lib.ListN.{length};
-ghost use Rattle.book.specs.Calls.{saveIn, findIn, forgetIn, noAccount, byForm};
-ghost use Rattle.book.specs.Promise.{bookValues, SaveCalls, FindCalls, ForgetCalls, ResetCalls};
+ghost use Rattle.book_answers.specs.Calls.{saveIn, findIn, forgetIn, noAccount, byForm};
+ghost use Rattle.book_answers.specs.Promise.{bookValues, SaveCalls, FindCalls, ForgetCalls};
 ghost use Rattle.book.specs.Steps.{Judged};
 
 fn save_judged(
@@ -122,17 +121,4 @@ pub fn forget(
     buffers::clear(answer);
     buffers::clear(work);
     told
-}
-
-// Clears every slot, of a damaged book too. The front words stay.
-pub fn reset(area: &mut [u32], answer: &mut [u32], work: &mut [u32]) -> BookAnswer
-    ensures { λ r. ⌜ ResetCalls (now (area .entry)) (now (area .exit)) (now (answer .entry)) (now (answer .exit)) (now (work .entry)) (now (work .exit)) r ⌝ }
-{
-    buffers::clear(answer);
-    buffers::clear(work);
-    if area.len() != AREA {
-        return BookAnswer::OtherSize;
-    }
-    buffers::clear(&mut area[FRONT..]);
-    BookAnswer::Done
 }

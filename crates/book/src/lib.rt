@@ -1,25 +1,2 @@
-// The payee book: save, find, forget and reset. specs/Calls.antt states what the calls answer; what the area holds stands in book_slots.
+// The payee book: save, find and forget. What the calls answer stands in book_answers, what the area holds in book_slots.
 pub mod calls;
-mod filing;
-mod jobs;
-
-use answers::Refusal;
-use book_slots::Account;
-
-// What a call answers: that it is done, or why not. The refusals of the name call are a case of their own.
-pub enum BookAnswer {
-    Done,
-    OtherSize,
-    Damaged,
-    Refused(Refusal),
-    EmptyForm,
-    FormTooLong,
-    NotFiled,
-    Full,
-}
-
-// What find answers; the account is zeros beside a refusal.
-pub struct FindAnswer {
-    pub answer: BookAnswer,
-    pub account: Account,
-}

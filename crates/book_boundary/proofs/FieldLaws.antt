@@ -3,9 +3,9 @@ use Prim.Native.Nat.{ℕ}
 use mathlib.Core.Path.{_≡_}
 use Rattle.answers.specs.Values.{numberOf, placeOf}
 use Rattle.answers.specs.declared.Refusal.{Refusal}
-use Rattle.book.specs.declared.BookAnswer.{BookAnswer}
-use Rattle.book.specs.declared.BookAnswer.the-variants.{Refused}
-use Rattle.book.specs.Promise.{bookValues}
+use Rattle.book_answers.specs.declared.BookAnswer.{BookAnswer}
+use Rattle.book_answers.specs.declared.BookAnswer.the-variants.{Refused}
+use Rattle.book_answers.specs.Promise.{bookValues}
 use Rattle.book_boundary.specs.Crossing.{bookFields}
 
 pub refused-fields : (a : BookAnswer) (f : Refusal) → a ≡ Refused f → (n p : ℕ) → n ≡ numberOf f → p ≡ placeOf f

@@ -3,8 +3,8 @@ use Prim.Native.Nat.{ℕ}
 use mathlib.Core.List.{List}
 use lib.ListN.{length}
 use Rattle.book_slots.specs.declared.Account.{Account}
-use Rattle.book.specs.Calls.{BookValues, noAccount, saveCall, findCall, forgetCall, resetCall}
-use Rattle.book.specs.Promise.{Leaves}
+use Rattle.book_answers.specs.Calls.{BookValues, noAccount, saveCall, findCall, forgetCall, resetCall}
+use Rattle.book_answers.specs.Promise.{Leaves}
 use Rattle.book_boundary.specs.declared.WanlophengBook.{WanlophengBook}
 use Rattle.book_boundary.specs.declared.WanlophengFound.{WanlophengFound}
 

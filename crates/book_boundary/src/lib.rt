@@ -1,10 +1,10 @@
 // The payee book for C and Rust, each call with the promise of the call that it hands on. include/wanlopheng.h declares them.
 use answers::number_of;
 use answers::place_of;
-use book::BookAnswer;
+use book_answers::BookAnswer;
 use book_slots::Account;
 ghost use mathlib.Core.Path.{_≡_};
-ghost use Rattle.book.specs.Promise.{bookValues};
+ghost use Rattle.book_answers.specs.Promise.{bookValues};
 ghost use Rattle.book_boundary.specs.Crossing.{bookFields, SaveCrosses, FindCrosses, ForgetCrosses, ResetCrosses};
 
 // The refusal number, 0 where there is none, and its place.
@@ -129,6 +129,6 @@ pub extern "C" fn wanlopheng_reset(
 ) -> WanlophengBook
     ensures { λ r. ⌜ ResetCrosses (now (area .entry)) (now (area .exit)) (now (answer .entry)) (now (answer .exit)) (now (work .entry)) (now (work .exit)) r ⌝ }
 {
-    let told = book::calls::reset(area, answer, work);
+    let told = book_reset::reset(area, answer, work);
     book_fields(told)
 }

@@ -21,9 +21,9 @@ use Rattle.idempotence.specs.Idempotence.{again}
 use Rattle.meaning.specs.Numbers.{name-zero}
 use Rattle.book_slots.specs.Book.{areaSize, slotsIn}
 use Rattle.book_slots.specs.Damage.{damaged}
-use Rattle.book.specs.declared.FindAnswer.{FindAnswer}
-use Rattle.book.specs.Calls.{BookValues, BookResult, bookNumber, told, bookResult, opened, formOf, fileable, formFor, findIn, byForm, findCall}
-use Rattle.book.specs.Promise.{bookValues, FindCalls}
+use Rattle.book_answers.specs.declared.FindAnswer.{FindAnswer}
+use Rattle.book_answers.specs.Calls.{BookValues, BookResult, bookNumber, told, bookResult, opened, formOf, fileable, formFor, findIn, byForm, findCall}
+use Rattle.book_answers.specs.Promise.{bookValues, FindCalls}
 
 -- the normal form of a name: the first words of the answer that the name call leaves
 abbrev pub formIn : NameResult → List ℕ

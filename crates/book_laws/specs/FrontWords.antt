@@ -10,8 +10,8 @@ use borrow.Author.Tests.{eq-eqb, eqb-true}
 use Rattle.answers.specs.Verdict.{Verdict, accepted, refused, next}
 use Rattle.book_slots.specs.Book.{frontSize, slotCount, slotSize, areaSize, Slot, slotsIn}
 use Rattle.book_slots.specs.SlotLaws.{zeros-slots}
-use Rattle.book.specs.Calls.{BookResult, Kept, areaAfter, bookResult, sized, opened, byForm, resetCall}
-use Rattle.book.proofs.OpenLaws.{right-size}
+use Rattle.book_answers.specs.Calls.{BookResult, Kept, areaAfter, bookResult, sized, opened, byForm, resetCall}
+use Rattle.book_filing.proofs.OpenLaws.{right-size}
 use Rattle.book_laws.specs.Map.{Call, by, reset, bookCall, areaLeft}
 use Rattle.book_laws.specs.Jobs.{bookJob}
 use Rattle.book_laws.specs.MapTheorem.{with-front, job-result}

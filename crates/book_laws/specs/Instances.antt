@@ -5,7 +5,7 @@ use mathlib.Core.List.{List, [], _∷_}
 use lib.ListN.{length}
 use Rattle.limits.specs.Limits.{leastWork}
 use Rattle.book_slots.specs.Book.{frontSize}
-use Rattle.book.specs.Calls.{BookValues}
+use Rattle.book_answers.specs.Calls.{BookValues}
 use Rattle.cases.specs.SmallTable.{smallTable}
 use Rattle.book_laws.specs.Map.{Call, by, reset, save, find, forget, mapAnswers, bookAnswers}
 use Rattle.book_laws.specs.MapTheorem.{zeroed, map-theorem}

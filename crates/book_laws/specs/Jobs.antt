@@ -13,7 +13,7 @@ use Rattle.lists.specs.Laws.{Every, every-append, every-front, every-back, same
 use Rattle.lists.specs.Tests.{never, not-so}
 use Rattle.answers.specs.Verdict.{Verdict, accepted, refused}
 use Rattle.book_slots.specs.Book.{slotCount, formRoom, accountSize, Slot, slotFor, emptySlot, isFree, nameOf, hasName, spotFor}
-use Rattle.book.specs.Calls.{Kept, saveIn, findIn, forgetIn}
+use Rattle.book_answers.specs.Calls.{Kept, saveIn, findIn, forgetIn}
 use Rattle.book_laws.specs.Map.{Entry, lookup, without, leading, mostEntries, Changed, mapSave, mapFind, mapForget, Job, save, find, forget, mapJob}
 use Rattle.book_laws.specs.Entries.{between}
 use Rattle.book_laws.specs.SlotEntries.{entryOf, entriesOf, Good, filed-name, free-name, no-name, Split, split-at, none-any, all-filed, few-entries, filled-good, filled-entry, empty-good, empty-entry}

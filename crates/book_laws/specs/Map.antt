@@ -8,7 +8,7 @@ use lib.ListN.{length}
 use lib.Dec.{ltb}
 use Rattle.lists.specs.Lists.{keep, onSome, sameList}
 use Rattle.answers.specs.Verdict.{Verdict, accepted, refused, next}
-use Rattle.book.specs.Calls.{BookValues, BookResult, noAccount, formFor, saveCall, findCall, forgetCall, resetCall}
+use Rattle.book_answers.specs.Calls.{BookValues, BookResult, noAccount, formFor, saveCall, findCall, forgetCall, resetCall}
 
 -- a form and the account that it leads to
 pub record Entry : Type 0 where

@@ -16,7 +16,7 @@ use Rattle.name.specs.Name.{nameCall}
 use Rattle.book_slots.specs.Book.{frontSize, slotCount, slotSize, formRoom, areaSize, Slot, inSlot, slotsOf, slotsIn, withSlots, emptySlot}
 use Rattle.book_slots.specs.Damage.{slotDamaged, damaged}
 use Rattle.book_slots.specs.SlotLaws.{Regular, slot-long, words-slots, zeros-slots}
-use Rattle.book.specs.Calls.{BookResult, Kept, noAccount, bookResult, opened, formOf, fileable, formFor, byForm, saveCall, findCall, forgetCall, resetCall}
+use Rattle.book_answers.specs.Calls.{BookResult, Kept, noAccount, bookResult, opened, formOf, fileable, formFor, byForm, saveCall, findCall, forgetCall, resetCall}
 use Rattle.book_laws.specs.Map.{Entry, Changed, Job, save, find, forget, Call, by, reset, mapJob, mapResult, mapCall, bookCall, mapAnswers, bookAnswers}
 use Rattle.book_laws.specs.Entries.{Distinct}
 use Rattle.book_laws.specs.SameMap.{Same}

@@ -6,10 +6,10 @@ use lib.ListN.{length, take}
 use Rattle.lists.specs.Laws.{Every}
 use Rattle.book_slots.specs.declared.Account.{Account}
 use Rattle.book_slots.specs.Book.{frontSize, accountSize}
-use Rattle.book.specs.declared.BookAnswer.{BookAnswer}
-use Rattle.book.specs.declared.FindAnswer.{FindAnswer}
-use Rattle.book.specs.Calls.{BookValues, noAccount}
-use Rattle.book.specs.Promise.{bookValues, Leaves, SaveCalls, FindCalls, ForgetCalls, ResetCalls}
+use Rattle.book_answers.specs.declared.BookAnswer.{BookAnswer}
+use Rattle.book_answers.specs.declared.FindAnswer.{FindAnswer}
+use Rattle.book_answers.specs.Calls.{BookValues, noAccount}
+use Rattle.book_answers.specs.Promise.{bookValues, Leaves, SaveCalls, FindCalls, ForgetCalls, ResetCalls}
 use Rattle.book_laws.specs.Map.{save, find, forget, Call, by, reset, bookCall, mapAnswers, bookAnswers, areaLeft}
 use Rattle.book_laws.specs.MapTheorem.{EightWords, zeroed, map-theorem}
 use Rattle.book_laws.specs.FrontWords.{front-left}

@@ -2,24 +2,15 @@
 use Prim.Native.Nat.{ℕ}
 use mathlib.Core.List.{List}
 use lib.ListN.{length}
-use Rattle.ending.specs.Ends.{Ends}
 use Rattle.utf8.specs.Calls.{readCall, writeCall}
-use Rattle.utf8.specs.Promise.{Ends as TextEnds}
-use Rattle.name_bytes.specs.NameBytes.{nameBytesCall}
+use Rattle.utf8.specs.Promise.{Ends}
 use Rattle.call_fields.specs.declared.bytes.WanlophengUtf8.{WanlophengUtf8}
-use Rattle.fields.specs.declared.WanlophengName.{WanlophengName}
-use Rattle.fields.specs.Fields.{nameFields}
 use Rattle.call_fields.specs.Utf8Fields.{utf8Fields}
 
 -- The reader: every field of its answer r, and every word of the answer buffer.
 abbrev pub ReadCrosses : List ℕ → List ℕ → List ℕ → WanlophengUtf8 → Type 0
-ReadCrosses bytes before after r = TextEnds (readCall bytes (length before)) (utf8Fields r) after
+ReadCrosses bytes before after r = Ends (readCall bytes (length before)) (utf8Fields r) after
 
 -- The writer: every field of its answer r, and every byte of the answer buffer.
 abbrev pub WriteCrosses : List ℕ → List ℕ → List ℕ → WanlophengUtf8 → Type 0
-WriteCrosses codepoints before after r = TextEnds (writeCall codepoints (length before)) (utf8Fields r) after
-
--- The byte form of the name call with a setting: every field of its answer r, and every word of both buffers.
-abbrev pub NameBytesCrosses : ℕ → List ℕ → List ℕ → List ℕ → List ℕ → List ℕ → List ℕ → WanlophengName → Type 0
-NameBytesCrosses setting words bytes before after work work′ r =
-    Ends (nameBytesCall setting words bytes (length before) (length work)) (nameFields r) after work′
+WriteCrosses codepoints before after r = Ends (writeCall codepoints (length before)) (utf8Fields r) after

@@ -1,19 +1,12 @@
 // Keccak-256 and the name hash (02, Item 10): the sponge, its state by value, the digest of a slice, and the hash of a name.
-use fields::WanlophengName;
-use fields::name_fields;
 use keccak::sponge::Digest;
 use keccak::sponge::Keccak256;
+use name_crossing::WanlophengNamehash;
+use name_crossing::cross_namehash;
 ghost use mathlib.Core.Path.{_≡_};
 ghost use Rattle.keccak.specs.Sponge.{keccak256};
 ghost use Rattle.keccak.specs.State.{fresh, absorbed, digested};
-ghost use Rattle.boundary.specs.HashFields.{NamehashCrosses};
-
-// What the name call answers, and the hash of its answer: 32 zero bytes beside a refusal.
-#[repr(C)]
-pub struct WanlophengNamehash {
-    pub name: WanlophengName,
-    pub node: Digest,
-}
+ghost use Rattle.name_crossing.specs.NameCrossing.{NamehashCrosses};
 
 // A sponge that has taken nothing.
 #[no_mangle]
@@ -58,9 +51,5 @@ pub extern "C" fn wanlopheng_namehash(
 ) -> WanlophengNamehash
     ensures { λ r. ⌜ NamehashCrosses setting (now (words .entry)) (now (input .entry)) (now (answer .entry)) (now (answer .exit)) (now (work .entry)) (now (work .exit)) r ⌝ }
 {
-    let found = namehash::namehash(input, words, setting, answer, work);
-    let told = found.answer;
-    let name = name_fields(told);
-    let node = found.node;
-    WanlophengNamehash { name, node }
+    cross_namehash(input, words, setting, answer, work)
 }

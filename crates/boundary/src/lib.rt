@@ -10,15 +10,16 @@ use fields::WanlophengLabel;
 use fields::WanlophengName;
 use fields::WanlophengSoundness;
 use fields::WanlophengUnpack;
-use fields::label_fields;
-use fields::name_fields;
 use fields::soundness_fields;
 use fields::unpack_fields;
-use table::Layout;
+use name_crossing::cross_label;
+use name_crossing::cross_name;
 ghost use mathlib.Core.Path.{_≡_};
 ghost use Rattle.soundness.specs.Soundness.{soundnessOf};
 ghost use Rattle.fields.specs.Fields.{soundnessNumbers, soundnessFields};
-ghost use Rattle.boundary.specs.Crossing.{UnpackCrosses, NameCrosses, LabelCrosses, layoutFault};
+ghost use Rattle.layout_fault.specs.Fault.{layoutFault};
+ghost use Rattle.name_crossing.specs.NameCrossing.{NameCrosses, LabelCrosses};
+ghost use Rattle.boundary.specs.Crossing.{UnpackCrosses};
 
 // Unpacks a table file.
 #[no_mangle]
@@ -40,8 +41,7 @@ pub extern "C" fn wanlopheng_name(
 ) -> WanlophengName
     ensures { λ r. ⌜ NameCrosses setting (now (words .entry)) (now (input .entry)) (now (answer .entry)) (now (answer .exit)) (now (work .entry)) (now (work .exit)) r ⌝ }
 {
-    let found = name::name_call::name(input, words, setting, answer, work);
-    name_fields(found)
+    cross_name(input, words, setting, answer, work)
 }
 
 // Normalises one label, with the same setting.
@@ -55,8 +55,7 @@ pub extern "C" fn wanlopheng_label(
 ) -> WanlophengLabel
     ensures { λ r. ⌜ LabelCrosses setting (now (words .entry)) (now (input .entry)) (now (answer .entry)) (now (answer .exit)) (now (work .entry)) (now (work .exit)) r ⌝ }
 {
-    let found = name::label_call::label(input, words, setting, answer, work);
-    label_fields(found)
+    cross_label(input, words, setting, answer, work)
 }
 
 // Checks a table for soundness.
@@ -73,9 +72,5 @@ pub extern "C" fn wanlopheng_soundness(words: &[u32]) -> WanlophengSoundness
 pub extern "C" fn wanlopheng_layout_fault(words: &[u32]) -> u32
     ensures { λ r. ⌜ r ≡ layoutFault (now (words .entry)) ⌝ }
 {
-    let found = table::laid::layout(words);
-    match found {
-        Layout::Fault => 1,
-        Layout::Found(_) => 0,
-    }
+    layout_fault::layout_fault(words)
 }

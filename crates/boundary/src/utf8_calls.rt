@@ -1,10 +1,11 @@
 // The UTF-8 reader and writer, and the byte form of the name call (02, Item 2), for C and Rust.
 use call_fields::WanlophengUtf8;
-use call_fields::name_bytes_fields;
 use call_fields::read_fields;
 use call_fields::write_fields;
 use fields::WanlophengName;
-ghost use Rattle.boundary.specs.Utf8Crossing.{ReadCrosses, WriteCrosses, NameBytesCrosses};
+use name_crossing::cross_name_bytes;
+ghost use Rattle.name_crossing.specs.NameCrossing.{NameBytesCrosses};
+ghost use Rattle.boundary.specs.Utf8Crossing.{ReadCrosses, WriteCrosses};
 
 // Reads bytes into codepoints.
 #[no_mangle]
@@ -35,6 +36,5 @@ pub extern "C" fn wanlopheng_name_bytes(
 ) -> WanlophengName
     ensures { λ r. ⌜ NameBytesCrosses setting (now (words .entry)) (now (bytes .entry)) (now (answer .entry)) (now (answer .exit)) (now (work .entry)) (now (work .exit)) r ⌝ }
 {
-    let found = name_bytes::name_bytes(bytes, words, setting, answer, work);
-    name_bytes_fields(found)
+    cross_name_bytes(bytes, words, setting, answer, work)
 }

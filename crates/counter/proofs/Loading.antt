@@ -5,7 +5,7 @@ use mathlib.Core.List.{List}
 use lib.ListN.{length}
 use Rattle.answers.specs.declared.Unpacked.{Unpacked}
 use Rattle.answers.specs.declared.Unpacked.the-variants.{Words, WrongVersion, WrongLength, TooLittleRoom}
-use Rattle.serving.specs.Promise.{TableIs, ReadsTable}
+use Rattle.table_file.specs.Promise.{TableIs, ReadsTable}
 use Rattle.counter.specs.Promise.{Loaded}
 
 -- what was read is in its buffer

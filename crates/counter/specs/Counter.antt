@@ -5,7 +5,8 @@ use mathlib.Core.Option.{Option}
 use Rattle.lists.specs.Lists.{onSome, andThen}
 use Rattle.line_writing.specs.Writing.{badLine}
 use Rattle.lines.specs.Splitting.{linesOf, output}
-use Rattle.serving.specs.Serving.{tableWords, replyLine}
+use Rattle.table_file.specs.File.{tableWords}
+use Rattle.replying.specs.Lines.{replyLine}
 
 -- The whole output, for the bytes of the table file, where there is one, and those of standard input: "A table file that is missing, too
 -- long or doesn't unpack gives `bad` alone."

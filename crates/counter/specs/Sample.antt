@@ -7,7 +7,7 @@ use lib.ListN.{length, drop, replicate}
 use Rattle.lists.specs.Lists.{joinedMap}
 use Rattle.cases.specs.SmallTable.{smallTable}
 use Rattle.lists.specs.Text.{bytes}
-use Rattle.serving.specs.Serving.{mostFile}
+use Rattle.table_file.specs.File.{mostFile}
 use Rattle.counter.specs.Counter.{counterOutput}
 
 -- a word as four bytes, big-endian, and the file of a table's words

@@ -18,7 +18,7 @@ use Rattle.text.specs.Scalar.{isScalar}
 use Rattle.name.specs.Label.{admitted}
 use Rattle.name.specs.Name.{nameCall}
 use Rattle.name.specs.Calls.{NameCalls}
-use Rattle.utf8.specs.Scheme.{read}
+use Rattle.utf8_scheme.specs.Scheme.{read}
 use Rattle.utf8.specs.Promise.{ReadCalls}
 use Rattle.utf8.specs.Callers.{Given, was-read, was-ill-formed, was-too-much}
 use Rattle.utf8.specs.declared.ReadAnswer.{ReadAnswer}

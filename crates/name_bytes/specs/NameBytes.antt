@@ -7,7 +7,7 @@ use Rattle.answers.specs.Verdict.{Verdict, accepted, refused}
 use Rattle.answers.specs.Values.{NameValues, nameValues}
 use Rattle.ending.specs.Ends.{Ends}
 use Rattle.name.specs.Name.{NameResult, nameCall}
-use Rattle.utf8.specs.Scheme.{read}
+use Rattle.utf8_scheme.specs.Scheme.{read}
 use Rattle.name_bytes.specs.declared.NameBytesAnswer.{NameBytesAnswer}
 use Rattle.name_bytes.specs.declared.NameBytesAnswer.the-variants.{Name, IllFormed}
 

@@ -12,7 +12,7 @@ use Rattle.answers.specs.declared.NameAnswer.{NameAnswer}
 use Rattle.answers.specs.declared.Refusal.{Refusal}
 use Rattle.answers.specs.declared.Refusal.the-variants.{LayoutFault, WorkAreaTooSmall, InputTooLong, NotScalar, Disallowed, NoTokens, WorkedTooLong, LowLine, Hyphens, Fenced, LeadingMark, NoGroup, NsmRun, Confusable, Restricted, BufferTooSmall}
 use Rattle.ending.specs.Ends.{Ends, result-fits}
-use Rattle.utf8.specs.Scheme.{write}
+use Rattle.utf8_scheme.specs.Scheme.{write}
 use Rattle.utf8.specs.Promise.{WriteCalls}
 use Rattle.utf8.specs.Callers.{was-written, was-not-scalar, was-too-long}
 use Rattle.utf8.specs.declared.WriteAnswer.{WriteAnswer}
@@ -20,7 +20,8 @@ use Rattle.keccak.specs.declared.sponge.Digest.{Digest}
 use Rattle.name.specs.Label.{Label}
 use Rattle.name.specs.Name.{labelsOf, nameAnswer, nameAnswering, nameResult, nameBefore15, nameVerdict, nameCall}
 use Rattle.name.specs.Calls.{NameCalls}
-use Rattle.namehash.specs.Namehash.{node, then4, nodeOf, namehashCall}
+use Rattle.name_node.specs.Node.{node}
+use Rattle.namehash.specs.Namehash.{then4, nodeOf, namehashCall}
 use Rattle.namehash.specs.Promise.{NamehashCalls}
 use types.Run.{OneOf}
 use denote.Enum.Declared.{tagOf}

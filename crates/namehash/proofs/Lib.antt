@@ -1,4 +1,1 @@
 pub mod Calling
-pub mod Taking
-pub mod Walk
-pub mod Writing

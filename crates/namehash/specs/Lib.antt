@@ -1,3 +1,2 @@
 pub mod Namehash
-pub mod Octets
 pub mod Promise

@@ -1,23 +1,12 @@
--- The name hash of EIP-137. 02, Item 10: "Add the name hash of EIP-137: 32 zero bytes for no labels, otherwise Keccak-256 over the hash of the
--- remaining labels followed by Keccak-256 of the leftmost label's UTF-8 bytes." Assumes nothing.
+-- The name hash of EIP-137 as a call. 02, Item 10: "Add the name hash of EIP-137". Assumes nothing.
 use Prim.Native.Nat.{ℕ}
-use mathlib.Core.List.{List, [], _∷_, _++_}
+use mathlib.Core.List.{List}
 use lib.ListN.{replicate}
-use Rattle.lists.specs.Lists.{joinedMap}
 use Rattle.answers.specs.Verdict.{Verdict, accepted, refused, next}
-use Rattle.utf8.specs.Scheme.{octets, write}
-use Rattle.keccak.specs.Sponge.{keccak256}
+use Rattle.utf8_scheme.specs.Scheme.{write}
 use Rattle.name.specs.Label.{Label}
 use Rattle.name.specs.Name.{labelsOf, nameAnswer, NameResult, nameResult, nameVerdict}
-
--- the UTF-8 bytes of a label
-abbrev pub octetsOf : List ℕ → List ℕ
-octetsOf l = joinedMap octets l
-
--- the hash of labels, the leftmost first
-unfoldable pub node : List (List ℕ) → List ℕ
-node [] = replicate 32 0
-node (l ∷ ls) = keccak256 (node ls ++ keccak256 (octetsOf l))
+use Rattle.name_node.specs.Node.{node}
 
 -- the verdict of the name call; "where Item 2's writer refuses [its answer], its 4 comes last"
 abbrev pub then4 : Verdict (List Label) → Verdict (List Label)

@@ -1,11 +1,9 @@
 // The name hash of EIP-137 (02, Item 10). specs/Namehash.antt states it, and what the call answers.
-mod node;
-
-use crate::node::no_node;
-use crate::node::node_of;
 use answers::NameAnswer;
 use answers::Refusal;
 use keccak::sponge::Digest;
+use name_node::no_node;
+use name_node::node_of;
 use utf8::WriteAnswer;
 ghost use Rattle.namehash.specs.Promise.{NamehashCalls};
 

@@ -8,12 +8,13 @@ use Rattle.lists.specs.Lists.{placeWith}
 use Rattle.answers.specs.Verdict.{Verdict, accepted, next}
 use Rattle.text.specs.Scalar.{isScalar}
 use Rattle.soundness.specs.Soundness.{soundnessOf}
-use Rattle.utf8.specs.Scheme.{write}
+use Rattle.utf8_scheme.specs.Scheme.{write}
 use Rattle.name.specs.Label.{Label}
 use Rattle.name.specs.Name.{labelsOf, nameAnswer, nameResult, nameVerdict, nameCall, EnoughRoom}
 use Rattle.joining.specs.Joining.{name-accepts}
 use Rattle.idempotence.specs.Idempotence.{again}
-use Rattle.namehash.specs.Namehash.{NamehashResult, octetsOf, node, then4, namehashCall}
+use Rattle.name_node.specs.Node.{octetsOf, node}
+use Rattle.namehash.specs.Namehash.{NamehashResult, then4, namehashCall}
 
 -- the writer takes a text of scalar values
 takes : (s : List ℕ) → placeWith (λ c. not (isScalar c)) 0 s ≡ none → write s ≡ accepted (octetsOf s)

@@ -4,9 +4,9 @@ use mathlib.Core.List.{[], _∷_, map}
 use lib.ListN.{replicate}
 use Rattle.keccak_f.specs.Permutation.{keccakF}
 use Rattle.keccak.specs.Sponge.{padding, number, xorBlock, absorbBlocks, squeezed, keccak256}
-use Rattle.utf8.specs.Scheme.{octets}
+use Rattle.utf8_scheme.specs.Scheme.{octets}
 use Rattle.name.specs.Name.{labelsOf}
-use Rattle.namehash.specs.Namehash.{node}
+use Rattle.name_node.specs.Node.{node}
 
 pub empty : node (labelsOf []) ≡ replicate 32 0
 unfolding node labelsOf

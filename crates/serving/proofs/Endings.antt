@@ -16,9 +16,10 @@ use Rattle.line_reading.specs.Reading.{readLine, firstAt}
 use Rattle.line_writing.specs.Writing.{endLine, badLine, mostEndLine}
 use Rattle.lines.specs.Splitting.{linesOf, output}
 use Rattle.lines.proofs.Pieces.{lines-none, lines-last}
-use Rattle.serving.specs.Serving.{replyLine, lineReply, replyRoom}
-use Rattle.serving.specs.Promise.{Replies, LastLine}
-use Rattle.serving.specs.declared.replying.Reply.{Reply}
+use Rattle.replying.specs.Lines.{replyLine, lineReply, replyRoom}
+use Rattle.replying.specs.Promise.{Replies}
+use Rattle.serving.specs.Serving.{LastLine}
+use Rattle.replying.specs.declared.Reply.{Reply}
 
 module _ (words : List ℕ) (names : ℕ) where
   ending-none : (line : List ℕ) → length line ≡ 0 → output (replyLine words) names (linesOf line) ≡ endLine names

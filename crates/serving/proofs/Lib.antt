@@ -1,3 +1,1 @@
-pub mod TableFile
-pub mod Replies
 pub mod Endings

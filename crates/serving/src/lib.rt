@@ -1,20 +1,28 @@
-// What the counter program does without reading or writing: the line for a line of input, what is written once the input has ended, and
-// the words of the table from the bytes of its file. 01, "Names at the counter".
-mod finishing;
-mod replying;
-mod table_file;
+// What the counter program writes once the input has ended, by the lines that are left. 01, "Names at the counter".
+use replying::REPLY_ROOM;
+use replying::write_reply;
+ghost use Rattle.buffers.specs.Writes.{Writes};
+ghost use Rattle.lines.specs.Splitting.{linesOf, output};
+ghost use Rattle.replying.specs.Lines.{replyLine};
+ghost use Rattle.serving.specs.Serving.{LastLine};
 
-pub use finishing::write_ending;
-pub use replying::Reply;
-pub use replying::write_reply;
-pub use table_file::read_table;
-
-// The most bytes of the table file, and room for its words.
-pub const MOST_FILE: usize = 32768;
-
-pub const MOST_TABLE: usize = MOST_FILE / 4;
-
-// Room for the line for a name, and for all that is written once the input has ended.
-pub const REPLY_ROOM: usize = 9 * limits::MOST_WORKED + line_writing::MOST_NO_LINE;
-
+// Room for all that is written once the input has ended.
 pub const ENDING_ROOM: usize = REPLY_ROOM + line_writing::MOST_END_LINE;
+
+// The line for what is held of a last one, where something is, and the count of names.
+pub fn write_ending(table: &[u32], line: &[u8], names: u64, text: &mut [u8]) -> usize
+    requires { ⌜ LastLine (now line) (now text) names ⌝ }
+    ensures { λ r. ⌜ Writes (output (replyLine (now (table .entry))) names (linesOf (now (line .entry))))
+        (now (text .entry)) (now (text .exit)) r ⌝ }
+{
+    if line.len() == 0 {
+        return line_writing::write_end(names, text);
+    }
+    let reply = write_reply(table, line, &mut text[..REPLY_ROOM]);
+    let n = reply.length;
+    if !reply.readable {
+        return n;
+    }
+    let k = line_writing::write_end(names + 1, &mut text[n..]);
+    n + k
+}

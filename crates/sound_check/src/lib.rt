@@ -1,12 +1,12 @@
 // The soundness check of a name table: the rules, asked in their order.
 use answers::Soundness;
+use rule_2::rule2;
+use rule_4::rule4;
+use rule_5::rule5;
+use rule_6::rule6;
 use rule_7::rule7;
 use rules_1_3::rule1;
 use rules_1_3::rule3;
-use rules_2_6::rule2;
-use rules_2_6::rule6;
-use rules_4_5::rule4;
-use rules_4_5::rule5;
 use table::Layout;
 use table::Sections;
 use table::laid::layout;

@@ -1,4 +1,1 @@
-pub mod RoundLaws
-pub mod WalkLaws
-pub mod ChoiceLaws
 pub mod ReachLaws

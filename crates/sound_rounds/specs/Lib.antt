@@ -1,3 +1,1 @@
-pub mod Rounds
-pub mod Choices
 pub mod Reached

@@ -12,8 +12,8 @@ use Rattle.soundness.specs.Valid.{groupCharacters}
 use Rattle.table.specs.Part.{recordsIn}
 use Rattle.sound_parts.specs.Parts.{Holds, asHeaded}
 use Rattle.bit_sets.specs.Sets.{has, windowWords}
-use Rattle.sound_rounds.specs.Rounds.{headsOf, inGroups, after, Holding, Chosen, rowPlaces, rowsWords}
-use Rattle.sound_rounds.specs.Choices.{isPoint}
+use Rattle.sound_choices.specs.Rounds.{headsOf, inGroups, after, Holding, Chosen, rowPlaces, rowsWords}
+use Rattle.sound_choices.specs.Choices.{isPoint}
 
 -- the words are those of the table's decompositions, whose heads are codepoints up to 10FFFF, and of its groups
 pub record PartsOf (t : Table) (part gs : List ℕ) : Type 0 where

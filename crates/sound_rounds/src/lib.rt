@@ -1,4 +1,3 @@
 // Rounds of single replacement of many codepoints at once, window by window.
-pub mod choices;
 pub mod rounds;
 pub mod starts;

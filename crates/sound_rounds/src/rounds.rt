@@ -1,6 +1,4 @@
 // Rounds of single replacement in a window, and the records that each round replaces by.
-use crate::choices::choose_in;
-use crate::choices::put_chosen;
 use crate::starts::heads_in;
 use crate::starts::start_in;
 use bit_sets::has;
@@ -8,6 +6,8 @@ use bit_sets::put;
 use bit_sets::put_points;
 use buffers::clear;
 use buffers::copy_into;
+use sound_choices::choices::choose_in;
+use sound_choices::choices::put_chosen;
 use table::Sections;
 use text::decompose::replaced;
 use text::hangul::is_syllable;
@@ -20,8 +20,8 @@ ghost use Rattle.table.specs.Laid.{Laid, theTable};
 ghost use Rattle.text.specs.Decomposition.{single};
 ghost use Rattle.soundness.specs.Valid.{countedFrom};
 ghost use Rattle.bit_sets.specs.Sets.{Put, windowWords};
-ghost use Rattle.sound_rounds.specs.Rounds.{headsOf, startOf, keptAt, Holding, rowsWords};
-ghost use Rattle.sound_rounds.specs.Choices.{FirstSet};
+ghost use Rattle.sound_choices.specs.Rounds.{headsOf, startOf, keptAt, Holding, rowsWords};
+ghost use Rattle.sound_choices.specs.Choices.{FirstSet};
 ghost use Rattle.sound_rounds.specs.Reached.{PartsOf, Aligned, RoundIn, Reached, RoundsChosen};
 
 const WINDOW: u32 = 0x10000;

@@ -15,7 +15,7 @@ ghost use Rattle.table.specs.Part.{inPairs};
 ghost use Rattle.table.specs.Part.{recordsIn};
 ghost use Rattle.sound_parts.specs.Parts.{Holds, asHeaded};
 ghost use Rattle.bit_sets.specs.Sets.{Put, windowWords};
-ghost use Rattle.sound_rounds.specs.Rounds.{headsOf, inGroups, starting, WindowOf};
+ghost use Rattle.sound_choices.specs.Rounds.{headsOf, inGroups, starting, WindowOf};
 
 // Puts the heads of the records into the set that are in the window.
 pub fn put_heads(part: &[u32], base: u32, set: &mut [u32])

@@ -2,8 +2,8 @@
 // "Names at the counter".
 use libc::STDOUT_FILENO;
 use lines::Taken;
-use serving::REPLY_ROOM;
-use serving::write_reply;
+use replying::REPLY_ROOM;
+use replying::write_reply;
 ghost use Prim.Native.Nat.{_^_, _≤_};
 ghost use lib.ListN.{length};
 ghost use Rattle.taking.specs.Promise.{mostPiece, Ready, Serves, Takes};

@@ -4,6 +4,7 @@ ghost use lib.ListN.{length};
 ghost use Rattle.trim.specs.Trim.{isBlank, startOf, offBack, remaining, Remains};
 
 // Where a part of a slice starts, and its length.
+#[repr(C)]
 pub struct Part {
     pub start: usize,
     pub length: usize,

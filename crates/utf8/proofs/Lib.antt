@@ -1,4 +1,2 @@
-pub mod Sequences
-pub mod Stores
 pub mod Loops
 pub mod Ends

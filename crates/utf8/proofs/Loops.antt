@@ -15,12 +15,14 @@ use Rattle.answers.specs.Verdict.{Verdict, accepted, refused, next}
 use Rattle.text.specs.Scalar.{isScalar}
 use Rattle.utf8.specs.declared.ReadAnswer.the-variants as reading
 use Rattle.utf8.specs.declared.WriteAnswer.the-variants as writing
-use Rattle.utf8.specs.declared.decode.Decoded.{Decoded}
-use Rattle.utf8.specs.declared.decode.Decoded.the-variants.{Scalar, IllFormed}
-use Rattle.utf8.specs.Scheme.{octets, startsWith, readFrom, read, write}
-use Rattle.utf8.specs.Inverse.{first-none}
-use Rattle.utf8.specs.Reading.{octets-few, sequence-long, sequence-read, ill-formed-read, end-read}
-use Rattle.utf8.specs.Promise.{Holds, DecodedIs, Stores, Appends, ReadStands, WriteStands}
+use Rattle.utf8_decode.specs.declared.Decoded.{Decoded}
+use Rattle.utf8_decode.specs.declared.Decoded.the-variants.{Scalar, IllFormed}
+use Rattle.utf8_scheme.specs.Scheme.{octets, startsWith, readFrom, read, write}
+use Rattle.utf8_scheme.specs.Inverse.{first-none}
+use Rattle.utf8_scheme.specs.Reading.{octets-few, sequence-long, sequence-read, ill-formed-read, end-read}
+use Rattle.utf8_decode.specs.Decoding.{DecodedIs}
+use Rattle.utf8_encode.specs.Storing.{Holds, Stores, Appends}
+use Rattle.utf8.specs.Promise.{ReadStands, WriteStands}
 
 -- what the match found
 pub found-scalar : (rest : List ℕ) (r : Decoded) (value len : ℕ) → r ≡ Scalar value len → DecodedIs rest r → DecodedIs rest (Scalar value len)

@@ -10,9 +10,9 @@ use lib.Dec.{ltb}
 use borrow.Author.Tests.{le-ltb}
 use Rattle.lists.specs.Filled.{take-filled}
 use Rattle.answers.specs.Verdict.{Verdict, accepted, refused, next}
-use Rattle.utf8.specs.Scheme.{read, write}
+use Rattle.utf8_scheme.specs.Scheme.{read, write}
 use Rattle.utf8.specs.Calls.{fitting, resultOf, readCall, writeCall}
-use Rattle.utf8.specs.RoundTrips.{read-written, written-read}
+use Rattle.utf8_scheme.specs.RoundTrips.{read-written, written-read}
 use Rattle.utf8.specs.Callers.{only-30, only-4}
 
 -- what stands in front of the zeros where a call accepts is what the verdict accepts

@@ -14,10 +14,10 @@ use Rattle.answers.specs.Verdict.{Verdict, accepted, refused, next}
 use Rattle.text.specs.Scalar.{isScalar}
 use Rattle.utf8.specs.declared.ReadAnswer.the-variants as reading
 use Rattle.utf8.specs.declared.WriteAnswer.the-variants as writing
-use Rattle.utf8.specs.Scheme.{octets, read, write}
+use Rattle.utf8_scheme.specs.Scheme.{octets, read, write}
 use Rattle.utf8.specs.Calls.{Values, given, beside, fitting, resultOf, readCall, writeCall}
 use Rattle.utf8.specs.Promise.{Ends, ReadCalls, WriteCalls}
-use Rattle.utf8.specs.RoundTrips.{read-refused}
+use Rattle.utf8_scheme.specs.RoundTrips.{read-refused}
 
 -- n elements stand at the front of the buffer, and they are what the verdict accepts
 pub record Given (v : Verdict (List ℕ)) (room : ℕ) (after : List ℕ) (n : ℕ) : Type 0 where

@@ -10,7 +10,7 @@ use Rattle.utf8.specs.declared.ReadAnswer.{ReadAnswer}
 use Rattle.utf8.specs.declared.ReadAnswer.the-variants as reading
 use Rattle.utf8.specs.declared.WriteAnswer.{WriteAnswer}
 use Rattle.utf8.specs.declared.WriteAnswer.the-variants as writing
-use Rattle.utf8.specs.Scheme.{read, write}
+use Rattle.utf8_scheme.specs.Scheme.{read, write}
 
 -- what either call answers
 pub record Values : Type 0 where

@@ -3,7 +3,7 @@ use Prim.Native.Nat.{ℕ}
 use mathlib.Core.Path.{_≡_, refl}
 use mathlib.Core.List.{List, [], _∷_, map}
 use Rattle.answers.specs.Verdict.{Verdict, accepted, refused}
-use Rattle.utf8.specs.Scheme.{read, write}
+use Rattle.utf8_scheme.specs.Scheme.{read, write}
 use Rattle.utf8.specs.Calls.{Result, given, beside, readCall, writeCall}
 
 -- bytes, and what they are read as

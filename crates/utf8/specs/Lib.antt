@@ -1,9 +1,5 @@
-pub mod Scheme
 pub mod Calls
 pub mod Promise
-pub mod Inverse
-pub mod Reading
-pub mod RoundTrips
 pub mod Callers
 pub mod BothWays
 pub mod Examples

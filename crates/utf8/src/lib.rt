@@ -1,10 +1,10 @@
-// UTF-8 (RFC 3629): a reader from bytes to codepoints and a writer back. specs/Scheme.antt states the scheme, specs/Calls.antt what the calls
-// answer. Neither has a limit on its input.
-mod decode;
-mod encode;
+// UTF-8 (RFC 3629): a reader from bytes to codepoints and a writer back. The crate utf8_scheme states the scheme, specs/Calls.antt what the
+// calls answer. Neither has a limit on its input.
+mod reading;
+mod writing;
 
-use crate::decode::read_front;
-use crate::encode::write_front;
+use crate::reading::read_front;
+use crate::writing::write_front;
 ghost use Rattle.utf8.specs.Promise.{ReadCalls, WriteCalls};
 
 // The reader: the number of codepoints; the byte index where the first sequence that is ill-formed starts; or no room.

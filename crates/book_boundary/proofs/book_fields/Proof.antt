@@ -1,7 +1,7 @@
 -- `book_fields`: the values of each case. Assumes nothing.
 use mathlib.Core.Path.{sym, ap}
 use borrow.Author.Needs.{needs}
-use Rattle.book.specs.Promise.{bookValues}
+use Rattle.book_answers.specs.Promise.{bookValues}
 use Rattle.book_boundary.proofs.FieldLaws.{refused-fields}
 use Rattle.book_boundary.proofs.book_fields.Statement.{statement}
 use Rattle.book_boundary.proofs.book_fields.Tie as tie

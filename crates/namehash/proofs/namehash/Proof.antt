@@ -5,7 +5,7 @@ use mathlib.Core.List.{[]}
 use lib.ListN.{length}
 use lib.Seq.{length-take-le}
 use borrow.Author.Needs.{needs}
-use Rattle.namehash.specs.Octets.{written-scalars}
+use Rattle.name_node.specs.Octets.{written-scalars}
 use Rattle.namehash.proofs.Calling.{name-room, name-refused, name-written, name-unwritten, writer-refused, writer-took}
 use Rattle.namehash.proofs.namehash.Statement.{statement}
 use Rattle.namehash.proofs.namehash.Tie as tie

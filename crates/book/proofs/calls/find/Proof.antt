@@ -1,7 +1,7 @@
 -- `find`: what was judged, and both buffers cleared. Assumes nothing.
 use denote.Ref.{now}
 use borrow.Author.Needs.{needs}
-use Rattle.book.specs.Calls.{findCall}
+use Rattle.book_answers.specs.Calls.{findCall}
 use Rattle.book.proofs.CallLaws.{leaves}
 use Rattle.book.proofs.calls.find.Statement.{statement}
 use Rattle.book.proofs.calls.find.Tie as tie

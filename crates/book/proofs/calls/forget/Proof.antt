@@ -1,7 +1,7 @@
 -- `forget`: what was judged, and both buffers cleared. Assumes nothing.
 use denote.Ref.{now}
 use borrow.Author.Needs.{needs}
-use Rattle.book.specs.Calls.{forgetCall}
+use Rattle.book_answers.specs.Calls.{forgetCall}
 use Rattle.book.proofs.CallLaws.{leaves}
 use Rattle.book.proofs.calls.forget.Statement.{statement}
 use Rattle.book.proofs.calls.forget.Tie as tie

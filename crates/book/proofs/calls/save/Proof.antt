@@ -1,7 +1,7 @@
 -- `save`: what was judged, and both buffers cleared. Assumes nothing.
 use denote.Ref.{now}
 use borrow.Author.Needs.{needs}
-use Rattle.book.specs.Calls.{saveCall}
+use Rattle.book_answers.specs.Calls.{saveCall}
 use Rattle.book.proofs.CallLaws.{leaves}
 use Rattle.book.proofs.calls.save.Statement.{statement}
 use Rattle.book.proofs.calls.save.Tie as tie

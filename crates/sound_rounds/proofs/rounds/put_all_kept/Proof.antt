@@ -5,7 +5,7 @@ use Rattle.lists.specs.Lists.{mem, joinedMap}
 use Rattle.table.specs.Laid.{theTable}
 use Rattle.soundness.specs.Valid.{countedFrom}
 use Rattle.bit_sets.proofs.PutLaws.{Putting, putting-start}
-use Rattle.sound_rounds.specs.Rounds.{keptAt}
+use Rattle.sound_choices.specs.Rounds.{keptAt}
 use Rattle.sound_rounds.proofs.ReachLaws.{kept-next, kept-done}
 use borrow.Author.Needs.{needs}
 use Rattle.sound_rounds.proofs.rounds.put_all_kept.Statement.{statement}

@@ -4,8 +4,8 @@ use native.Mathlib.Omega.{arith}
 use mathlib.Core.Path.{sym, _∙_}
 use borrow.Author.Tests.{not-true, not-false}
 use Rattle.table.specs.Laid.{theTable}
-use Rattle.sound_rounds.proofs.RoundLaws.{kept-none, kept-syllable, kept-head, kept-plain}
-use Rattle.sound_rounds.proofs.WalkLaws.{put-list, put-place, put-nothing}
+use Rattle.sound_choices.proofs.RoundLaws.{kept-none, kept-syllable, kept-head, kept-plain}
+use Rattle.sound_choices.proofs.WalkLaws.{put-list, put-place, put-nothing}
 use borrow.Author.Needs.{needs}
 use Rattle.sound_rounds.proofs.rounds.put_kept.Statement.{statement}
 use Rattle.sound_rounds.proofs.rounds.put_kept.Tie as tie

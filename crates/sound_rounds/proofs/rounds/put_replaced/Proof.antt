@@ -1,7 +1,7 @@
 -- `sound_rounds::rounds::put_replaced` meets its contract. Assumes nothing.
 use native.Mathlib.Omega.{arith}
 use lib.ListN.{length-take}
-use Rattle.sound_rounds.proofs.WalkLaws.{put-list}
+use Rattle.sound_choices.proofs.WalkLaws.{put-list}
 use borrow.Author.Needs.{needs}
 use Rattle.sound_rounds.proofs.rounds.put_replaced.Statement.{statement}
 use Rattle.sound_rounds.proofs.rounds.put_replaced.Tie as tie

@@ -2,7 +2,8 @@
 use native.Mathlib.Omega.{arith}
 use mathlib.Core.Path.{sym, _∙_}
 use Rattle.bit_sets.specs.Sets.{windowWords}
-use Rattle.sound_rounds.proofs.ReachLaws.{cleared-length, round-in}
+use Rattle.sound_choices.proofs.ClearedLaws.{cleared-length}
+use Rattle.sound_rounds.proofs.ReachLaws.{round-in}
 use Rattle.sound_rounds.proofs.rounds.round_in.Statement.{statement}
 use Rattle.sound_rounds.proofs.rounds.round_in.Tie as tie
 

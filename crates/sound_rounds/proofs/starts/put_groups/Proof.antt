@@ -4,7 +4,7 @@ use native.Mathlib.Omega.{arith}
 use mathlib.Core.Path.{_∙_}
 use lib.ListN.{length}
 use Rattle.sound_parts.proofs.Walks.{group-room, group-in, group-less}
-use Rattle.sound_rounds.proofs.WalkLaws.{GroupsPut, groups-put-start, groups-put-on, groups-put-done}
+use Rattle.sound_choices.proofs.WalkLaws.{GroupsPut, groups-put-start, groups-put-on, groups-put-done}
 use borrow.Author.Needs.{needs}
 use Rattle.sound_rounds.proofs.starts.put_groups.Statement.{statement}
 use Rattle.sound_rounds.proofs.starts.put_groups.Tie as tie

@@ -4,7 +4,7 @@ use native.Mathlib.Omega.{arith}
 use mathlib.Core.Path.{_∙_}
 use lib.ListN.{length}
 use Rattle.sound_parts.proofs.Walks.{head-room, head-less}
-use Rattle.sound_rounds.proofs.WalkLaws.{HeadsPut, heads-put-start, heads-put-on, heads-put-done}
+use Rattle.sound_choices.proofs.WalkLaws.{HeadsPut, heads-put-start, heads-put-on, heads-put-done}
 use borrow.Author.Needs.{needs}
 use Rattle.sound_rounds.proofs.starts.put_heads.Statement.{statement}
 use Rattle.sound_rounds.proofs.starts.put_heads.Tie as tie

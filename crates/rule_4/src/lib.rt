@@ -1,0 +1,2 @@
+// Rule 4 of the soundness check.
+pub mod rule4;

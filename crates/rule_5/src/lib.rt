@@ -1,0 +1,2 @@
+// Rule 5 of the soundness check.
+pub mod rule5;

@@ -1,0 +1,2 @@
+// Rule 6 of the soundness check.
+pub mod rule6;

@@ -1,4 +1,0 @@
-pub mod CoverLaws
-pub mod PointLaws
-pub mod HeadLaws
-pub mod WindowLaws

@@ -1,2 +1,0 @@
-pub mod StripLaws
-pub mod ApartLaws

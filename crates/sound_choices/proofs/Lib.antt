@@ -1,0 +1,4 @@
+pub mod RoundLaws
+pub mod WalkLaws
+pub mod ClearedLaws
+pub mod ChoiceLaws

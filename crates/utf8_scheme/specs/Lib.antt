@@ -1,0 +1,4 @@
+pub mod Scheme
+pub mod Inverse
+pub mod Reading
+pub mod RoundTrips
