@@ -23,8 +23,8 @@ extern "C" {
 #define WANLOPHENG_INPUT_MOST 16384    /* codepoints of an input */
 #define WANLOPHENG_ANSWER_WORDS 4096   /* an answer of this size holds every normal form */
 #define WANLOPHENG_WORK_WORDS 8192     /* the least work area */
-#define WANLOPHENG_TABLE_WORDS 131072  /* the largest table */
-#define WANLOPHENG_FILE_BYTES 524293   /* its file */
+#define WANLOPHENG_TABLE_WORDS 131073  /* the largest table */
+#define WANLOPHENG_FILE_BYTES 524297   /* its file */
 #define WANLOPHENG_BOOK_WORDS 16912    /* the area of a payee book */
 
 /* The numbers of the refusals; wanlopheng_text.h has these texts for a screen. */
@@ -71,11 +71,13 @@ enum wanlopheng_kind {
 
 /* What unpacking answers. */
 struct wanlopheng_unpack {
-    uint32_t number; /* 0: unpacked. 20: the version is not 1. 21: a wrong length. 22: the answer is too small. */
-    size_t count;    /* the number of words; 0 beside a refusal */
+    uint32_t number; /* 0: unpacked. 20: a version other than 1 and 2. 21: a wrong length. 22: the answer is too small. */
+    size_t count;    /* the number of words, an added one included; 0 beside a refusal */
 };
 
-/* Unpacks a table file. After success the answer holds the file's words and then zeros, after a refusal zeros alone. */
+/* Unpacks a table file. After success the answer holds the file's words and then zeros, after a refusal zeros alone. To a file of version 1, which
+   lacks the last section, one word is added, the 0 of an empty section: it is counted, and 22 asks for its room too. So a word for each four bytes of
+   the file is always room enough. */
 struct wanlopheng_unpack wanlopheng_unpack(const uint8_t *file, size_t file_length, uint32_t *answer, size_t answer_length);
 
 /* What the name call answers. */

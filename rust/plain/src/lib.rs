@@ -3,7 +3,7 @@
 //! 01 in the comments). It is the reference that the proved engine is compared
 //! with and the baseline for its speed, so it is clear before it is fast.
 //!
-//! * `table`: words to twelve sections, and back.
+//! * `table`: words to thirteen sections, and back.
 //! * `lookup`: what the rules ask a table. `Table` answers by reading from the
 //!   front; `Index` gives the same answers faster.
 //! * `text`: Hangul, classes, decomposition, ordering, composition.
@@ -40,7 +40,7 @@ pub mod utf8;
 pub use answers::{Kind, Label, Name, Refusal, Soundness};
 pub use calls::{judge_label, judge_label_with, judge_name, judge_name_with};
 pub use calls::{label, label_with, labels_kinds, name, name_with};
-pub use file::{pack, unpack};
+pub use file::{pack, pack_as, unpack};
 pub use keccak::keccak256;
 pub use label::LabelForm;
 pub use lookup::{Index, Lookup};
@@ -52,10 +52,10 @@ pub use tokens::{tokens, Token};
 pub use trim::{trim, BLANKS};
 pub use utf8::{name_bytes, utf8_read, utf8_write};
 
-/// The numbers that 01 names, the last three as 02, Item 5 has them.
+/// The numbers that 01 and 02 name.
 pub mod limits {
     /// Words of a table.
-    pub const TABLE_WORDS: usize = 131_072;
+    pub const TABLE_WORDS: usize = 131_073;
     /// Groups of a table.
     pub const GROUPS: usize = 256;
     /// Words that a work area needs.
