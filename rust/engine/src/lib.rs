@@ -11,6 +11,7 @@ pub mod keccak;
 pub mod namehash;
 pub mod normal_forms;
 mod raw;
+pub mod report;
 pub mod utf8;
 
 pub use answers::{Kind, Refusal, Soundness};

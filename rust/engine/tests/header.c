@@ -186,6 +186,27 @@ static int hashes(void) {
     return 0;
 }
 
+/* The report, by a table that has 61 alone, to which 41 is mapped, ignores AD, knows 1F468 FE0F 200D 2764 and escapes 200D. */
+static int reports(void) {
+    const uint32_t table[] = {2, 0x61, 0x61, 2, 0xAD, 0xAD, 0, 0, 0, 3, 0x41, 1, 0x61, 0, 5, 4, 0x1F468, 0xFE0F, 0x200D, 0x2764, 1, 0, 0,
+                              4, 1, 2, 0x61, 0x61, 0, 2, 0x200D, 0x200D};
+    const uint32_t name[] = {0xAD, 0x41, 0x61, 0xAD, 0x1F468, 0x200D, 0x2764, 0x2E, 0x61};
+    const char due[] = "text 0 4 61 61\nemoji 4 7 1F468 {200D} 2764\ntext 8 9 61\n";
+    uint8_t out[64];
+    uint32_t work[WANLOPHENG_WORK_WORDS] = {7};
+    for (size_t i = 0; i < 64; i++) out[i] = 7;
+    struct wanlopheng_report r = wanlopheng_report(name, 9, table, 32, 0, out, 64, work, WANLOPHENG_WORK_WORDS);
+    if (r.number != 0 || r.place != 0 || r.length != sizeof due - 1 || work[0]) return 111;
+    for (size_t i = 0; i < 64; i++) if (out[i] != (i < sizeof due - 1 ? (uint8_t)due[i] : 0)) return 112;
+    r = wanlopheng_report(name, 9, table, 32, 0, out, sizeof due - 2, work, WANLOPHENG_WORK_WORDS);
+    if (r.number != WANLOPHENG_REPORT_ROOM || r.place != 0 || r.length != 0 || out[0] || out[sizeof due - 3] || out[sizeof due - 2] != 10) return 113;
+    r = wanlopheng_report(name, 9, table, 32, 1, out, 64, work, WANLOPHENG_WORK_WORDS);
+    if (r.number != WANLOPHENG_RESTRICTED || r.place != 0 || out[sizeof due - 2]) return 114;
+    r = wanlopheng_report(name, 0, table, 32, 0, out, 0, work, WANLOPHENG_WORK_WORDS);
+    if (r.number != 0 || r.length != 0) return 115;
+    return 0;
+}
+
 int main(void) {
     uint8_t file[] = {2, 0, 0, 0, 2, 1, 2, 3, 4, 0, 0, 0, 9};
     uint32_t answer[3] = {7, 7, 7};
@@ -211,5 +232,6 @@ int main(void) {
     if (failed == 0) failed = forms();
     if (failed == 0) failed = texts();
     if (failed == 0) failed = book();
+    if (failed == 0) failed = reports();
     return failed != 0 ? failed : trimmed();
 }

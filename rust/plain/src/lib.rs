@@ -17,6 +17,7 @@
 //! * `book`: the payee book.
 //! * `keccak`: Keccak-256.
 //! * `namehash`: the name hash of EIP-137.
+//! * `report`: the report of what was typed.
 //! * `trim`: an input without the blanks at its ends.
 //! * `utf8`: bytes to codepoints and back, and the byte form of the name call.
 
@@ -30,6 +31,7 @@ pub mod label;
 pub mod lookup;
 pub mod namehash;
 pub mod ranges;
+pub mod report;
 pub mod soundness;
 pub mod table;
 pub mod text;
@@ -45,6 +47,7 @@ pub use keccak::keccak256;
 pub use label::LabelForm;
 pub use lookup::{Index, Lookup};
 pub use ranges::Ranges;
+pub use report::report;
 pub use soundness::{soundness, soundness_report};
 pub use table::{layout, parse, Group, LayoutFault, Pairs, Record, Table, TableBuilder, Triples, Whole};
 pub use text::{nfc, nfd};
@@ -64,6 +67,10 @@ pub mod limits {
     pub const INPUT: usize = 16_384;
     /// Worked length of a name.
     pub const WORKED: usize = 4_096;
+    /// Bytes that hold every report: for each codepoint of the input a line with
+    /// two places of at most five digits, and for each of the worked length a
+    /// blank, two braces and eight digits.
+    pub const REPORT: usize = 17 * INPUT + 11 * WORKED;
     /// Non-spacing marks in one run.
     pub const NSM_RUN: usize = 4;
 }
