@@ -23,9 +23,10 @@ extern "C" {
 #define WANLOPHENG_INPUT_MOST 16384    /* codepoints of an input */
 #define WANLOPHENG_ANSWER_WORDS 4096   /* an answer of this size holds every normal form */
 #define WANLOPHENG_WORK_WORDS 8192     /* the least work area */
-#define WANLOPHENG_TABLE_WORDS 131072  /* the largest table */
-#define WANLOPHENG_FILE_BYTES 524293   /* its file */
+#define WANLOPHENG_TABLE_WORDS 131073  /* the largest table */
+#define WANLOPHENG_FILE_BYTES 524297   /* its file */
 #define WANLOPHENG_BOOK_WORDS 16912    /* the area of a payee book */
+#define WANLOPHENG_REPORT_BYTES 323584 /* a buffer of this size holds every report */
 
 /* The numbers of the refusals; wanlopheng_text.h has these texts for a screen. */
 enum wanlopheng_refusal {
@@ -51,6 +52,7 @@ enum wanlopheng_refusal {
     WANLOPHENG_TABLE_TOO_LARGE = 22, /* the table does not fit the buffer */
     WANLOPHENG_ILL_FORMED = 30,     /* bytes that are no UTF-8 */
     WANLOPHENG_UTF8_ANSWER = 31,    /* UTF-8: the answer buffer is too small */
+    WANLOPHENG_REPORT_ROOM = 32,    /* the report is longer than its buffer */
     WANLOPHENG_BOOK_SIZE = 40, /* the area of the payee book has another size */
     WANLOPHENG_BOOK_DAMAGED = 41, /* the payee book is damaged */
     WANLOPHENG_BOOK_EMPTY_FORM = 42, /* the normal form is empty */
@@ -71,11 +73,13 @@ enum wanlopheng_kind {
 
 /* What unpacking answers. */
 struct wanlopheng_unpack {
-    uint32_t number; /* 0: unpacked. 20: the version is not 1. 21: a wrong length. 22: the answer is too small. */
-    size_t count;    /* the number of words; 0 beside a refusal */
+    uint32_t number; /* 0: unpacked. 20: a version other than 1 and 2. 21: a wrong length. 22: the answer is too small. */
+    size_t count;    /* the number of words, an added one included; 0 beside a refusal */
 };
 
-/* Unpacks a table file. After success the answer holds the file's words and then zeros, after a refusal zeros alone. */
+/* Unpacks a table file. After success the answer holds the file's words and then zeros, after a refusal zeros alone. To a file of version 1, which
+   lacks the last section, one word is added, the 0 of an empty section: it is counted, and 22 asks for its room too. So a word for each four bytes of
+   the file is always room enough. */
 struct wanlopheng_unpack wanlopheng_unpack(const uint8_t *file, size_t file_length, uint32_t *answer, size_t answer_length);
 
 /* What the name call answers. */
@@ -258,6 +262,21 @@ struct wanlopheng_namehash {
 struct wanlopheng_namehash wanlopheng_namehash(const uint32_t *input, size_t input_length, const uint32_t *words, size_t words_length,
                                                uint32_t setting, uint32_t *answer, size_t answer_length, uint32_t *work,
                                                size_t work_length);
+
+/* What the report answers. */
+struct wanlopheng_report {
+    uint32_t number; /* 0: done. Else that of the name call's refusal, 1 to 14 and 17; then 32: the report is longer than its buffer. */
+    size_t place;    /* that of a refusal of the name call, else 0 */
+    size_t length;   /* the number of bytes of the report; 0 beside a refusal */
+};
+
+/* Writes a line for each token of a name, in input order, each ended by 0A: `text` or `emoji`; where the token's input starts and ends, the
+ * place after its last, both counted in codepoints from the start of the name; then its codepoints, in NFC or stripped of FE0F, in upper-case
+ * hexadecimal, in braces where the table says that they should be escaped. Single blanks part these. Ignored codepoints count to the token
+ * before them, or to the first one of their label. After success the buffer holds the report and then zeros, after a refusal zeros alone;
+ * the work area holds zeros. The empty name has no lines. */
+struct wanlopheng_report wanlopheng_report(const uint32_t *input, size_t input_length, const uint32_t *words, size_t words_length,
+                                           uint32_t setting, uint8_t *out, size_t out_length, uint32_t *work, size_t work_length);
 
 /* What the calls for NFD and NFC answer. The full decomposition of the text needs room in the answer and in the work area,
  * for NFC too. */

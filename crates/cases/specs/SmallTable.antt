@@ -56,6 +56,10 @@ groupWords = 0 ∷ 22 ∷ 0x24 ∷ 0x24 ∷ 0x2D ∷ 0x2D ∷ 0x30 ∷ 0x39 ∷ 
 abbrev wholeWords : List ℕ
 wholeWords = 1 ∷ 0x78 ∷ 1 ∷ 0x445 ∷ 1 ∷ 0x3C4 ∷ 1 ∷ 0x442 ∷ 1 ∷ 0xE6 ∷ 1 ∷ 0x4D5 ∷ []
 
+-- should-escape: 200D, and FE0E to FE0F
+abbrev escapeWords : List ℕ
+escapeWords = 0x200D ∷ 0x200D ∷ 0xFE0E ∷ 0xFE0F ∷ []
+
 unfoldable pub smallTable : List ℕ
 smallTable =
-    joined (section validWords ∷ section ignoredWords ∷ section fencedWords ∷ section markWords ∷ section nsmWords ∷ section mappedWords ∷ section decompositionWords ∷ section emojiWords ∷ section exclusionWords ∷ section classWords ∷ section groupWords ∷ section wholeWords ∷ [])
+    joined (section validWords ∷ section ignoredWords ∷ section fencedWords ∷ section markWords ∷ section nsmWords ∷ section mappedWords ∷ section decompositionWords ∷ section emojiWords ∷ section exclusionWords ∷ section classWords ∷ section groupWords ∷ section wholeWords ∷ section escapeWords ∷ [])

@@ -3,4 +3,4 @@ mod admit;
 pub mod label_call;
 pub mod name_call;
 mod one;
-mod part;
+pub mod part;

@@ -81,7 +81,7 @@ fn judge_labels(
 }
 
 // Judges a name as far as 14 and 17.
-fn judge_name(
+pub fn judge_name(
     setting: u32,
     words: &[u32],
     input: &[u32],

@@ -6,7 +6,7 @@ ghost use Rattle.buffers.specs.Writes.{Writes};
 ghost use Rattle.numerals.specs.Numeral.{digitByte, numeral, NumeralRoom};
 
 // The byte of a digit.
-fn digit_byte(d: u64) -> u8
+pub fn digit_byte(d: u64) -> u8
     requires { ⌜ d < 16 ⌝ }
     ensures { λ r. ⌜ r ≡ digitByte d ⌝ }
 {

@@ -29,6 +29,7 @@ sample =
       classes = record { first = 0x93C; last = 0x93C; class = 7 } ∷ record { first = 0x323; last = 0x323; class = 220 } ∷ record { first = 0x300; last = 0x314; class = 230 } ∷ [];
       groups = [];
       wholes = [];
+      escape = [];
     }
 
 pub sample-shaped : Shaped sample

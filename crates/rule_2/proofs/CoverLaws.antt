@@ -25,7 +25,7 @@ use Rattle.soundness.specs.Scalars.{scalarsBetween, scalarRanges, rule1}
 use Rattle.soundness.specs.Valid.{countedFrom, listed, groupCharacters, spellable, rule2}
 use Rattle.table.specs.Part.{recordsIn}
 use Rattle.sound_parts.specs.Parts.{isValid, rangesScalar, recordsScalar, othersScalar, scalarGroup, scalarWhole}
-use Rattle.sound_parts.proofs.ScalarLaws.{rule1-parts}
+use Rattle.sound_parts.proofs.ScalarLaws.{rule1-first}
 use Rattle.sound_parts.proofs.SectionsHold.{groups-are}
 use Rattle.bit_sets.specs.Sets.{has}
 use Rattle.sound_choices.specs.Rounds.{inGroups, after, startOf, WindowOf, Holding}
@@ -190,7 +190,7 @@ module _ (t : Table) (e : rule1 t ≡ true) where
   valid-over : (d : ℕ) → 0x110000 ≤ d → isValid t d ≡ false
   unfolding rangesScalar
   valid-over d h =
-      let p : rangesScalar t && recordsScalar t && othersScalar t ≡ true = sym (rule1-parts t) ∙ e in
+      let p : rangesScalar t && recordsScalar t && othersScalar t ≡ true = rule1-first t e in
       let r : rangesScalar t ≡ true = both-left (rangesScalar t) (recordsScalar t) (both-left (rangesScalar t && recordsScalar t)
       (othersScalar t) p) in
       let a : Bool = scalarRanges (t .valid) in
@@ -204,7 +204,7 @@ module _ (t : Table) (e : rule1 t ≡ true) where
   pub group-over : (d : ℕ) → 0x110000 ≤ d → inGroups d (t .groups) ≡ false
   unfolding othersScalar
   group-over d h =
-      let p : rangesScalar t && recordsScalar t && othersScalar t ≡ true = sym (rule1-parts t) ∙ e in
+      let p : rangesScalar t && recordsScalar t && othersScalar t ≡ true = rule1-first t e in
       let o : othersScalar t ≡ true = both-right (rangesScalar t && recordsScalar t) (othersScalar t) p in
       let u : Bool = all (λ (r : ClassRange). scalarsBetween (r .first) (r .last)) (t .classes) in
       let g : all scalarGroup (t .groups) ≡ true = both-right u (all scalarGroup (t .groups))

@@ -22,7 +22,7 @@ use Rattle.text.specs.Decomposition.{single, round, fourRounds}
 use Rattle.soundness.specs.Scalars.{scalarHeaded, rule1}
 use Rattle.soundness.specs.Valid.{groupCharacters}
 use Rattle.sound_parts.specs.Parts.{rangesScalar, recordsScalar, othersScalar}
-use Rattle.sound_parts.proofs.ScalarLaws.{rule1-parts}
+use Rattle.sound_parts.proofs.ScalarLaws.{rule1-first}
 use Rattle.sound_parts.proofs.SectionsHold.{decompositions-hold, decompositions-are, groups-hold, groups-are}
 use Rattle.sound_choices.specs.Rounds.{headsOf, inGroups}
 use Rattle.sound_choices.specs.Choices.{isPoint}
@@ -42,7 +42,7 @@ module _ (t : Table) (e : rule1 t ≡ true) where
   records-scalar : all scalarIn (t .decompositions) ≡ true
   unfolding recordsScalar scalarIn
   records-scalar =
-      let p : rangesScalar t && recordsScalar t && othersScalar t ≡ true = sym (rule1-parts t) ∙ e in
+      let p : rangesScalar t && recordsScalar t && othersScalar t ≡ true = rule1-first t e in
       let r : recordsScalar t ≡ true = both-right (rangesScalar t) (recordsScalar t) (both-left (rangesScalar t && recordsScalar t)
       (othersScalar t) p) in
       let a : Bool = scalarHeaded (t .mapped) in

@@ -295,5 +295,8 @@ pub fn keeps_rule1(words: &[u32], ix: Sections) -> bool
     if !scalar_records(words, ix) {
         return false;
     }
-    scalar_others(words, ix)
+    if !scalar_others(words, ix) {
+        return false;
+    }
+    scalar_pairs_of(words, ix.escape)
 }

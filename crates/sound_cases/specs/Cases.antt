@@ -13,7 +13,7 @@ use Rattle.soundness.specs.Sequences.{rule4, rule5}
 use Rattle.soundness.specs.Pairs.{rule6, rule7}
 use Rattle.soundness.specs.Soundness.{soundnessOf}
 use Rattle.sound_cases.specs.Tables.{Filled, _≔_, tableWords, valid, ignored, fenced, marks, nsm, mapped, decompositions, emoji}
-use Rattle.sound_cases.specs.Tables.{exclusions, classes, groups, wholes}
+use Rattle.sound_cases.specs.Tables.{exclusions, classes, groups, wholes, escape}
 
 -- a table, and the rules that it breaks, all of them in order
 pub record Case : Type 0 where
@@ -58,6 +58,7 @@ rule1Cases =
     ∷ (classes ≔ (0xD800 ∷ 0xD800 ∷ 1 ∷ []) ∷ []) breaks one 1
     ∷ (wholes ≔ (1 ∷ 0xD800 ∷ 0 ∷ []) ∷ []) breaks one 1
     ∷ (wholes ≔ (0 ∷ 1 ∷ 0xD800 ∷ []) ∷ []) breaks one 1
+    ∷ (escape ≔ (0xDFFF ∷ 0xE000 ∷ []) ∷ []) breaks one 1
     -- inside a pair and a triple, both ends being scalar values
     ∷ (ignored ≔ (0xD7FF ∷ 0xE000 ∷ []) ∷ []) breaks one 1
     ∷ (classes ≔ (0xD7FF ∷ 0xE000 ∷ 0 ∷ []) ∷ []) breaks one 1

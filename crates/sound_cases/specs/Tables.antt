@@ -6,9 +6,10 @@ use mathlib.Core.List.{List, [], _∷_}
 use lib.ListN.{length}
 use lib.Dec.{eqb}
 use Rattle.lists.specs.Lists.{joinedMap}
+use Rattle.table.specs.Layout.{sectionCount}
 use Rattle.soundness.specs.Valid.{countedFrom}
 
--- the sections by number, in 01's order
+-- the sections by number, in the order of the words
 abbrev pub valid : ℕ
 valid = 0
 
@@ -45,6 +46,9 @@ groups = 10
 abbrev pub wholes : ℕ
 wholes = 11
 
+abbrev pub escape : ℕ
+escape = 12
+
 -- words that stand in a section; of the exclusions, the items
 pub record Filled : Type 0 where
   pub section : ℕ
@@ -68,4 +72,4 @@ sectionWords fs k =
 -- the words of the table whose sections are filled so, and are else empty
 unfoldable pub tableWords : List Filled → List ℕ
 unfolding countedFrom
-tableWords fs = joinedMap (sectionWords fs) (countedFrom 0 12)
+tableWords fs = joinedMap (sectionWords fs) (countedFrom 0 sectionCount)

@@ -8,7 +8,7 @@ use mathlib.Core.Option.{Option, none, some, Option·getD}
 use lib.ListN.{length, take, drop, replicate, length-replicate, length-drop}
 use Rattle.lists.specs.Lists.{isSome}
 use Rattle.table.specs.Table.{Headed}
-use Rattle.table.specs.Layout.{mostItems, inFront, countFits, headed}
+use Rattle.table.specs.Layout.{mostItems, mostWords, inFront, countFits, headed}
 use Rattle.table.proofs.Lookups.{onlyIf-some, inFront-some}
 use Rattle.table.proofs.Records.{count-fits}
 use Rattle.table.specs.Part.{recordsIn}
@@ -50,7 +50,7 @@ three-each (suc k) most (a ∷ n ∷ ws) rs e =
     let l : 3 * length (u .0) ≤ length ws - n = simp length-drop at (three-each k most (drop n ws) (u .0) (u .1)) in
     rw (u .2) (omega (arith, l, f .low, f .room))
 
-pub few-in : (part : List ℕ) → Holds asHeaded part → length part ≤ 131072 → length (recordsIn asHeaded part) ≤ rowPlaces
+pub few-in : (part : List ℕ) → Holds asHeaded part → length part ≤ mostWords → length (recordsIn asHeaded part) ≤ rowPlaces
 unfolding recordsIn
 few-in part h l = go (headed (length part) mostItems part) refl h
   where

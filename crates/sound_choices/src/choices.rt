@@ -12,6 +12,7 @@ ghost use Prim.Native.Nat.{_+_, _-_, _*_, _<_, _≤_};
 ghost use lib.ListN.{length};
 ghost use lib.Dec.{eqb};
 ghost use Rattle.lists.specs.Lists.{all, mem};
+ghost use Rattle.table.specs.Layout.{mostWords};
 ghost use Rattle.table.specs.Laid.{Fits, within};
 ghost use Rattle.table.specs.Part.{recordsIn};
 ghost use Rattle.sound_parts.specs.Parts.{Holds, asHeaded};
@@ -50,7 +51,7 @@ fn see(seen: &mut [u32], first: &mut [u32], base: u32, h: u32, i: u32)
 // Chooses the records that replace their heads, of those whose heads are in the window. No head was seen before.
 fn first_in(part: &[u32], base: u32, seen: &mut [u32], first: &mut [u32])
     requires { ⌜ Holds asHeaded (now part) ⌝ }
-    requires { ⌜ length (now part) ≤ 131072 ⌝ }
+    requires { ⌜ length (now part) ≤ mostWords ⌝ }
     requires { ⌜ length (now seen) ≡ windowWords ⌝ }
     requires { ⌜ length (now first) ≡ rowWords ⌝ }
     ensures { λ _. ⌜ FirstsIn base (recordsIn asHeaded (now (part .entry))) (now (first .entry)) (now (first .exit)) (now (seen .exit)) ⌝ }
@@ -69,7 +70,7 @@ fn first_in(part: &[u32], base: u32, seen: &mut [u32], first: &mut [u32])
 // Chooses the records that replace their heads. The set `first` is empty, and `seen` is used on the way.
 pub fn find_first(part: &[u32], seen: &mut [u32], first: &mut [u32])
     requires { ⌜ Holds asHeaded (now part) ⌝ }
-    requires { ⌜ length (now part) ≤ 131072 ⌝ }
+    requires { ⌜ length (now part) ≤ mostWords ⌝ }
     requires { ⌜ all isPoint (headsOf (recordsIn asHeaded (now part))) ≡ true ⌝ }
     requires { ⌜ length (now seen) ≡ windowWords ⌝ }
     requires { ⌜ length (now first) ≡ rowWords ⌝ }
@@ -111,7 +112,7 @@ fn choose(first: &[u32], set: &[u32], base: u32, h: u32, rows: &mut [u32], row: 
 // The same for every record.
 pub fn choose_in(part: &[u32], first: &[u32], set: &[u32], base: u32, rows: &mut [u32], row: u32)
     requires { ⌜ Holds asHeaded (now part) ⌝ }
-    requires { ⌜ length (now part) ≤ 131072 ⌝ }
+    requires { ⌜ length (now part) ≤ mostWords ⌝ }
     requires { ⌜ length (now first) ≡ rowWords ⌝ }
     requires { ⌜ length (now set) ≡ windowWords ⌝ }
     requires { ⌜ row + rowPlaces ≤ length (now rows) * 32 ⌝ }
@@ -155,7 +156,7 @@ fn put_if_chosen(part: &[u32], s: Span, rows: &[u32], e: u32, base: u32, set: &m
 // The same for every record and its place in the row.
 pub fn put_chosen(part: &[u32], rows: &[u32], row: u32, base: u32, set: &mut [u32])
     requires { ⌜ Holds asHeaded (now part) ⌝ }
-    requires { ⌜ length (now part) ≤ 131072 ⌝ }
+    requires { ⌜ length (now part) ≤ mostWords ⌝ }
     requires { ⌜ row + rowPlaces ≤ length (now rows) * 32 ⌝ }
     requires { ⌜ length (now rows) ≡ rowsWords ⌝ }
     requires { ⌜ length (now set) ≡ windowWords ⌝ }

@@ -1,14 +1,15 @@
 -- Laws of scalar values and of the sections that name them. Assumes nothing.
 use Prim.Native.Nat.{ℕ}
-use mathlib.Core.Path.{_≡_, refl}
+use mathlib.Core.Path.{_≡_, refl, sym, ap, _∙_}
 use mathlib.Core.Bool.{Bool, true, false, not, _&&_}
 use mathlib.Core.List.{List, [], _∷_, _++_}
 use lib.Dec.{leb, ltb}
 use borrow.Author.Tests.{ltb-true, ltb-false, le-leb, lt-leb}
 use Rattle.lists.specs.Lists.{all}
+use Rattle.lists.specs.Laws.{both-left}
 use Rattle.table.specs.Table.{ClassRange, Table}
 use Rattle.text.specs.Scalar.{isScalar}
-use Rattle.soundness.specs.Scalars.{scalarsBetween, scalarHeaded, rule1}
+use Rattle.soundness.specs.Scalars.{scalarsBetween, scalarRanges, scalarHeaded, rule1}
 use Rattle.sound_parts.specs.Parts.{rangesScalar, recordsScalar, othersScalar, scalarGroup, scalarWhole}
 
 -- above the surrogates, as one test or the other
@@ -30,10 +31,15 @@ regroup true true true true true true false w = refl
 regroup true true true true true true true w = refl
 
 -- rule 1, section by section
-pub rule1-parts : (t : Table) → rule1 t ≡ rangesScalar t && recordsScalar t && othersScalar t
+pub rule1-parts : (t : Table) → rule1 t ≡ rangesScalar t && recordsScalar t && othersScalar t && scalarRanges (t .escape)
 unfolding rule1 rangesScalar recordsScalar othersScalar
 rule1-parts t =
-    regroup (rangesScalar t) (scalarHeaded (t .mapped)) (scalarHeaded (t .decompositions)) (all (all isScalar) (t .emoji)) (all isScalar (t .exclusions))
+    ap (λ (b : Bool). b && scalarRanges (t .escape))
+    (regroup (rangesScalar t) (scalarHeaded (t .mapped)) (scalarHeaded (t .decompositions)) (all (all isScalar) (t .emoji)) (all isScalar (t .exclusions))
     (all (λ (r : ClassRange). scalarsBetween (r .first) (r .last)) (t .classes))
     (all scalarGroup (t .groups))
-    (all scalarWhole (t .wholes))
+    (all scalarWhole (t .wholes)))
+
+-- what it says of the sections of 01
+pub rule1-first : (t : Table) → rule1 t ≡ true → (rangesScalar t && recordsScalar t && othersScalar t) ≡ true
+rule1-first t h = both-left (rangesScalar t && recordsScalar t && othersScalar t) (scalarRanges (t .escape)) (sym (rule1-parts t) ∙ h)

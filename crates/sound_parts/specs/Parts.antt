@@ -58,7 +58,7 @@ scalarGroup g = scalarRanges (g .ranges)
 abbrev pub scalarWhole : Whole → Bool
 scalarWhole w = all isScalar (w .valid ++ w .confused)
 
--- Rule 1 in three parts: the sections of pairs, of records, and the others
+-- Rule 1 in parts: the first sections of pairs, those of records, the other ones of 01; then each section that came later
 unfoldable pub rangesScalar : Table → Bool
 rangesScalar t =
     scalarRanges (t .valid) && scalarRanges (t .ignored) && scalarRanges (t .fenced) && scalarRanges (t .marks)

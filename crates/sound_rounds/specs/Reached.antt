@@ -5,7 +5,7 @@ use mathlib.Core.Bool.{true, false}
 use mathlib.Core.List.{List}
 use lib.ListN.{length}
 use Rattle.lists.specs.Lists.{all, mem}
-use Rattle.table.specs.Layout.{groups}
+use Rattle.table.specs.Layout.{mostWords, groups}
 use Rattle.table.specs.Table.{Table}
 use Rattle.text.specs.Decomposition.{round}
 use Rattle.soundness.specs.Valid.{groupCharacters}
@@ -19,7 +19,7 @@ use Rattle.sound_choices.specs.Choices.{isPoint}
 pub record PartsOf (t : Table) (part gs : List ℕ) : Type 0 where
   pub heads-hold : Holds asHeaded part
   pub heads-are : recordsIn asHeaded part ≡ t .decompositions
-  pub short : length part ≤ 131072
+  pub short : length part ≤ mostWords
   pub points : all isPoint (headsOf (t .decompositions)) ≡ true
   pub groups-hold : Holds groups gs
   pub groups-are : recordsIn groups gs ≡ t .groups

@@ -28,3 +28,4 @@ rule1 t =
     && all (λ (r : ClassRange). scalarsBetween (r .first) (r .last)) (t .classes)
     && all (λ (g : Group). scalarRanges (g .ranges)) (t .groups)
     && all (λ (w : Whole). all isScalar (w .valid ++ w .confused)) (t .wholes)
+    && scalarRanges (t .escape)

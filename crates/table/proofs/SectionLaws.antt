@@ -19,6 +19,7 @@ use Rattle.table.specs.Layout.{
   mostItems,
   mostParts,
   mostGroups,
+  sectionCount,
   mostWords,
   mostFlags,
   onlyIf,
@@ -38,7 +39,7 @@ use Rattle.table.specs.Layout.{
   tableOf,
   parse,
 }
-use Rattle.table.specs.Laid.{emptyTable, theTable, within, spanAt, sectionsOf, Fits, AllFit, layoutOf, Laid}
+use Rattle.table.specs.Laid.{emptyTable, theTable, within, spanAt, sectionsOf, lastEnd, Fits, AllFit, layoutOf, Laid}
 use Rattle.table.specs.Walk.{partsOf}
 
 -- Any two fuels that are not below the number of words agree.
@@ -236,13 +237,13 @@ sections-spans (suc k) ws at h = go (λ n i. sections-spans k ws n i) (ltb at (l
         let f : length ws ≤ at = ltb-false _ _ e in
         rw (drop-of-length-le ws f) (no-section k ws at (omega (arith, span-past ws at f)))
 
--- the twelve sections, where the last of the places ends with the words
-pub sections-found : (ws : List ℕ) → sections 12 ws ≡ cond (eqb (sectionsOf ws .wholes .to) (length ws)) (some (partsOf ws (sectionsOf ws))) none
+-- the sections, where the last of the places ends with the words
+pub sections-found : (ws : List ℕ) → sections sectionCount ws ≡ cond (eqb (lastEnd (sectionsOf ws)) (length ws)) (some (partsOf ws (sectionsOf ws))) none
 unfolding atSpans endOf spans sectionsOf partsOf
-sections-found ws = sections-spans 12 ws 0 (omega arith)
+sections-found ws = sections-spans sectionCount ws 0 (omega arith)
 
 -- the sections, found one behind the other
-pub sections-chain : (ws : List ℕ) (a b c d e f g h i j k l : Span) →
+pub sections-chain : (ws : List ℕ) (a b c d e f g h i j k l m : Span) →
     a ≡ spanAt ws 0 →
     b ≡ spanAt ws (a .to) →
     c ≡ spanAt ws (b .to) →
@@ -255,9 +256,10 @@ pub sections-chain : (ws : List ℕ) (a b c d e f g h i j k l : Span) →
     j ≡ spanAt ws (i .to) →
     k ≡ spanAt ws (j .to) →
     l ≡ spanAt ws (k .to) →
-    record { valid = a; ignored = b; fenced = c; marks = d; nsm = e; mapped = f; decompositions = g; emoji = h; exclusions = i; classes = j; groups = k; wholes = l } ≡ sectionsOf ws
+    m ≡ spanAt ws (l .to) →
+    record { valid = a; ignored = b; fenced = c; marks = d; nsm = e; mapped = f; decompositions = g; emoji = h; exclusions = i; classes = j; groups = k; wholes = l; escape = m } ≡ sectionsOf ws
 unfolding sectionsOf
-sections-chain ws a b c d e f g h i j k l a₁ b₁ c₁ d₁ e₁ f₁ g₁ h₁ i₁ j₁ k₁ l₁ = rw (l₁, k₁, j₁, i₁, h₁, g₁, f₁, e₁, d₁, c₁, b₁, a₁)
+sections-chain ws a b c d e f g h i j k l m a₁ b₁ c₁ d₁ e₁ f₁ g₁ h₁ i₁ j₁ k₁ l₁ m₁ = rw (m₁, l₁, k₁, j₁, i₁, h₁, g₁, f₁, e₁, d₁, c₁, b₁, a₁)
 
 -- a section that ends within the words lies within them, and so does the end of the one before it
 record Back (ws : List ℕ) (at : ℕ) : Type 0 where
@@ -275,11 +277,12 @@ back ws at h = go (leb (at + 1 + getD ws at 0) (length ws)) refl
     go false e = absurd (omega (arith, span-bad ws at (leb-false _ _ e)))
 
 -- where the last section ends with the words, each lies within them
-pub sections-fit : (ws : List ℕ) → sectionsOf ws .wholes .to ≡ length ws → AllFit ws (sectionsOf ws)
+pub sections-fit : (ws : List ℕ) → lastEnd (sectionsOf ws) ≡ length ws → AllFit ws (sectionsOf ws)
 unfolding sectionsOf
 sections-fit ws e =
     let ix = sectionsOf ws in
-    let l = back ws (ix .groups .to) (omega arith) in
+    let m = back ws (ix .wholes .to) (omega arith) in
+    let l = back ws (ix .groups .to) (m .earlier) in
     let k = back ws (ix .classes .to) (l .earlier) in
     let j = back ws (ix .exclusions .to) (k .earlier) in
     let i = back ws (ix .emoji .to) (j .earlier) in
@@ -304,6 +307,7 @@ sections-fit ws e =
       classes = j .fits;
       groups = k .fits;
       wholes = l .fits;
+      escape = m .fits;
     }
 
 -- The words of a part that lies within the words: their number, and each of them.
@@ -327,6 +331,7 @@ pub record Reads (ws : List ℕ) (ix : Sections) (t : Table) : Type 0 where
   pub classes : classRanges (within (ix .classes) ws) ≡ some (t .classes)
   pub groups : groups (length (within (ix .groups) ws)) (within (ix .groups) ws) ≡ some (t .groups)
   pub wholes : wholes (length (within (ix .wholes) ws)) (within (ix .wholes) ws) ≡ some (t .wholes)
+  pub escape : ranges (within (ix .escape) ws) ≡ some (t .escape)
   pub few : length (t .groups) ≤ mostGroups
 
 -- what follows where both steps gave something
@@ -353,16 +358,19 @@ table-reads ws ix t e =
     both (classRanges (within (ix .classes) ws)) _ t ri λ vj ej rj.
     both (groups (length (within (ix .groups) ws)) (within (ix .groups) ws)) _ t rj λ vk ek rk.
     both (wholes (length (within (ix .wholes) ws)) (within (ix .wholes) ws)) _ t rk λ vl el rl.
-    let h = only (leb (length vk) mostGroups) (record { valid = va; ignored = vb; fenced = vc; marks = vd; nsm = ve; mapped = vf; decompositions = vg; emoji = vh; exclusions = vi; classes = vj; groups = vk; wholes = vl }) t rl in
+    both (ranges (within (ix .escape) ws)) _ t rl λ vm em rm.
+    let h = only (leb (length vk) mostGroups) (record { valid = va; ignored = vb; fenced = vc; marks = vd; nsm = ve; mapped = vf; decompositions = vg; emoji = vh; exclusions = vi; classes = vj; groups = vk; wholes = vl; escape = vm }) t rm in
     let few : length vk ≤ mostGroups = leb-true _ _ (h .0) in
     rw (← h .1)
-    (record { valid = ea; ignored = eb; fenced = ec; marks = ed; nsm = ee; mapped = ef; decompositions = eg; emoji = eh; exclusions = ei; classes = ej; groups = ek; wholes = el; few = few })
+    (record { valid = ea; ignored = eb; fenced = ec; marks = ed; nsm = ee; mapped = ef; decompositions = eg; emoji = eh; exclusions = ei; classes = ej; groups = ek; wholes = el; escape = em; few = few })
 
 -- a table is what the words of the sections spell, where there are not too many words and the last section ends with them
 pub parse-parts : (ws : List ℕ) →
-    parse ws ≡ onlyIf (leb (length ws) mostWords) (cond (eqb (sectionsOf ws .wholes .to) (length ws)) (tableOf (partsOf ws (sectionsOf ws))) none)
+    parse ws ≡ onlyIf (leb (length ws) mostWords) (cond (eqb (lastEnd (sectionsOf ws)) (length ws)) (tableOf (partsOf ws (sectionsOf ws))) none)
 unfolding parse
-parse-parts ws = rw sections-found (ap (onlyIf (leb (length ws) mostWords)) (go (eqb (sectionsOf ws .wholes .to) (length ws)) (partsOf ws (sectionsOf ws))))
+parse-parts ws =
+    ap (onlyIf (leb (length ws) mostWords))
+    (ap (λ (o : Option (List (List ℕ))). andThen o tableOf) (sections-found ws) ∙ go (eqb (lastEnd (sectionsOf ws)) (length ws)) (partsOf ws (sectionsOf ws)))
   where
     go : (b : Bool) (ss : List (List ℕ)) → andThen (cond b (some ss) none) tableOf ≡ cond b (tableOf ss) none
     go true ss = refl
@@ -375,9 +383,9 @@ pub record Parsed (ws : List ℕ) (t : Table) : Type 0 where
   pub reads : Reads ws (sectionsOf ws) t
 
 pub parse-parsed : (ws : List ℕ) (t : Table) → parse ws ≡ some t → Parsed ws t
-parse-parsed ws t e = go (leb (length ws) mostWords) (eqb (sectionsOf ws .wholes .to) (length ws)) refl refl (sym (parse-parts ws) ∙ e)
+parse-parsed ws t e = go (leb (length ws) mostWords) (eqb (lastEnd (sectionsOf ws)) (length ws)) refl refl (sym (parse-parts ws) ∙ e)
   where
-    go : (a b : Bool) → leb (length ws) mostWords ≡ a → eqb (sectionsOf ws .wholes .to) (length ws) ≡ b →
+    go : (a b : Bool) → leb (length ws) mostWords ≡ a → eqb (lastEnd (sectionsOf ws)) (length ws) ≡ b →
         onlyIf a (cond b (tableOf (partsOf ws (sectionsOf ws))) none) ≡ some t → Parsed ws t
     go true true p q h =
         record {
@@ -422,7 +430,7 @@ laid-reads ws ix l = rw (laid-sections ws ix l) (parse-parsed ws (theTable ws) (
 -- What the layout pass answers, test by test.
 layout-parts : (ws : List ℕ) →
     layoutOf ws
-    ≡ cond (isSome (onlyIf (leb (length ws) mostWords) (cond (eqb (sectionsOf ws .wholes .to) (length ws)) (tableOf (partsOf ws (sectionsOf ws))) none))) (Found (sectionsOf ws)) Fault
+    ≡ cond (isSome (onlyIf (leb (length ws) mostWords) (cond (eqb (lastEnd (sectionsOf ws)) (length ws)) (tableOf (partsOf ws (sectionsOf ws))) none))) (Found (sectionsOf ws)) Fault
 unfolding layoutOf
 layout-parts ws = ap (λ (o : Option Table). cond (isSome o) (Found (sectionsOf ws)) Fault) (parse-parts ws)
 
@@ -430,11 +438,11 @@ pub layout-long : (ws : List ℕ) → mostWords < length ws → Fault ≡ layout
 layout-long ws h = sym (rw (lt-leb (length ws) mostWords h) at (layout-parts ws))
 
 module _ (ws : List ℕ) (small : length ws ≤ mostWords) where
-  layout-small : layoutOf ws ≡ cond (isSome (cond (eqb (sectionsOf ws .wholes .to) (length ws)) (tableOf (partsOf ws (sectionsOf ws))) none)) (Found (sectionsOf ws)) Fault
+  layout-small : layoutOf ws ≡ cond (isSome (cond (eqb (lastEnd (sectionsOf ws)) (length ws)) (tableOf (partsOf ws (sectionsOf ws))) none)) (Found (sectionsOf ws)) Fault
   layout-small = rw (le-leb (length ws) mostWords small) at (layout-parts ws)
 
-  pub layout-open : (sectionsOf ws .wholes .to ≡ length ws → ⊥) → Fault ≡ layoutOf ws
-  layout-open h = sym (rw (ne-eqb (sectionsOf ws .wholes .to) (length ws) h) at layout-small)
+  pub layout-open : (lastEnd (sectionsOf ws) ≡ length ws → ⊥) → Fault ≡ layoutOf ws
+  layout-open h = sym (rw (ne-eqb (lastEnd (sectionsOf ws)) (length ws) h) at layout-small)
 
-  pub layout-tells : (b : Bool) → sectionsOf ws .wholes .to ≡ length ws → b ≡ isSome (tableOf (partsOf ws (sectionsOf ws))) → cond b (Found (sectionsOf ws)) Fault ≡ layoutOf ws
-  layout-tells b h e = sym (rw (eq-eqb (sectionsOf ws .wholes .to) (length ws) h, ← e) at layout-small)
+  pub layout-tells : (b : Bool) → lastEnd (sectionsOf ws) ≡ length ws → b ≡ isSome (tableOf (partsOf ws (sectionsOf ws))) → cond b (Found (sectionsOf ws)) Fault ≡ layoutOf ws
+  layout-tells b h e = sym (rw (eq-eqb (lastEnd (sectionsOf ws)) (length ws) h, ← e) at layout-small)

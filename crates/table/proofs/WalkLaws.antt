@@ -411,6 +411,11 @@ module _ {A B : Type 0} where
   given-then p none f b h = refl
   given-then p (some a) f b h = h a ∙ and-comm b (p a)
 
+  -- a step behind the groups, whose number is asked last
+  some-also : (o : Option A) (f : A → Option B) (b c : Bool) → ((a : A) → isSome (f a) ≡ (b && c)) → isSome (andThen o f) ≡ ((isSome o && b) && c)
+  some-also none f b c h = refl
+  some-also (some a) f b c h = h a
+
 table-some : (ws : List ℕ) (ix : Sections) →
     isSome (tableOf (partsOf ws ix))
     ≡ (fitsAs Pairs (within (ix .valid) ws)
@@ -424,7 +429,8 @@ table-some : (ws : List ℕ) (ix : Sections) →
     && (isSome (excluded (within (ix .exclusions) ws))
     && (fitsAs Triples (within (ix .classes) ws)
     && (groupsWithin mostGroups (within (ix .groups) ws)
-    && fitsAs Wholes (within (ix .wholes) ws))))))))))))
+    && (fitsAs Wholes (within (ix .wholes) ws)
+    && fitsAs Pairs (within (ix .escape) ws)))))))))))))
 unfolding tableOf partsOf fitsAs groupsWithin
 table-some ws ix =
     some-then (ranges (within (ix .valid) ws)) _ _ λ a.
@@ -438,10 +444,11 @@ table-some ws ix =
     some-then (excluded (within (ix .exclusions) ws)) _ _ λ i.
     some-then (classRanges (within (ix .classes) ws)) _ _ λ j.
     given-then (λ gs. leb (length gs) mostGroups) (groups (length (within (ix .groups) ws)) (within (ix .groups) ws)) _ _ λ k.
-    some-then (wholes (length (within (ix .wholes) ws)) (within (ix .wholes) ws)) _ _ λ l.
+    some-also (wholes (length (within (ix .wholes) ws)) (within (ix .wholes) ws)) _ _ _ λ l.
+    some-then (ranges (within (ix .escape) ws)) _ _ λ m.
     some-only (leb (length k) mostGroups) _
 
-pub all-fit-chain : (ws : List ℕ) (ix : Sections) (a b c d e f g h i j k l : Bool) →
+pub all-fit-chain : (ws : List ℕ) (ix : Sections) (a b c d e f g h i j k l m : Bool) →
     a ≡ (true && fitsAs Pairs (within (ix .valid) ws)) →
     b ≡ (a && fitsAs Pairs (within (ix .ignored) ws)) →
     c ≡ (b && fitsAs Pairs (within (ix .fenced) ws)) →
@@ -454,6 +461,7 @@ pub all-fit-chain : (ws : List ℕ) (ix : Sections) (a b c d e f g h i j k l : B
     j ≡ (i && fitsAs Triples (within (ix .classes) ws)) →
     k ≡ (j && groupsWithin mostGroups (within (ix .groups) ws)) →
     l ≡ (k && fitsAs Wholes (within (ix .wholes) ws)) →
-    l ≡ isSome (tableOf (partsOf ws ix))
-all-fit-chain ws ix a b c d e f g h i j k l a₁ b₁ c₁ d₁ e₁ f₁ g₁ h₁ i₁ j₁ k₁ l₁ =
-    rw (table-some ws ix, l₁, k₁, j₁, i₁, h₁, g₁, f₁, e₁, d₁, c₁, b₁, a₁) (simp and-assoc)
+    m ≡ (l && fitsAs Pairs (within (ix .escape) ws)) →
+    m ≡ isSome (tableOf (partsOf ws ix))
+all-fit-chain ws ix a b c d e f g h i j k l m a₁ b₁ c₁ d₁ e₁ f₁ g₁ h₁ i₁ j₁ k₁ l₁ m₁ =
+    rw (table-some ws ix, m₁, l₁, k₁, j₁, i₁, h₁, g₁, f₁, e₁, d₁, c₁, b₁, a₁) (simp and-assoc)

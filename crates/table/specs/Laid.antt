@@ -32,6 +32,7 @@ emptyTable =
       classes = [];
       groups = [];
       wholes = [];
+      escape = [];
     }
 
 -- the table that the words hold
@@ -64,6 +65,7 @@ sectionsOf ws =
     let classes = spanAt ws (exclusions .to) in
     let groups = spanAt ws (classes .to) in
     let wholes = spanAt ws (groups .to) in
+    let escape = spanAt ws (wholes .to) in
     record {
       valid = valid;
       ignored = ignored;
@@ -77,7 +79,12 @@ sectionsOf ws =
       classes = classes;
       groups = groups;
       wholes = wholes;
+      escape = escape;
     }
+
+-- where the last section ends
+abbrev pub lastEnd : Sections → ℕ
+lastEnd ix = ix .escape .to
 
 -- the part lies within the words
 pub record Fits (ws : List ℕ) (s : Span) : Type 0 where
@@ -98,6 +105,7 @@ pub record AllFit (ws : List ℕ) (ix : Sections) : Type 0 where
   pub classes : Fits ws (ix .classes)
   pub groups : Fits ws (ix .groups)
   pub wholes : Fits ws (ix .wholes)
+  pub escape : Fits ws (ix .escape)
 
 -- what the layout pass answers
 unfoldable pub layoutOf : List ℕ → Layout

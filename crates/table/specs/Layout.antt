@@ -1,4 +1,4 @@
--- From words to a table, or nothing where the words have a layout fault. 01, "The table", second paragraph. Assumes nothing.
+-- From words to a table, or nothing where the words have a layout fault. 01, "The table", second paragraph; 02, Item 9. Assumes nothing.
 use Prim.Native.Nat.{ℕ, zero, suc, _/_, _%_}
 use mathlib.Core.Bool.{Bool, true, false, _&&_}
 use mathlib.Core.List.{List, [], _∷_}
@@ -8,7 +8,7 @@ use lib.Dec.{leb, eqb}
 use Rattle.lists.specs.Lists.{andThen}
 use Rattle.table.specs.Table.{Range, ClassRange, Headed, Group, Whole, Table}
 
--- "Items per record: mapped and emoji 1 to 32, decomposition 1 to 4; at most 256 groups; the whole at most 131,072 words."
+-- "Items per record: mapped and emoji 1 to 32, decomposition 1 to 4; at most 256 groups"
 abbrev pub mostItems : ℕ
 mostItems = 32
 
@@ -18,8 +18,12 @@ mostParts = 4
 abbrev pub mostGroups : ℕ
 mostGroups = 256
 
+-- 02, Item 9: "Layout now asks thirteen and allows 131,073 words"
+abbrev pub sectionCount : ℕ
+sectionCount = 13
+
 abbrev pub mostWords : ℕ
-mostWords = 131072
+mostWords = 131073
 
 -- "a class at most 255, flags at most 3"
 abbrev pub mostClass : ℕ
@@ -39,7 +43,7 @@ module _ {A : Type 0} where
   inFront x none = none
   inFront x (some xs) = some (x ∷ xs)
 
--- "twelve sections, in this order, each led by the number of words in it"; "words left over" are a fault
+-- so many "sections, in this order, each led by the number of words in it"; "words left over" are a fault
 unfoldable pub sections : ℕ → List ℕ → Option (List (List ℕ))
 sections zero [] = some []
 sections zero (w ∷ ws) = none
@@ -126,7 +130,7 @@ wholes (suc fuel) (n ∷ ws) =
 abbrev pub _>>=_ : {A B : Type 0} → Option A → (A → Option B) → Option B
 _>>=_ o f = andThen o f
 
--- The table of the twelve sections, in their order. `part k` is section k, counted from 0; `sections 12` gives twelve.
+-- The table of the sections, in their order. `part k` is section k, counted from 0; `sections sectionCount` gives all of them.
 unfoldable pub tableOf : List (List ℕ) → Option Table
 unfolding ranges classRanges headed sequences excluded groups wholes
 tableOf ss =
@@ -144,9 +148,10 @@ tableOf ss =
       classes ← classRanges (part 9)
       groups ← groups (length (part 10)) (part 10)
       wholes ← wholes (length (part 11)) (part 11)
-      onlyIf (leb (length groups) mostGroups) (some (record { valid = valid; ignored = ignored; fenced = fenced; marks = marks; nsm = nsm; mapped = mapped; decompositions = decompositions; emoji = emoji; exclusions = exclusions; classes = classes; groups = groups; wholes = wholes }))
+      escape ← ranges (part 12)
+      onlyIf (leb (length groups) mostGroups) (some (record { valid = valid; ignored = ignored; fenced = fenced; marks = marks; nsm = nsm; mapped = mapped; decompositions = decompositions; emoji = emoji; exclusions = exclusions; classes = classes; groups = groups; wholes = wholes; escape = escape }))
 
 -- The table that the words hold, or nothing on a layout fault: "Anything else, words left over included, is a layout fault."
 unfoldable pub parse : List ℕ → Option Table
 unfolding sections tableOf
-parse ws = onlyIf (leb (length ws) mostWords) (andThen (sections 12 ws) tableOf)
+parse ws = onlyIf (leb (length ws) mostWords) (andThen (sections sectionCount ws) tableOf)

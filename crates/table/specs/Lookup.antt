@@ -5,7 +5,7 @@ use mathlib.Core.List.{List}
 use mathlib.Core.Option.{Option, none, some, Option·map}
 use lib.Dec.{leb, eqb}
 use Rattle.lists.specs.Lists.{any, firstWith, mem}
-use Rattle.table.specs.Table.{Range, ClassRange, Headed, Group, Whole}
+use Rattle.table.specs.Table.{Range, ClassRange, Headed, Group, Whole, Table}
 
 -- c lies from first to last
 abbrev pub inRange : ℕ → Range → Bool
@@ -37,3 +37,7 @@ holds g c = inRanges c (g .ranges)
 -- "Its whole is the first such": the first whose confused list holds c
 unfoldable pub wholeOf : List Whole → ℕ → Option Whole
 wholeOf ws c = firstWith (λ (w : Whole). mem c (w .confused)) ws
+
+-- 02, Item 9: c is among the "codepoints in the table's new should-escape section (pairs)"
+abbrev pub shouldEscape : Table → ℕ → Bool
+shouldEscape t c = inRanges c (t .escape)

@@ -1,4 +1,4 @@
--- A name table as a record of twelve lists. 01, "The table", second paragraph. Assumes nothing.
+-- A name table as a record of thirteen lists. 01, "The table", second paragraph; 02, Item 9. Assumes nothing.
 use Prim.Native.Nat.{ℕ}
 use mathlib.Core.Bool.{Bool}
 use mathlib.Core.List.{List}
@@ -30,7 +30,7 @@ pub record Whole : Type 0 where
   pub valid : List ℕ
   pub confused : List ℕ
 
--- the twelve sections in the order of the words
+-- the sections in the order of the words: 01's twelve, then the should-escape section of 02's Item 9
 pub record Table : Type 0 where
   pub valid : List Range
   pub ignored : List Range
@@ -44,3 +44,4 @@ pub record Table : Type 0 where
   pub classes : List ClassRange
   pub groups : List Group
   pub wholes : List Whole
+  pub escape : List Range

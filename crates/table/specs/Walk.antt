@@ -78,7 +78,7 @@ unfoldable pub groupsWithin : ℕ → List ℕ → Bool
 unfolding groups
 groupsWithin most ws = given (λ gs. leb (length gs) most) (groups (length ws) ws)
 
--- the words of the twelve sections, in their order
+-- the words of the sections, in their order
 unfoldable pub partsOf : List ℕ → Sections → List (List ℕ)
 partsOf ws ix =
     within (ix .valid) ws
@@ -93,4 +93,5 @@ partsOf ws ix =
     ∷ within (ix .classes) ws
     ∷ within (ix .groups) ws
     ∷ within (ix .wholes) ws
+    ∷ within (ix .escape) ws
     ∷ []

@@ -1,11 +1,11 @@
-// The layout pass: finds the twelve sections among the words of a table and sees that each of them is well formed.
+// The layout pass: finds the thirteen sections among the words of a table and sees that each of them is well formed.
 
 use crate::Layout;
 use crate::Sections;
 use crate::Span;
 
-// "the whole at most 131,072 words"
-const MOST_WORDS: usize = 131072;
+// 02, Item 9: "allows 131,073 words"
+const MOST_WORDS: usize = 131073;
 
 // "Items per record: mapped and emoji 1 to 32, decomposition 1 to 4; at most 256 groups"
 const MOST_ITEMS: usize = 32;
@@ -64,6 +64,7 @@ fn places(words: &[u32]) -> Sections
     let classes = span_at(words, exclusions.to);
     let groups = span_at(words, classes.to);
     let wholes = span_at(words, groups.to);
+    let escape = span_at(words, wholes.to);
     Sections {
         valid: valid,
         ignored: ignored,
@@ -77,6 +78,7 @@ fn places(words: &[u32]) -> Sections
         classes: classes,
         groups: groups,
         wholes: wholes,
+        escape: escape,
     }
 }
 
@@ -305,7 +307,8 @@ fn all_fit(words: &[u32], ix: Sections) -> bool
     let exclusions = excluded_in(words, ix.exclusions, emoji);
     let classes = records_in(words, ix.classes, Shape::Triples, exclusions);
     let groups = groups_in(words, ix.groups, classes);
-    records_in(words, ix.wholes, Shape::Wholes, groups)
+    let wholes = records_in(words, ix.wholes, Shape::Wholes, groups);
+    records_in(words, ix.escape, Shape::Pairs, wholes)
 }
 
 // The places of the sections, or a fault where the words are not a table.
@@ -316,7 +319,7 @@ pub fn layout(words: &[u32]) -> Layout
         return Layout::Fault;
     }
     let ix = places(words);
-    let end = ix.wholes.to;
+    let end = ix.escape.to;
     if end != words.len() {
         return Layout::Fault;
     }

@@ -1,4 +1,5 @@
 // The name table: its layout, and lookups in it.
+pub mod escaping;
 pub mod laid;
 pub mod lookup;
 
@@ -8,7 +9,7 @@ pub struct Span {
     pub to: usize,
 }
 
-// Where the twelve sections stand among the words of a table, without the counts that lead them.
+// Where the sections stand among the words of a table, without the counts that lead them.
 pub struct Sections {
     pub valid: Span,
     pub ignored: Span,
@@ -22,6 +23,7 @@ pub struct Sections {
     pub classes: Span,
     pub groups: Span,
     pub wholes: Span,
+    pub escape: Span,
 }
 
 // What the layout pass finds.

@@ -12,7 +12,7 @@ use Rattle.lists.specs.Lists.{all, andThen}
 use Rattle.lists.specs.Laws.{both, both-left, both-right, then-some}
 use Rattle.table.specs.Table.{Table, Headed, ClassRange}
 use Rattle.table.specs.Laid.{theTable, emptyTable}
-use Rattle.table.specs.Layout.{onlyIf, inFront, mostItems, mostParts, mostGroups, mostWords, mostClass, countFits, ranges, sections, headed, sequences, excluded, groups, wholes, classRanges, tableOf, parse}
+use Rattle.table.specs.Layout.{onlyIf, inFront, mostItems, mostParts, mostGroups, sectionCount, mostWords, mostClass, countFits, ranges, sections, headed, sequences, excluded, groups, wholes, classRanges, tableOf, parse}
 
 -- the record has from 1 to 4 items
 abbrev pub itemsFit : Headed → Bool
@@ -84,7 +84,7 @@ shaped-of ws vs ds cs d c u t e p q =
       classes = rw (← s, q) (classes-fit vs cs c);
     }
 
--- the table of twelve sections
+-- the table of the sections
 sections-shaped : (ss : List (List ℕ)) (t : Table) → tableOf ss ≡ some t → Shaped t
 unfolding tableOf
 sections-shaped ss t e =
@@ -100,13 +100,14 @@ sections-shaped ss t e =
     then-some (classRanges (getD ss 9 [])) _ t e8 λ cs ecs e9.
     then-some (groups (length (getD ss 10 [])) (getD ss 10 [])) _ t e9 λ v10 q10 e10.
     then-some (wholes (length (getD ss 11 [])) (getD ss 11 [])) _ t e10 λ v11 q11 e11.
-    shaped-of (getD ss 6 []) (getD ss 9 []) ds cs eds ecs _ t (only-some (leb (length v10) mostGroups) _ t e11) refl refl
+    then-some (ranges (getD ss 12 [])) _ t e11 λ v12 q12 e12.
+    shaped-of (getD ss 6 []) (getD ss 9 []) ds cs eds ecs _ t (only-some (leb (length v10) mostGroups) _ t e12) refl refl
 
 -- every table that was read from words is so shaped
 pub parsed-shaped : (ws : List ℕ) (t : Table) → parse ws ≡ some t → Shaped t
 unfolding parse
 parsed-shaped ws t e =
-    then-some (sections 12 ws) tableOf t (only-some (leb (length ws) mostWords) (andThen (sections 12 ws) tableOf) t e) λ ss q r.
+    then-some (sections sectionCount ws) tableOf t (only-some (leb (length ws) mostWords) (andThen (sections sectionCount ws) tableOf) t e) λ ss q r.
     sections-shaped ss t r
 
 -- so is the table that stands for any words, faulty or not

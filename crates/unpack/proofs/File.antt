@@ -1,15 +1,18 @@
 -- What a file's words are, told by its length and its first five bytes. Assumes nothing.
 use Prim.Native.Nat.{ℕ, suc, _+_, _*_, _≤_, _<_}
 use native.Mathlib.Omega.{arith}
-use mathlib.Core.Path.{_≡_, refl}
-use mathlib.Core.Bool.{Bool, true, false}
-use mathlib.Core.List.{List, [], _∷_}
-use lib.ListN.{length, getD}
+use mathlib.Core.Path.{_≡_, refl, subst}
+use mathlib.Core.Bool.{Bool, true, false, cond}
+use mathlib.Core.List.{List, [], _∷_, _++_}
+use mathlib.Core.Option.{Option, none, some, Option·some-injective, Option·none-ne-some}
+use lib.ListN.{length, getD, replicate, length-append, length-replicate}
 use lib.Dec.{eqb}
 use borrow.Author.Tests.{eq-eqb, ne-eqb, eqb-true}
 use Rattle.answers.specs.Verdict.{accepted, refused}
-use Rattle.unpack.specs.Unpack.{word, wordsOf, fileWords}
-use Rattle.unpack.specs.Promise.{Holds}
+use Rattle.unpack.specs.Unpack.{word, wordsOf, lacks, fileWords}
+use Rattle.unpack.specs.declared.Lacking.{Lacking}
+use Rattle.unpack.specs.declared.Lacking.the-variants.{Sections, NotNamed}
+use Rattle.unpack.specs.Promise.{Holds, Lacks}
 use Rattle.unpack.proofs.Words.{length-words}
 
 pub file-empty : (f : List ℕ) → length f ≡ 0 → fileWords f ≡ refused 21 0
@@ -17,68 +20,101 @@ unfolding fileWords
 file-empty [] h = refl
 file-empty (v ∷ f) h = absurd (omega arith)
 
-pub file-version : (f : List ℕ) → 0 < length f → (getD f 0 0 ≡ 1 → ⊥) → fileWords f ≡ refused 20 0
+-- The rows of the versions.
+pub version-1 : (v : ℕ) → v ≡ 1 → lacks v ≡ some 1
+version-1 v e = rw e
+
+pub version-2 : (v : ℕ) → v ≡ 2 → lacks v ≡ some 0
+version-2 v e = rw e
+
+pub not-named : (v : ℕ) → (v ≡ 1 → ⊥) → (v ≡ 2 → ⊥) → lacks v ≡ none
+not-named v m n = rw (ne-eqb v 1 m, ne-eqb v 2 n)
+
+-- what the answer says of a version, where it is known
+pub lack-given : (v : ℕ) (r : Lacking) (k : ℕ) → r ≡ Sections k → Lacks v r → lacks v ≡ some k
+lack-given v r k e h = subst (λ (x : Lacking). Lacks v x) e h
+
+pub lack-none : (v : ℕ) (r : Lacking) → r ≡ NotNamed → Lacks v r → lacks v ≡ none
+lack-none v r e h = subst (λ (x : Lacking). Lacks v x) e h
+
+-- no version lacks more than one
+pub lacks-few : (v k : ℕ) → lacks v ≡ some k → k ≤ 1
+lacks-few v k e = go (eqb v 1) (eqb v 2) e
+  where
+    go : (a b : Bool) → cond a (some 1) (cond b (some 0) none) ≡ some k → k ≤ 1
+    go true b h = let q : 1 ≡ k = Option·some-injective 1 k h in omega arith
+    go false true h = let q : 0 ≡ k = Option·some-injective 0 k h in omega arith
+    go false false h = absurd (Option·none-ne-some k h)
+
+pub file-version : (f : List ℕ) → 0 < length f → lacks (getD f 0 0) ≡ none → fileWords f ≡ refused 20 0
 unfolding fileWords
 file-version [] h n = absurd (omega arith)
-file-version (v ∷ f) h n = rw (ne-eqb v 1 n)
+file-version (v ∷ f) h n = rw n
 
-pub file-short : (f : List ℕ) → length f < 5 → getD f 0 0 ≡ 1 → fileWords f ≡ refused 21 0
+pub file-short : (f : List ℕ) (k : ℕ) → length f < 5 → lacks (getD f 0 0) ≡ some k → fileWords f ≡ refused 21 0
 unfolding fileWords
-file-short [] h e = refl
-file-short (v ∷ []) h e = rw (eq-eqb v 1 e)
-file-short (v ∷ a ∷ []) h e = rw (eq-eqb v 1 e)
-file-short (v ∷ a ∷ b ∷ []) h e = rw (eq-eqb v 1 e)
-file-short (v ∷ a ∷ b ∷ c ∷ []) h e = rw (eq-eqb v 1 e)
-file-short (v ∷ a ∷ b ∷ c ∷ d ∷ r) h e = absurd (omega arith)
+file-short [] k h e = refl
+file-short (v ∷ []) k h e = rw e
+file-short (v ∷ a ∷ []) k h e = rw e
+file-short (v ∷ a ∷ b ∷ []) k h e = rw e
+file-short (v ∷ a ∷ b ∷ c ∷ []) k h e = rw e
+file-short (v ∷ a ∷ b ∷ c ∷ d ∷ r) k h e = absurd (omega arith)
 
 -- the count that a file names
 abbrev pub countOf : List ℕ → ℕ
 countOf f = word (getD f 1 0) (getD f 2 0) (getD f 3 0) (getD f 4 0)
 
 -- the length is not that of n words, and n is the count that the file names
-pub file-length : (f : List ℕ) (n : ℕ) → 5 ≤ length f → getD f 0 0 ≡ 1 → n ≡ countOf f → (length f ≡ 5 + 4 * n → ⊥) → fileWords f ≡ refused 21 0
+pub file-length : (f : List ℕ) (k n : ℕ) → 5 ≤ length f → lacks (getD f 0 0) ≡ some k → n ≡ countOf f → (length f ≡ 5 + 4 * n → ⊥) → fileWords f ≡ refused 21 0
 unfolding fileWords
-file-length [] n h e q un = absurd (omega arith)
-file-length (v ∷ []) n h e q un = absurd (omega arith)
-file-length (v ∷ a ∷ []) n h e q un = absurd (omega arith)
-file-length (v ∷ a ∷ b ∷ []) n h e q un = absurd (omega arith)
-file-length (v ∷ a ∷ b ∷ c ∷ []) n h e q un = absurd (omega arith)
-file-length (v ∷ a ∷ b ∷ c ∷ d ∷ r) n h e q un = rw (eq-eqb v 1 e, ← q, ne-eqb (length r) (4 * n) (λ l. un (omega (arith, l))))
+file-length [] k n h e q un = absurd (omega arith)
+file-length (v ∷ []) k n h e q un = absurd (omega arith)
+file-length (v ∷ a ∷ []) k n h e q un = absurd (omega arith)
+file-length (v ∷ a ∷ b ∷ []) k n h e q un = absurd (omega arith)
+file-length (v ∷ a ∷ b ∷ c ∷ []) k n h e q un = absurd (omega arith)
+file-length (v ∷ a ∷ b ∷ c ∷ d ∷ r) k n h e q un = rw (e, ← q, ne-eqb (length r) (4 * n) (λ l. un (omega (arith, l))))
 
 -- the length is that of n words
-pub file-words : (f : List ℕ) (n : ℕ) → 5 ≤ length f → getD f 0 0 ≡ 1 → n ≡ countOf f → length f ≡ 5 + 4 * n → Holds f n
+pub file-words : (f : List ℕ) (k n : ℕ) → 5 ≤ length f → lacks (getD f 0 0) ≡ some k → n ≡ countOf f → length f ≡ 5 + 4 * n → Holds f (n + k)
 unfolding fileWords
-file-words [] n h e q l = absurd (omega arith)
-file-words (v ∷ []) n h e q l = absurd (omega arith)
-file-words (v ∷ a ∷ []) n h e q l = absurd (omega arith)
-file-words (v ∷ a ∷ b ∷ []) n h e q l = absurd (omega arith)
-file-words (v ∷ a ∷ b ∷ c ∷ []) n h e q l = absurd (omega arith)
-file-words (v ∷ a ∷ b ∷ c ∷ d ∷ r) n h e q l = record { words = rw (eq-eqb v 1 e, ← q, eq-eqb (length r) (4 * n) (omega (arith, l))); long = l }
+file-words [] k n h e q l = absurd (omega arith)
+file-words (v ∷ []) k n h e q l = absurd (omega arith)
+file-words (v ∷ a ∷ []) k n h e q l = absurd (omega arith)
+file-words (v ∷ a ∷ b ∷ []) k n h e q l = absurd (omega arith)
+file-words (v ∷ a ∷ b ∷ c ∷ []) k n h e q l = absurd (omega arith)
+file-words (v ∷ a ∷ b ∷ c ∷ d ∷ r) k n h e q l =
+    record {
+      lack = k;
+      sum = omega arith;
+      words = rw (e, ← q, eq-eqb (length r) (4 * n) (omega (arith, l)));
+      long = omega arith;
+    }
 
--- A file either has its length from the number of its words, or is refused with a number over 0.
+-- A file either unpacks to at most one word more than its length tells, or is refused with a number over 0.
 pub data Said (f : List ℕ) : Type 0 where
-  holding : (ws : List ℕ) → fileWords f ≡ accepted ws → length f ≡ 5 + 4 * length ws → Said f
+  holding : (ws : List ℕ) → fileWords f ≡ accepted ws → 1 + 4 * length ws ≤ length f → Said f
   refusing : (k p : ℕ) → fileWords f ≡ refused (suc k) p → Said f
 
-counted-said : (v : ℕ) → eqb v 1 ≡ true → (r : List ℕ) → Said (v ∷ r)
+counted-said : (v k : ℕ) → lacks v ≡ some k → (r : List ℕ) → Said (v ∷ r)
 unfolding fileWords
-counted-said v e [] = refusing 20 0 (rw e)
-counted-said v e (a ∷ []) = refusing 20 0 (rw e)
-counted-said v e (a ∷ b ∷ []) = refusing 20 0 (rw e)
-counted-said v e (a ∷ b ∷ c ∷ []) = refusing 20 0 (rw e)
-counted-said v e (a ∷ b ∷ c ∷ d ∷ r) = go (eqb (length r) (4 * word a b c d)) refl
+counted-said v k e [] = refusing 20 0 (rw e)
+counted-said v k e (a ∷ []) = refusing 20 0 (rw e)
+counted-said v k e (a ∷ b ∷ []) = refusing 20 0 (rw e)
+counted-said v k e (a ∷ b ∷ c ∷ []) = refusing 20 0 (rw e)
+counted-said v k e (a ∷ b ∷ c ∷ d ∷ r) = go (eqb (length r) (4 * word a b c d)) refl
   where
     go : (t : Bool) → eqb (length r) (4 * word a b c d) ≡ t → Said (v ∷ a ∷ b ∷ c ∷ d ∷ r)
     go true t =
         let long : length r ≡ 4 * word a b c d = eqb-true (length r) (4 * word a b c d) t in
-        holding (wordsOf r) (rw (e, t)) (omega (arith, long, length-words (word a b c d) r long))
+        let size : length (wordsOf r ++ replicate k 0) ≡ word a b c d + k = rw (length-append, length-replicate, length-words (word a b c d) r long) in
+        holding (wordsOf r ++ replicate k 0) (rw (e, t)) (omega (arith, long, size, lacks-few v k e))
     go false t = refusing 20 0 (rw (e, t))
 
 pub file-said : (f : List ℕ) → Said f
 unfolding fileWords
 file-said [] = refusing 20 0 refl
-file-said (v ∷ r) = go (eqb v 1) refl
+file-said (v ∷ r) = go (lacks v) refl
   where
-    go : (t : Bool) → eqb v 1 ≡ t → Said (v ∷ r)
-    go true t = counted-said v t r
-    go false t = refusing 19 0 (rw t)
+    go : (o : Option ℕ) → lacks v ≡ o → Said (v ∷ r)
+    go (some k) t = counted-said v k t r
+    go none t = refusing 19 0 (rw t)

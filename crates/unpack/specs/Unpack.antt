@@ -1,9 +1,11 @@
--- Unpacking a table file. 01, "The table", first paragraph. Assumes nothing.
+-- Unpacking a table file. 01, "The table", first paragraph; 02, Item 9. Assumes nothing.
 use Prim.Native.Nat.{ℕ, _+_, _*_}
 use mathlib.Core.Bool.{cond}
-use mathlib.Core.List.{List, [], _∷_}
+use mathlib.Core.List.{List, [], _∷_, _++_}
+use mathlib.Core.Option.{Option, none, some}
 use lib.ListN.{length, replicate}
 use lib.Dec.{leb, eqb}
+use Rattle.lists.specs.Lists.{onSome}
 use Rattle.lists.specs.Filled.{filled}
 use Rattle.answers.specs.Verdict.{Verdict, accepted, refused}
 use Rattle.answers.specs.Values.{UnpackValues}
@@ -29,13 +31,26 @@ counted (a ∷ b ∷ []) = refused 21 0
 counted (a ∷ b ∷ c ∷ []) = refused 21 0
 counted (a ∷ b ∷ c ∷ d ∷ r) = cond (eqb (length r) (4 * word a b c d)) (accepted (wordsOf r)) (refused 21 0)
 
--- "version other than 1 as 20, a wrong length as 21 ..; an empty file is 21"
+-- How many sections a file of version v lacks: one row for each version, and none for "versions not yet named". "Files with this thirteenth
+-- section have version 2"; those of version 1 have twelve.
+abbrev pub lacks : ℕ → Option ℕ
+lacks v =
+    cond (eqb v 1) (some 1)
+    (cond (eqb v 2) (some 0)
+    none)
+
+-- "a version 1 file unpacks with an empty one added (one word more, 0 ..)": an empty section is its count alone
+abbrev pub withEmpty : ℕ → Verdict (List ℕ) → Verdict (List ℕ)
+withEmpty k (accepted ws) = accepted (ws ++ replicate k 0)
+withEmpty k (refused n p) = refused n p
+
+-- "20 is always for versions not yet named"; "a wrong length as 21 ..; an empty file is 21"
 unfoldable pub fileWords : List ℕ → Verdict (List ℕ)
 unfolding counted
 fileWords [] = refused 21 0
-fileWords (v ∷ r) = cond (eqb v 1) (counted r) (refused 20 0)
+fileWords (v ∷ r) = onSome (lacks v) (λ k. withEmpty k (counted r)) (refused 20 0)
 
--- "an answer buffer too small as 22, in that order"
+-- "an answer buffer too small as 22, in that order"; "(one word more, 0, which 22 and the answered count include)"
 abbrev pub withRoom : ℕ → Verdict (List ℕ) → Verdict (List ℕ)
 withRoom room (accepted ws) = cond (leb (length ws) room) (accepted ws) (refused 22 0)
 withRoom room (refused n p) = refused n p

@@ -5,7 +5,7 @@ ghost use mathlib.Core.List.{_++_};
 ghost use Prim.Native.Nat.{_≤_, _*_};
 ghost use lib.ListN.{length, drop};
 ghost use Rattle.unpack.specs.Unpack.{word, wordsOf};
-ghost use Rattle.unpack.specs.Promise.{Unpacks, Inspected};
+ghost use Rattle.unpack.specs.Promise.{Unpacks, Lacks, Inspected};
 
 // Four bytes, big-endian.
 fn be32(a: u8, b: u8, c: u8, d: u8) -> u32
@@ -14,16 +14,32 @@ fn be32(a: u8, b: u8, c: u8, d: u8) -> u32
     ((a as u32 * 256 + b as u32) * 256 + c as u32) * 256 + d as u32
 }
 
-// What is wrong with the file, or the count of its words. The length is worked out in 64 bits.
+// How many sections a file lacks, by its version.
+enum Lacking {
+    Sections(usize),
+    NotNamed,
+}
+
+fn lack_of(version: u8) -> Lacking
+    ensures { λ r. ⌜ Lacks version r ⌝ }
+{
+    match version {
+        1 => Lacking::Sections(1),
+        2 => Lacking::Sections(0),
+        _ => Lacking::NotNamed,
+    }
+}
+
+// What is wrong with the file, or the count of its words and of those that are added. The length is worked out in 64 bits.
 fn inspect(file: &[u8]) -> Unpacked
     ensures { λ r. ⌜ Inspected (now (file .entry)) r ⌝ }
 {
     if file.len() == 0 {
         return Unpacked::WrongLength;
     }
-    if file[0] != 1 {
+    let Lacking::Sections(lack) = lack_of(file[0]) else {
         return Unpacked::WrongVersion;
-    }
+    };
     if file.len() < 5 {
         return Unpacked::WrongLength;
     }
@@ -31,7 +47,7 @@ fn inspect(file: &[u8]) -> Unpacked
     if file.len() as u64 != 5 + 4 * (count as u64) {
         return Unpacked::WrongLength;
     }
-    Unpacked::Words(count as usize)
+    Unpacked::Words(count as usize + lack)
 }
 
 // The words that `bytes` hold go to the front of `answer`; the words behind them stay.
@@ -48,7 +64,8 @@ fn copy_words(bytes: &[u8], count: usize, answer: &mut [u32])
     }
 }
 
-// Unpacks a table file into `answer`, and answers the number of words. A refusal clears `answer`.
+// Unpacks a table file into `answer`, and answers the number of words. The words that are added are zeros, as those behind the table. A
+// refusal clears `answer`.
 pub fn unpack(file: &[u8], answer: &mut [u32]) -> Unpacked
     ensures { λ r. ⌜ Unpacks (now (file .entry)) (now (answer .entry)) (now (answer .exit)) r ⌝ }
 {
@@ -57,11 +74,12 @@ pub fn unpack(file: &[u8], answer: &mut [u32]) -> Unpacked
         buffers::clear(answer);
         return found;
     };
+    let held = (file.len() - 5) / 4;
     if count > answer.len() {
         buffers::clear(answer);
         return Unpacked::TooLittleRoom;
     }
-    copy_words(&file[5..], count, answer);
-    buffers::clear(&mut answer[count..]);
+    copy_words(&file[5..], held, answer);
+    buffers::clear(&mut answer[held..]);
     found
 }

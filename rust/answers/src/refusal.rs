@@ -65,6 +65,7 @@ impl Refusal {
             22 => "the table does not fit the buffer",
             30 => "bytes that are no UTF-8",
             31 => "UTF-8: the answer buffer is too small",
+            32 => "the report is longer than its buffer",
             40 => "the area of the payee book has another size",
             41 => "the payee book is damaged",
             42 => "the normal form is empty",

@@ -4,11 +4,13 @@
 pub mod again;
 pub mod engine;
 pub mod harness;
+pub mod older;
 pub mod plain_engine;
 pub mod tally;
 
 pub use again::{check_again, check_joining};
 pub use engine::Engine;
 pub use harness::{compare, say, Counts, Report, Settings};
+pub use older::check_older;
 pub use plain_engine::{Indexed, Plain};
 pub use tally::Tally;

@@ -277,6 +277,7 @@ fn layout_cases() {
     // First over last, class, flags, groups.
     assert!(!holds(&|b| b.valid.push((2, 1))));
     assert!(!holds(&|b| b.nsm.push((2, 1))));
+    assert!(!holds(&|b| b.escape.push((2, 1))));
     assert!(!holds(&|b| b.groups.push((0, vec![(2, 1)]))));
     assert!(!holds(&|b| b.classes.push((2, 1, 0))));
     assert!(holds(&|b| b.classes.push((2, 0xFFFF_FFFF, 255))));
@@ -286,15 +287,15 @@ fn layout_cases() {
     assert!(holds(&|b| b.groups.resize(256, (0, vec![]))));
     assert!(!holds(&|b| b.groups.resize(257, (0, vec![]))));
     assert!(holds(&|b| b.wholes.push((vec![], vec![]))));
-    // Sections by hand: twelve empty ones, exclusions with their one record.
-    let empty: Vec<Vec<u32>> = (0..12).map(|i| if i == 8 { vec![0] } else { vec![] }).collect();
+    // Sections by hand: thirteen empty ones, exclusions with their one record.
+    let empty: Vec<Vec<u32>> = (0..13).map(|i| if i == 8 { vec![0] } else { vec![] }).collect();
     let with = |i: usize, words: &[u32]| {
         let mut sections = empty.clone();
         sections[i] = words.to_vec();
         parse(&plain::table::join_sections(&sections)).is_some()
     };
     assert!(with(0, &[]));
-    for section in 0..5 {
+    for section in [0, 1, 2, 3, 4, 12] {
         assert!(with(section, &[5, 5]));
         assert!(with(section, &[0, 0xFFFF_FFFF]));
         assert!(!with(section, &[5]));
@@ -324,7 +325,7 @@ fn layout_cases() {
     past[0] = 2;
     *past.last_mut().unwrap() = 0xFFFF_FFFF;
     assert!(parse(&past).is_none(), "a section that runs past the end");
-    // 131,072 words and two more: 13 words stand beside the pairs or triples.
+    // 131,073 words and two more: 14 words stand beside the pairs or triples.
     let sized = |total: usize| {
         let mut sections = empty.clone();
         let rest = total - words.len();
@@ -336,8 +337,8 @@ fn layout_cases() {
         assert_eq!(words.len(), total);
         parse(&words).is_some()
     };
-    assert!(sized(131_071) && sized(131_072));
-    assert!(!sized(131_073) && !sized(131_074));
+    assert!(sized(131_072) && sized(131_073));
+    assert!(!sized(131_074) && !sized(131_075));
 }
 
 #[test]
@@ -354,9 +355,15 @@ fn unpack_cases() {
     assert_eq!(run(&[], 3), no(21));
     assert_eq!(run(&[1], 3), no(21));
     assert_eq!(run(&[0], 3), no(20));
-    assert_eq!(run(&[2, 9, 9], 3), no(20), "a wrong version with a wrong length");
+    assert_eq!(run(&[3, 9, 9], 3), no(20), "a wrong version with a wrong length");
+    assert_eq!(run(&[2], 3), no(21));
     assert_eq!(run(&[1, 0, 0, 0], 3), no(21));
-    assert_eq!(run(&[1, 0, 0, 0, 0], 3), (Ok(0), vec![]));
+    assert_eq!(run(&[1, 0, 0, 0, 0], 3), (Ok(1), vec![0]));
+    assert_eq!(run(&[1, 0, 0, 0, 0], 0), no(22), "no room for the word that is added");
+    assert_eq!(run(&[2, 0, 0, 0, 0], 0), (Ok(0), vec![]));
+    for version in [0, 3, 4, 255] {
+        assert_eq!(run(&[version, 0, 0, 0, 0], 3), no(20));
+    }
     assert_eq!(run(&[1, 0, 0, 0, 0, 7], 3), no(21));
     assert_eq!(run(&[1, 0x40, 0, 0, 0], 3), no(21), "a count whose bytes pass 32 bits");
     assert_eq!(run(&[1, 0xC0, 0, 0, 1, 1, 2, 3, 4], 3), no(21));
@@ -364,10 +371,37 @@ fn unpack_cases() {
     assert_eq!(run(&pack(&words), 2), (Ok(2), words.to_vec()));
     assert_eq!(run(&pack(&words), 5), (Ok(2), words.to_vec()));
     assert_eq!(run(&pack(&words), 1), no(22), "a buffer too small by one");
-    assert_eq!(pack(&words), [1, 0, 0, 0, 2, 1, 2, 3, 4, 255, 255, 255, 255]);
+    assert_eq!(pack(&words), [2, 0, 0, 0, 2, 1, 2, 3, 4, 255, 255, 255, 255]);
+    let older = plain::pack_as(1, &words);
+    assert_eq!(run(&older, 3), (Ok(3), vec![words[0], words[1], 0]));
+    assert_eq!(run(&older, 2), no(22), "the word that is added has no room");
     // More words than a table may have: unpacking has no such limit.
-    let many = vec![3; 131_073];
-    assert_eq!(run(&pack(&many), 131_073).0, Ok(131_073));
+    let many = vec![3; 131_074];
+    assert_eq!(run(&pack(&many), 131_074).0, Ok(131_074));
+}
+
+/// A file of version 1 can have a layout fault without the word that is added,
+/// and none with it; a file of version 2 that lacks a section has one.
+#[test]
+fn older_files_that_had_a_fault() {
+    let words = |file: &[u8]| {
+        let mut words = vec![7; 40];
+        let count = unpack(file, &mut words).unwrap();
+        words.truncate(count);
+        words
+    };
+    // Eight empty sections, 1 0, three empty sections and 2 0.
+    let odd = [0, 0, 0, 0, 0, 0, 0, 0, 1, 0, 0, 0, 0, 2, 0];
+    assert!(compare::older::twelve(&odd).is_none() && parse(&odd).is_none());
+    let unpacked = words(&plain::pack_as(1, &odd));
+    assert_eq!(unpacked, [&odd[..], &[0]].concat());
+    assert_eq!(parse(&unpacked).unwrap().to_builder().escape, [(0, 0)]);
+    assert_eq!(soundness(&unpacked), Soundness::Sound);
+    let twelve = &odd[..13];
+    assert!(compare::older::twelve(twelve).is_some());
+    assert_eq!(soundness(&words(&plain::pack_as(1, twelve))), Soundness::Sound);
+    assert_eq!(words(&pack(twelve)), twelve);
+    assert_eq!(soundness(twelve), Soundness::Broken(0));
 }
 
 /// For each rule changes that break it and no other rule.
@@ -393,6 +427,7 @@ fn each_soundness_rule_alone() {
     alone(1, &|b| b.marks.push((0x10FFFF, 0x110000)));
     alone(1, &|b| b.nsm.push((0, 0xFFFF_FFFF)));
     alone(1, &|b| b.exclusions.push(0x110000));
+    alone(1, &|b| b.escape.push((0xDFFF, 0xE000)));
     alone(1, &|b| b.wholes.push((vec![], vec![0xDFFF])));
     alone(1, &|b| b.wholes.push((vec![0xDFFF], vec![])));
     alone(1, &|b| b.mapped.push((0xD800, vec![0x61])));

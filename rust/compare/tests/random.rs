@@ -1,6 +1,6 @@
 //! The random comparison and demand 3, on the plain engine.
 
-use compare::{check_again, check_joining, compare, say, Indexed, Plain, Settings};
+use compare::{check_again, check_joining, check_older, compare, say, Indexed, Plain, Settings};
 
 /// The generators reach everything that the comparison asks for, and the index
 /// gives what reading from the front gives.
@@ -29,6 +29,12 @@ fn doing_it_again_changes_nothing() {
 #[test]
 fn joining_joins() {
     check_joining(&Plain, 2_000_000, 300);
+}
+
+/// Files of version 1 give the answers that they gave.
+#[test]
+fn older_files() {
+    check_older(&Plain, 7_000_000, 2_000);
 }
 
 /// Every lookup of the index is that of the table.

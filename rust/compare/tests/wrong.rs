@@ -417,6 +417,9 @@ wrongs! {
     SevenWithoutHangul,
     LengthBeforeVersion,
     RoomBeforeLength,
+    AddedWordNotAsked,
+    NothingAdded,
+    EscapeNotScalar,
     LeavesWords,
 }
 
@@ -439,6 +442,13 @@ impl Engine for Checks {
         let hangul_pair = |r: &Record| matches!(*r.items, [a, b] if plain::text::hangul_composite(a, b).is_some());
         let judged = |rule: u32| match (self.0, rule) {
             (WrongCheck::EverySound, _) => false,
+            (WrongCheck::EscapeNotScalar, 1) => {
+                let mut rest = table.to_builder();
+                rest.escape.clear();
+                let words = rest.to_words();
+                let rest = parse(&words).expect("a table without that section");
+                plain::soundness::broken(&Index::new(&rest), 1).is_some()
+            }
             (WrongCheck::ValidOneWay, 2) => {
                 let of_groups = Ranges::new(table.groups.iter().flat_map(|g| g.pairs.iter()));
                 of_groups.least_outside(index.valid()).is_some()
@@ -470,6 +480,11 @@ impl Engine for Checks {
             WrongCheck::RoomBeforeLength if number == 21 && count.is_some_and(|n| n as usize > old.len()) => {
                 refuse(22, 0)
             }
+            // The word that is added is left out of the room, or out altogether.
+            WrongCheck::AddedWordNotAsked if number == 22 && count.is_some_and(|n| n as usize == old.len()) => {
+                Ok(old.len())
+            }
+            WrongCheck::NothingAdded if file.first() == Some(&1) => right.map(|n| n - 1),
             WrongCheck::LeavesWords => {
                 let due = right.unwrap_or(0);
                 answer[due..].copy_from_slice(&old[due..]);

@@ -32,6 +32,15 @@ fn padded(words: usize) -> Vec<u8> {
     pack(&made)
 }
 
+/// Words of an empty last section, without it.
+fn without_the_last(words: &[u32]) -> Vec<u32> {
+    let mut b = parse(words).expect("a table").to_builder();
+    b.escape.clear();
+    let mut words = b.to_words();
+    assert_eq!(words.pop(), Some(0));
+    words
+}
+
 #[test]
 fn the_sample() {
     let wrote = run(Some(&stored()), b"5F 24 41\n61 2E 2E 62\n");
@@ -156,8 +165,14 @@ fn table_files() {
     // Files that do not unpack.
     assert_eq!(run(Some(&[]), input), "bad\n");
     let mut version = small();
-    version[0] = 2;
+    version[0] = 3;
     assert_eq!(run(Some(&version), input), "bad\n");
+    // A file of version 1, with the section that it lacks added: in all of its bytes too.
+    let older = plain::pack_as(1, &without_the_last(&small_table().to_words()));
+    assert_eq!(run(Some(&older), input), works);
+    let mut most = padded(8_190);
+    most[0] = 1;
+    assert_eq!(run(Some(&most), input), "no 1 0\nno 1 0\nend 2\n", "one word left over");
     let mut longer = small();
     longer.push(0);
     assert_eq!(run(Some(&longer), input), "bad\n");

@@ -20,6 +20,8 @@ pub trait Calls {
     fn name(&self, input: &[u32], lent: Lent) -> Result<Name, Refusal>;
     fn label(&self, input: &[u32], lent: Lent) -> Result<Label, Refusal>;
     fn namehash(&self, input: &[u32], lent: Lent) -> Result<[u8; 32], Refusal>;
+    /// Into `out`; the answer buffer is not used.
+    fn report(&self, input: &[u32], out: &mut [u8], lent: Lent) -> Result<usize, Refusal>;
 }
 
 /// The plain version.
@@ -57,5 +59,9 @@ impl Calls for Plain {
     fn namehash(&self, input: &[u32], lent: Lent) -> Result<[u8; 32], Refusal> {
         let (named, hash) = plain::namehash::namehash_with(input, lent.table, lent.setting, lent.answer, lent.work);
         named.map(|_| hash)
+    }
+
+    fn report(&self, input: &[u32], out: &mut [u8], lent: Lent) -> Result<usize, Refusal> {
+        plain::report(input, lent.table, lent.setting, out, lent.work)
     }
 }

@@ -81,7 +81,11 @@ pub fn object(line: Option<usize>, given: &Input, judged: &Judged, names: &Names
         Some(Err(refusal)) => format!(",\"hash\":null,\"hash_refusal\":{}", refusal.number),
         None => String::new(),
     };
-    format!("{{{line}\"input\":{},\"blanks\":[{front},{back}],{found}{hash}}}", input(given))
+    let report = judged.report.as_ref().map_or(String::new(), |lines| {
+        let lines: Vec<String> = lines.iter().map(|line| string(line)).collect();
+        format!(",\"report\":[{}]", lines.join(","))
+    });
+    format!("{{{line}\"input\":{},\"blanks\":[{front},{back}],{found}{hash}{report}}}", input(given))
 }
 
 /// The object for a line that holds no numbers.

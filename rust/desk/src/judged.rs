@@ -13,6 +13,8 @@ pub struct Desk<'a, C> {
     pub trim: bool,
     /// The name hash is asked for too.
     pub hash: bool,
+    /// The report of the tokens is asked for too.
+    pub report: bool,
 }
 
 /// A label of an accepted name.
@@ -34,6 +36,8 @@ pub struct Judged {
     pub found: Result<(Vec<u32>, Vec<Part>), Refusal>,
     /// The name hash of an accepted name, or its own refusal, where it is asked for.
     pub hash: Option<Result<[u8; 32], Refusal>>,
+    /// The report of an accepted name, line by line, where it is asked for.
+    pub report: Option<Vec<String>>,
 }
 
 impl<C: Calls> Desk<'_, C> {
@@ -43,7 +47,9 @@ impl<C: Calls> Desk<'_, C> {
         match input {
             Input::Text(bytes) => match self.read(bytes) {
                 Ok(codepoints) => self.judge_codepoints(&codepoints, (!self.trim).then_some(bytes)),
-                Err(refusal) => Judged { codepoints: None, blanks: (0, 0), found: Err(refusal), hash: None },
+                Err(refusal) => {
+                    Judged { codepoints: None, blanks: (0, 0), found: Err(refusal), hash: None, report: None }
+                }
             },
             Input::Numbers(codepoints) => self.judge_codepoints(codepoints, None),
         }
@@ -62,7 +68,9 @@ impl<C: Calls> Desk<'_, C> {
         let front = codepoints.len() - codepoints.iter().skip_while(|c| self.trim && plain::BLANKS.contains(c)).count();
         let found = self.form(left, bytes).map(|form| (form, self.parts(left)));
         let hash = (self.hash && found.is_ok()).then(|| self.hashed(left));
-        Judged { codepoints: Some(left.to_vec()), blanks: (front, codepoints.len() - front - left.len()), found, hash }
+        let report = (self.report && found.is_ok()).then(|| self.reported(left));
+        let blanks = (front, codepoints.len() - front - left.len());
+        Judged { codepoints: Some(left.to_vec()), blanks, found, hash, report }
     }
 
     fn form(&self, codepoints: &[u32], bytes: Option<&Vec<u8>>) -> Result<Vec<u32>, Refusal> {
@@ -80,6 +88,14 @@ impl<C: Calls> Desk<'_, C> {
             Ok(0)
         };
         self.with_buffers(call).map(|_| node)
+    }
+
+    /// The report of an accepted name: the call accepts it, and there is room.
+    fn reported(&self, codepoints: &[u32]) -> Vec<String> {
+        let mut out = vec![0; limits::REPORT];
+        let (length, _) =
+            self.with_buffers(|lent| self.calls.report(codepoints, &mut out, lent)).expect("it was accepted");
+        String::from_utf8_lossy(&out[..length]).lines().map(String::from).collect()
     }
 
     /// The labels of an accepted name: the label call accepts each of them.

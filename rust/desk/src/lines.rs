@@ -166,8 +166,9 @@ mod tests {
     fn faults_of_a_table() {
         let said = |file: Vec<u8>| table_fault(Ok(file)).unwrap_or_default();
         assert_eq!(said(plain::pack(&[])), "");
+        assert_eq!(said(plain::pack_as(1, &[])), "");
         assert!(said(vec![0; FILE + 1]).contains("32769 bytes"));
-        assert!(said(vec![2]).contains("another version"));
+        assert!(said(vec![3]).contains("another version"));
         assert!(said(vec![1]).contains("wrong length"));
         assert!(table_fault(std::fs::read("/no/such/file")).is_some());
     }

@@ -146,7 +146,8 @@ fn run(calls: &impl Calls, wanted: &Options) -> Result<u8, Ended> {
         check(calls, &path, &table);
     }
     let names = Names::beside(&path, &table);
-    let desk = Desk { calls, table: &table, setting: u32::from(wanted.restrict), trim: wanted.trim, hash: wanted.hash };
+    let Options { restrict, trim, hash, report, .. } = *wanted;
+    let desk = Desk { calls, table: &table, setting: u32::from(restrict), trim, hash, report };
     let out = stdout().lock();
     let (json, hex) = (wanted.json, wanted.hex);
     let mut teller = Teller { desk, names, json, hex, out, judged: 0, refused: 0, unreadable: 0 };

@@ -21,6 +21,9 @@ of each label; or why it is refused, and where. Labels and places count from 0.
                   (docs/STANDIN.md); the names of its scripts come from the
                   file beside it: X.groups beside X.tab
   --hash          show the name hash of EIP-137 too
+  --report        show what was typed, token by token: text or emoji, where it
+                  starts and ends, and what became of it, in braces what is
+                  better not shown as it is
   --json          write an object a line for each name, for programs
   --plain         by the plain Rust version, which needs no proof
   --help          write this text
@@ -53,6 +56,7 @@ pub struct Options {
     pub trim: bool,
     pub restrict: bool,
     pub hash: bool,
+    pub report: bool,
     pub json: bool,
     pub table: Option<PathBuf>,
     pub source: Source,
@@ -89,6 +93,7 @@ pub fn options(words: impl IntoIterator<Item = OsString>) -> Result<Option<Optio
         trim: false,
         restrict: false,
         hash: false,
+        report: false,
         json: false,
         table: None,
         source: Source::Standard,
@@ -103,6 +108,7 @@ pub fn options(words: impl IntoIterator<Item = OsString>) -> Result<Option<Optio
             b"--trim" => found.trim = true,
             b"--restrict" => found.restrict = true,
             b"--hash" => found.hash = true,
+            b"--report" => found.report = true,
             b"--json" => found.json = true,
             b"--table" => found.table = Some(value("--table")?),
             b"--file" => file = Some(value("--file")?),

@@ -26,6 +26,7 @@ pub fn lines(input: &Input, judged: &Judged, names: &Names) -> Vec<String> {
         Ok((form, parts)) => accepted(form, parts, names),
         Err(refusal) => refused(input, judged, *refusal),
     };
+    lines.extend(judged.report.iter().flatten().cloned());
     match judged.hash {
         Some(Ok(node)) => lines.push(format!("hash {}", digits(&node))),
         Some(Err(refusal)) => lines.push(format!("no hash: {}", sentence(refusal))),

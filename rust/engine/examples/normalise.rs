@@ -39,6 +39,10 @@ impl Calls for Proved {
     fn namehash(&self, input: &[u32], lent: Lent) -> Result<[u8; 32], Refusal> {
         engine::namehash::namehash(input, lent.table, lent.setting, lent.answer, lent.work).answer()
     }
+
+    fn report(&self, input: &[u32], out: &mut [u8], lent: Lent) -> Result<usize, Refusal> {
+        engine::report::report(input, lent.table, lent.setting, out, lent.work).answer()
+    }
 }
 
 fn main() -> ExitCode {

@@ -11,6 +11,7 @@ pub mod keccak;
 pub mod namehash;
 pub mod normal_forms;
 mod raw;
+pub mod report;
 pub mod utf8;
 
 pub use answers::{Kind, Refusal, Soundness};
@@ -42,8 +43,9 @@ impl Unpacked {
     }
 }
 
-/// Unpacks a table file. Words past the table are zero; after a refusal all
-/// are.
+/// Unpacks a table file, of version 1 or 2. To one of version 1 a word is
+/// added, the 0 of the section that it lacks: it is counted and needs its room.
+/// Words past the table are zero; after a refusal all are.
 pub fn unpack(file: &[u8], answer: &mut [u32]) -> Unpacked {
     raw::unpack(file, answer)
 }

@@ -2,7 +2,7 @@
 
 mod proved;
 
-use compare::{check_again, check_joining, compare, Engine, Plain, Settings};
+use compare::{check_again, check_joining, check_older, compare, Engine, Plain, Settings};
 use engine::{Refusal, Soundness};
 use gen::worst::DEEP;
 use plain::limits::{INPUT, WORKED, WORK_WORDS};
@@ -25,6 +25,12 @@ fn doing_it_again_changes_nothing() {
 #[test]
 fn joining_joins() {
     check_joining(&Proved, 6_000_000, 600);
+}
+
+/// Files of version 1 give the answers that they gave.
+#[test]
+fn older_files() {
+    check_older(&Proved, 7_000_000, 2_000);
 }
 
 /// Every case of "Names at the counter" and every example of ENSIP-15 that the

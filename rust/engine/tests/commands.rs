@@ -81,6 +81,22 @@ fn the_hash() {
     assert!(status == Some(1) && !refused.contains("hash"), "{refused}");
 }
 
+/// The tokens with their places: an ignored selector counts to the text before
+/// it, and a joiner stands in braces.
+#[test]
+fn the_report() {
+    let form = "ok ab\u{1F9D1}\u{200D}\u{1F4BB}.eth\n   61 62 1F9D1 200D 1F4BB 2E 65 74 68\n";
+    let labels =
+        format!("   label 0: ab\u{1F9D1}\u{200D}\u{1F4BB}, {})\n   label 1: eth, ASCII\n", group("full", "Latin"));
+    let lines = "   text 0 3 61 62\n   emoji 3 6 1F9D1 {200D} 1F4BB\n   text 7 10 65 74 68\n";
+    both(&["--report", "A\u{FE0F}b\u{1F9D1}\u{200D}\u{1F4BB}.eth"], 0, &format!("{form}{labels}{lines}"));
+    both(&["--report", ""], 0, "ok\n   the empty name, which has no labels\n");
+    let (status, json) = normalise(&["--report", "--json", "a.b"]);
+    assert!(status == Some(0) && json.ends_with(",\"report\":[\"text 0 1 61\",\"text 2 3 62\"]}\n"), "{json}");
+    let (status, refused) = normalise(&["--report", "a..b"]);
+    assert!(status == Some(1) && !refused.contains("text"), "{refused}");
+}
+
 #[test]
 fn a_name_as_numbers() {
     let form = "ok _$a\n   5F 24 61\n   label 0: _$a, ASCII\n";
@@ -187,7 +203,7 @@ fn which_table() {
     std::fs::write(&table, plain::pack(&unsound.to_words())).expect("a file");
     let (status, told) = normalise(&["--table", path, "a/b"]);
     assert!(status == Some(0) && told.contains("commands.tab is not sound: rule 3"), "{told}");
-    std::fs::write(&table, [2]).expect("a file");
+    std::fs::write(&table, [3]).expect("a file");
     let (status, told) = normalise(&["--table", path, "a"]);
     assert!(status == Some(3) && told.contains("the table file has another version"), "{told}");
     assert_eq!(normalise(&["--table", "/no/such/file", "a"]).0, Some(3));

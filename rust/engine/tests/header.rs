@@ -7,6 +7,7 @@ use engine::emoji::Emoji;
 use engine::keccak::{Digest, Sponge};
 use engine::namehash::Namehash;
 use engine::normal_forms::Form;
+use engine::report::Report;
 use engine::utf8::Utf8;
 use engine::{Checked, Group, Label, Name, Part, Unpacked};
 use std::mem::{offset_of, size_of};
@@ -27,6 +28,7 @@ fn run(source: &Path, name: &str) -> Output {
         .arg(source)
         .arg(root().join("target/staticlib/libboundary.a"))
         .arg(root().join("target/staticlib/libbook_boundary.a"))
+        .arg(root().join("target/staticlib/libreport_boundary.a"))
         .arg(root().join("target/staticlib/libnormal_forms.a"))
         .arg("-o")
         .arg(&program)
@@ -80,6 +82,7 @@ fn structs_of_c_and_of_the_wrapper() {
         lines!("wanlopheng_sponge", Sponge: lanes, fill),
         lines!("wanlopheng_digest", Digest: bytes),
         lines!("wanlopheng_namehash", Namehash: name, node),
+        lines!("wanlopheng_report", Report: number, place, length),
         lines!("wanlopheng_form", Form: number, length),
     ];
     let ran = run(&Path::new(env!("CARGO_MANIFEST_DIR")).join("tests/structs.c"), "structs");

@@ -62,6 +62,10 @@ int main(void) {
     STRUCT(wanlopheng_namehash);
     FIELD(wanlopheng_namehash, name);
     FIELD(wanlopheng_namehash, node);
+    STRUCT(wanlopheng_report);
+    FIELD(wanlopheng_report, number);
+    FIELD(wanlopheng_report, place);
+    FIELD(wanlopheng_report, length);
     STRUCT(wanlopheng_form);
     FIELD(wanlopheng_form, number);
     FIELD(wanlopheng_form, length);

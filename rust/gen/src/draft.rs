@@ -40,6 +40,7 @@ pub(crate) fn draft(rng: &mut Rng) -> TableBuilder {
     fenced(rng, &mut d);
     marks_and_nsm(rng, &mut d);
     wholes(rng, &mut d);
+    escape(rng, &mut d);
     d.b
 }
 
@@ -390,6 +391,23 @@ fn marks_and_nsm(rng: &mut Rng, d: &mut Draft) {
     if rng.percent(5) {
         let c = d.a_valid(rng);
         d.b.marks.push((c, c));
+    }
+}
+
+/// What is valid, of emoji, or neither; overlapping and empty sections too.
+fn escape(rng: &mut Rng, d: &mut Draft) {
+    for _ in 0..rng.below(5) {
+        let first = match rng.below(4) {
+            0 => 0x200D,
+            1 if !d.b.emoji.is_empty() => {
+                let sequence = rng.pick(&d.b.emoji).clone();
+                *rng.pick(&sequence)
+            }
+            2 => rng.code(0, 0xD700),
+            _ => d.a_valid(rng),
+        };
+        let last = if rng.percent(30) && first < 0xD000 { first + rng.code(0, 0x40) } else { first };
+        d.b.escape.push((first, last));
     }
 }
 

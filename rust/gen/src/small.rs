@@ -55,6 +55,7 @@ pub fn small_table() -> TableBuilder {
             (0, vec![(0xAC00, 0xD7A3)]),
         ],
         wholes: vec![(vec![0x78], vec![0x445, 0x4B3]), (vec![], vec![0x442, 0x3C4]), (vec![0xE6], vec![0x4D5])],
+        escape: vec![one(0x200D), (0x300, 0x303), one(0x20E3), (0xFE0E, 0xFE0F)],
         ..TableBuilder::default()
     };
     b.valid = b.groups.iter().flat_map(|g| g.1.clone()).collect();

@@ -48,7 +48,7 @@ fn put_in<T>(rng: &mut Rng, list: &mut Vec<T>, entry: T) {
     list.insert(at, entry);
 }
 
-const RULE_1: [Way; 12] = [
+const RULE_1: [Way; 13] = [
     ("ignored: no scalar value", |_, b, s| b.ignored.push((s.no_scalar, s.no_scalar))),
     ("classes: no scalar value", |_, b, s| b.classes.push((s.no_scalar, s.no_scalar.max(0xE000), 230))),
     ("mapped: head no scalar value", |_, b, s| b.mapped.push((s.no_scalar, vec![s.valid]))),
@@ -61,6 +61,7 @@ const RULE_1: [Way; 12] = [
     ("emoji: no scalar value", |_, b, s| b.emoji.push(vec![0x1F468, s.no_scalar])),
     ("exclusions: no scalar value", |_, b, s| b.exclusions.push(s.no_scalar)),
     ("wholes: no scalar value", |_, b, s| b.wholes.push((vec![s.no_scalar], vec![s.valid]))),
+    ("should-escape: no scalar value", |_, b, s| b.escape.push((s.no_scalar, s.no_scalar))),
     ("groups: no scalar value", |_, b, s| b.groups[0].1.push((s.no_scalar, s.no_scalar))),
     ("NSM: surrogates within a pair", |_, b, _| b.nsm.push((0xD000, 0xE000))),
     ("mapped: a valid item that is no scalar value", |rng, b, s| {

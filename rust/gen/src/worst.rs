@@ -1,4 +1,4 @@
-//! Tables that make one job long: each fills the 131,072 words with what that
+//! Tables that make one job long: each fills the 131,073 words with what that
 //! job reads most often.
 
 pub mod texts;
@@ -122,13 +122,14 @@ pub fn in_random_order(table: TableBuilder) -> TableBuilder {
         classes: shuffled(table.classes),
         groups: table.groups.into_iter().map(|(flags, pairs)| (flags, shuffled(pairs))).collect(),
         wholes: shuffled(table.wholes),
+        escape: shuffled(table.escape),
     }
 }
 
 /// How many records of so many words fit beside `other` words, the counts of
 /// the sections and of the exclusions.
 fn fit(words: usize, other: usize) -> u32 {
-    ((TABLE_WORDS - 13 - other) / words) as u32
+    ((TABLE_WORDS - 14 - other) / words) as u32
 }
 
 /// So many codepoints from `first` on, each a pair of its own, `step` apart.

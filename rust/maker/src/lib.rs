@@ -95,6 +95,7 @@ pub fn make(spec: &Spec, nf: &Nf) -> TableBuilder {
         classes: classes(&nf.ranks),
         groups: spec.groups.iter().map(|g| (g.flags(), pairs(g.characters.iter().copied()))).collect(),
         wholes: spec.wholes.iter().map(|w| (w.valid.clone(), w.confused.clone())).collect(),
+        escape: pairs(spec.escape.iter().copied()),
     }
 }
 

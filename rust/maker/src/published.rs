@@ -26,7 +26,7 @@ pub struct Whole {
 }
 
 /// What a table needs of `spec.json`. Its valid characters follow from the
-/// groups; `escape` and `nfc_check` have no part in a table.
+/// groups; `nfc_check` has no part in a table.
 #[derive(Clone, Debug, PartialEq, Eq)]
 pub struct Spec {
     /// The version of Unicode, where the file names it.
@@ -39,6 +39,7 @@ pub struct Spec {
     pub wholes: Vec<Whole>,
     pub cm: Vec<u32>,
     pub nsm: Vec<u32>,
+    pub escape: Vec<u32>,
 }
 
 #[derive(Clone, Debug, PartialEq, Eq)]
@@ -155,6 +156,7 @@ impl Spec {
             wholes: rows(key(&v, "wholes")?, "wholes", whole)?,
             cm: codepoints(key(&v, "cm")?, "cm")?,
             nsm: codepoints(key(&v, "nsm")?, "nsm")?,
+            escape: codepoints(key(&v, "escape")?, "escape")?,
         })
     }
 
@@ -198,7 +200,7 @@ mod tests {
         "groups":[{"name":"A","primary":[97],"secondary":[48],"cm":[]},
                   {"name":"B","restricted":true,"primary":[98],"secondary":[]}],
         "wholes":[{"target":"a","valid":[97],"confused":[1072]}],
-        "cm":[768],"nsm":[768],"nsm_max":4}"#;
+        "cm":[768],"nsm":[768],"nsm_max":4,"escape":[173,8204]}"#;
 
     #[test]
     fn reads_both_shapes_of_fenced_and_the_flags() {
@@ -209,6 +211,7 @@ mod tests {
         assert_eq!(spec.groups[0].characters, [97, 48]);
         assert_eq!(spec.group_number("B"), Some(1));
         assert_eq!(spec.wholes[0].confused, [1072]);
+        assert_eq!(spec.escape, [173, 8204]);
     }
 
     #[test]

@@ -138,6 +138,9 @@ impl Reduction {
             });
         }
 
+        // What is shown of a name is valid or of an emoji.
+        out.escape.retain(|c| keep.contains(c) || out.emoji.iter().any(|s| s.contains(c)));
+
         // Wholes keep the members that are left, where they still say something.
         let shares = |a: u32, b: u32| out.groups.iter().any(|g| g.characters.contains(&a) && g.characters.contains(&b));
         let wholes = spec.wholes.iter().map(|w| Whole {

@@ -44,7 +44,7 @@ fn makes_the_committed_tables() {
     let run = maketable(&["--nf", path(&nf), path(&out)]);
     assert_eq!(run.status.code(), Some(0));
     let file = std::fs::read(&out).unwrap();
-    assert!(file.len() > 30_000 && file[0] == 1);
+    assert!(file.len() > 30_000 && file[0] == 2);
 }
 
 const NF: &str = r#"{"exclusions": [], "decomp": [[224, [97, 768]]], "ranks": [[768]]}"#;
@@ -54,7 +54,7 @@ fn small_spec(mapped: &str) -> String {
         r#"{{"emoji": [[9728, 65039]], "mapped": [{mapped}], "ignored": [173], "fenced": [8217, [8260, "x"]],
         "groups": [{{"name": "Latin", "primary": [97, 98, 99, 224], "secondary": [8217], "cm": []}},
                    {{"name": "Other", "restricted": true, "primary": [1072], "secondary": []}}],
-        "wholes": [{{"valid": [97], "confused": [1072]}}], "cm": [768], "nsm": [768], "nsm_max": 4}}"#
+        "wholes": [{{"valid": [97], "confused": [1072]}}], "cm": [768], "nsm": [768], "nsm_max": 4, "escape": [768, 8205]}}"#
     )
 }
 
@@ -86,9 +86,10 @@ fn a_small_table_word_by_word() {
         // Latin: whitelisted; Other: restricted
         &[12, 2, 6, 0x61, 0x63, 0xE0, 0xE0, 0x2019, 0x2019, 1, 2, 0x430, 0x430],
         &[4, 1, 0x61, 1, 0x430],
+        &[4, 0x300, 0x300, 0x200D, 0x200D],
     ]
     .concat();
-    let mut file = vec![1];
+    let mut file = vec![2];
     file.extend((words.len() as u32).to_be_bytes());
     file.extend(words.iter().flat_map(|w| w.to_be_bytes()));
     assert_eq!(std::fs::read(&out).unwrap(), file);

@@ -23,7 +23,7 @@ fn check_input(input: &[u32]) -> Result<(), Refusal> {
 }
 
 /// 1 and 2, in that order.
-fn check_room<'t>(table: &'t [u32], work: &[u32]) -> Result<Table<'t>, Refusal> {
+pub fn check_room<'t>(table: &'t [u32], work: &[u32]) -> Result<Table<'t>, Refusal> {
     let Some(table) = parse(table) else {
         return refuse(1, 0);
     };

@@ -1,18 +1,28 @@
-//! 01, "The table": a version byte 1, a count of words, the words, all
-//! big-endian, and nothing after.
+//! 01, "The table": a version byte, a count of words, the words, all
+//! big-endian, and nothing after. 02, Item 9: the versions.
 
 use answers::Refusal;
 
-/// The words of a file, or 20, 21 or 22, asked in that order. 20 is asked of
+/// How many sections a file of this version lacks; none for versions not yet
+/// named.
+fn lacking(version: u8) -> Option<usize> {
+    match version {
+        1 => Some(1),
+        2 => Some(0),
+        _ => None,
+    }
+}
+
+/// The words of a file, with a 0 for each section that it lacks, or 20, 21 or 22, asked in that order. 20 is asked of
 /// any file that has a byte.
 fn words_of(file: &[u8], room: usize) -> Result<Vec<u32>, u32> {
     let word = |bytes: &[u8]| u32::from_be_bytes([bytes[0], bytes[1], bytes[2], bytes[3]]);
     let Some((&version, rest)) = file.split_first() else {
         return Err(21);
     };
-    if version != 1 {
+    let Some(lack) = lacking(version) else {
         return Err(20);
-    }
+    };
     if rest.len() < 4 {
         return Err(21);
     }
@@ -21,10 +31,12 @@ fn words_of(file: &[u8], room: usize) -> Result<Vec<u32>, u32> {
     if body.len() as u64 != 4 * u64::from(count) {
         return Err(21);
     }
-    if count as usize > room {
+    let mut words: Vec<u32> = body.chunks_exact(4).map(word).collect();
+    words.resize(words.len() + lack, 0);
+    if words.len() > room {
         return Err(22);
     }
-    Ok(body.chunks_exact(4).map(word).collect())
+    Ok(words)
 }
 
 /// Unpacks a table file: the number of words. Words past the table are zero; after a refusal all
@@ -37,9 +49,14 @@ pub fn unpack(file: &[u8], answer: &mut [u32]) -> Result<usize, Refusal> {
     Ok(words.len())
 }
 
-/// The file of these words.
+/// The file of these words, of the last version.
 pub fn pack(words: &[u32]) -> Vec<u8> {
-    let mut file = vec![1];
+    pack_as(2, words)
+}
+
+/// The same with another version byte.
+pub fn pack_as(version: u8, words: &[u32]) -> Vec<u8> {
+    let mut file = vec![version];
     file.extend((words.len() as u32).to_be_bytes());
     for word in words {
         file.extend(word.to_be_bytes());

@@ -3,7 +3,7 @@
 //! 01 in the comments). It is the reference that the proved engine is compared
 //! with and the baseline for its speed, so it is clear before it is fast.
 //!
-//! * `table`: words to twelve sections, and back.
+//! * `table`: words to thirteen sections, and back.
 //! * `lookup`: what the rules ask a table. `Table` answers by reading from the
 //!   front; `Index` gives the same answers faster.
 //! * `text`: Hangul, classes, decomposition, ordering, composition.
@@ -17,6 +17,7 @@
 //! * `book`: the payee book.
 //! * `keccak`: Keccak-256.
 //! * `namehash`: the name hash of EIP-137.
+//! * `report`: the report of what was typed.
 //! * `trim`: an input without the blanks at its ends.
 //! * `utf8`: bytes to codepoints and back, and the byte form of the name call.
 
@@ -30,6 +31,7 @@ pub mod label;
 pub mod lookup;
 pub mod namehash;
 pub mod ranges;
+pub mod report;
 pub mod soundness;
 pub mod table;
 pub mod text;
@@ -40,11 +42,12 @@ pub mod utf8;
 pub use answers::{Kind, Label, Name, Refusal, Soundness};
 pub use calls::{judge_label, judge_label_with, judge_name, judge_name_with};
 pub use calls::{label, label_with, labels_kinds, name, name_with};
-pub use file::{pack, unpack};
+pub use file::{pack, pack_as, unpack};
 pub use keccak::keccak256;
 pub use label::LabelForm;
 pub use lookup::{Index, Lookup};
 pub use ranges::Ranges;
+pub use report::report;
 pub use soundness::{soundness, soundness_report};
 pub use table::{layout, parse, Group, LayoutFault, Pairs, Record, Table, TableBuilder, Triples, Whole};
 pub use text::{nfc, nfd};
@@ -52,10 +55,10 @@ pub use tokens::{tokens, Token};
 pub use trim::{trim, BLANKS};
 pub use utf8::{name_bytes, utf8_read, utf8_write};
 
-/// The numbers that 01 names, the last three as 02, Item 5 has them.
+/// The numbers that 01 and 02 name.
 pub mod limits {
     /// Words of a table.
-    pub const TABLE_WORDS: usize = 131_072;
+    pub const TABLE_WORDS: usize = 131_073;
     /// Groups of a table.
     pub const GROUPS: usize = 256;
     /// Words that a work area needs.
@@ -64,6 +67,10 @@ pub mod limits {
     pub const INPUT: usize = 16_384;
     /// Worked length of a name.
     pub const WORKED: usize = 4_096;
+    /// Bytes that hold every report: for each codepoint of the input a line with
+    /// two places of at most five digits, and for each of the worked length a
+    /// blank, two braces and eight digits.
+    pub const REPORT: usize = 17 * INPUT + 11 * WORKED;
     /// Non-spacing marks in one run.
     pub const NSM_RUN: usize = 4;
 }

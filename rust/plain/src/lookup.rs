@@ -34,6 +34,8 @@ pub trait Lookup {
     fn group_holds(&self, group: usize, c: u32) -> bool;
     /// The first whole whose confused list holds `c`.
     fn whole_of(&self, c: u32) -> Option<Whole<'_>>;
+    /// Is it shown in braces?
+    fn should_escape(&self, c: u32) -> bool;
 }
 
 /// Is this record a composition pair? 01: "the two-item decompositions whose
@@ -113,6 +115,9 @@ impl Lookup for Table<'_> {
     fn whole_of(&self, c: u32) -> Option<Whole<'_>> {
         self.wholes.iter().find(|w| w.confused.contains(&c)).copied()
     }
+    fn should_escape(&self, c: u32) -> bool {
+        self.escape.holds(c)
+    }
 }
 
 /// The same lookups by maps and sorted ranges, for many names over one table.
@@ -131,6 +136,7 @@ pub struct Index<'t> {
     emoji: HashMap<u32, Vec<usize>>,
     groups: Vec<Ranges>,
     wholes: HashMap<u32, usize>,
+    escape: Ranges,
 }
 
 impl<'t> Index<'t> {
@@ -182,6 +188,7 @@ impl<'t> Index<'t> {
             emoji,
             groups: table.groups.iter().map(|g| Ranges::new(g.pairs.iter())).collect(),
             wholes,
+            escape: Ranges::new(table.escape.iter()),
         }
     }
     pub fn table(&self) -> &'t Table<'t> {
@@ -246,5 +253,8 @@ impl Lookup for Index<'_> {
     }
     fn whole_of(&self, c: u32) -> Option<Whole<'_>> {
         self.wholes.get(&c).map(|&i| self.table.wholes[i])
+    }
+    fn should_escape(&self, c: u32) -> bool {
+        self.escape.holds(c)
     }
 }

@@ -65,6 +65,7 @@ fn scalar_values(table: &Table) -> Option<String> {
         ("fenced", table.fenced),
         ("marks", table.marks),
         ("NSM", table.nsm),
+        ("should-escape", table.escape),
     ];
     for (section, pairs) in pairs.into_iter().chain(table.groups.iter().map(|g| ("groups", g.pairs))) {
         if let Some((first, last)) = pairs.iter().find(|&(first, last)| bad_range(first, last)) {

@@ -1,4 +1,4 @@
-//! 01, "The table": twelve sections of words.
+//! 01, "The table", and 02, Item 9: thirteen sections of words.
 
 use crate::limits;
 
@@ -70,7 +70,7 @@ impl<'a> Whole<'a> {
     }
 }
 
-/// The twelve sections, in their order.
+/// The sections, in their order.
 #[derive(Clone, Debug, PartialEq, Eq)]
 pub struct Table<'a> {
     pub valid: Pairs<'a>,
@@ -85,6 +85,8 @@ pub struct Table<'a> {
     pub classes: Triples<'a>,
     pub groups: Vec<Group<'a>>,
     pub wholes: Vec<Whole<'a>>,
+    /// Should-escape: what is shown in braces.
+    pub escape: Pairs<'a>,
 }
 
 /// Where the layout breaks, and how: for people, not for the calls.
@@ -242,6 +244,7 @@ pub fn layout(words: &[u32]) -> Result<Table<'_>, LayoutFault> {
         classes: all.section("classes")?.triples()?,
         groups: all.section("groups")?.groups()?,
         wholes: all.section("wholes")?.wholes()?,
+        escape: all.section("should-escape")?.all_pairs()?,
     };
     if !all.done() {
         return Err(all.fault("words are left over"));
@@ -270,6 +273,7 @@ impl Table<'_> {
             classes: self.classes.iter().collect(),
             groups: self.groups.iter().map(|g| (g.flags, g.pairs.iter().collect())).collect(),
             wholes: self.wholes.iter().map(|w| (w.valid.to_vec(), w.confused.to_vec())).collect(),
+            escape: self.escape.iter().collect(),
         }
     }
     pub fn to_words(&self) -> Vec<u32> {
@@ -298,11 +302,13 @@ pub struct TableBuilder {
     pub groups: Vec<(u32, Vec<(u32, u32)>)>,
     /// Valid and confused members.
     pub wholes: Vec<(Vec<u32>, Vec<u32>)>,
+    /// Should-escape.
+    pub escape: Vec<(u32, u32)>,
 }
 
 impl TableBuilder {
     /// The words of each section, without the count that leads it.
-    pub fn sections(&self) -> [Vec<u32>; 12] {
+    pub fn sections(&self) -> [Vec<u32>; 13] {
         fn pairs(pairs: &[(u32, u32)]) -> Vec<u32> {
             pairs.iter().flat_map(|&(first, last)| [first, last]).collect()
         }
@@ -342,6 +348,7 @@ impl TableBuilder {
             self.classes.iter().flat_map(|&(first, last, class)| [first, last, class]).collect(),
             groups,
             wholes,
+            pairs(&self.escape),
         ]
     }
 

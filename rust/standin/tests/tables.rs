@@ -21,11 +21,15 @@ fn check(made: &Made, file: &str, most: usize) -> plain::TableBuilder {
 #[test]
 fn full_tab() {
     let made = full();
-    let table = check(&made, "full.tab", 4 * 131_072 + 5);
+    let table = check(&made, "full.tab", 4 * 131_073 + 5);
     println!("full.tab: {} words", made.words.len());
     assert_eq!(table.groups.len(), made.spec.groups.len());
     assert_eq!(table.emoji.len(), made.spec.emoji.len());
     assert!(table.groups.len() > 150 && table.emoji.len() > 3_000 && table.mapped.len() > 5_000);
+    // All of the list is there.
+    let escaped: u32 = table.escape.iter().map(|(first, last)| last - first + 1).sum();
+    assert_eq!(escaped as usize, made.spec.escape.len());
+    assert!(escaped > 200);
     // Every class is under another one's: ranks ascend.
     assert_eq!(table.classes.iter().map(|t| t.2).max(), Some(made.nf.ranks.len() as u32));
 }
@@ -40,6 +44,8 @@ fn names_tab() {
         assert!(groups.contains(&name), "{name}");
     }
     assert!(table.emoji.len() >= 290, "{} emoji", table.emoji.len());
+    // Of the list what can be shown of a name: the joiner of emoji.
+    assert_eq!(table.escape, [(0x200D, 0x200D)]);
 }
 
 /// A damaged entry is named with its rule.

@@ -55,5 +55,5 @@ pub mod limits {
     /// Words that a work area needs.
     pub const WORK_WORDS: usize = 8_192;
     /// Words of the largest table.
-    pub const TABLE_WORDS: usize = 131_072;
+    pub const TABLE_WORDS: usize = 131_073;
 }

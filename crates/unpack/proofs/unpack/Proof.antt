@@ -28,6 +28,9 @@ returns c =
     let s = c .before .before .before .before in
     file-refused _ (s .match .keys2) (s .before .inspect .ensures) (c .before .before .clear .ensures)
 
+sub-held : tie.Need-sub-held
+sub-held c = omega (arith, found c .long)
+
 clear-requires-2 : tie.Need-clear-requires-2
 clear-requires-2 c κs = search needs
 
@@ -49,16 +52,16 @@ part-copy-words-end : tie.Need-part-copy-words-end
 part-copy-words-end c = search needs
 
 copy-words-requires : tie.Need-copy-words-requires
-copy-words-requires c κs = (holds-rest _ _ (found (c .before .before .before)), omega arith)
+copy-words-requires c κs = (holds-rest _ _ (found (c .before .before .before)), omega (arith, found (c .before .before .before) .sum))
 
 mul-clear : tie.Need-mul-clear
 mul-clear c = search needs
 
 sub-clear : tie.Need-sub-clear
-sub-clear c = search needs
+sub-clear c = omega (arith, found (c .before .before .before .before .before .before) .sum)
 
 part-clear-start : tie.Need-part-clear-start
-part-clear-start c = search needs
+part-clear-start c = omega (arith, found (c .before .before .before .before .before .before) .sum)
 
 part-clear-end : tie.Need-part-clear-end
 part-clear-end c = search needs
@@ -83,6 +86,7 @@ unpack-spec =
     clear-requires
     same-length
     returns
+    sub-held
     clear-requires-2
     same-length-2
     returns-2

@@ -1,4 +1,4 @@
--- `tokens::emoji::find` meets its contract: what is found in the emoji section is what the table has. Assumes nothing.
+-- `finder::emoji::find` meets its contract: what is found in the emoji section is what the table has. Assumes nothing.
 use native.Mathlib.Omega.{arith}
 use borrow.Author.Needs.{needs}
 use Rattle.table.proofs.SectionLaws.{laid-fits}

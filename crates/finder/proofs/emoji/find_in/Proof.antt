@@ -1,4 +1,4 @@
--- `tokens::emoji::find_in` meets its contract: the loop keeps the best match of the records before, and the records that are left. Assumes nothing.
+-- `finder::emoji::find_in` meets its contract: the loop keeps the best match of the records before, and the records that are left. Assumes nothing.
 use Prim.Native.Nat.{_-_}
 use native.Mathlib.Omega.{arith}
 use mathlib.Core.Path.{sym, _∙_}

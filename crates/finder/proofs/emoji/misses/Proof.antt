@@ -1,4 +1,4 @@
--- `tokens::emoji::misses` meets its contract. Assumes nothing.
+-- `finder::emoji::misses` meets its contract. Assumes nothing.
 use native.Mathlib.Omega.{arith}
 use borrow.Author.Needs.{needs}
 use Rattle.finder.proofs.Taking.{misses-selector, misses-empty, misses-first}

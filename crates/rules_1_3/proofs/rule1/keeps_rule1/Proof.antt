@@ -1,7 +1,10 @@
--- `rules_1_3::rule1::keeps_rule1` meets its contract: rule 1 is the three parts. Assumes nothing.
+-- `rules_1_3::rule1::keeps_rule1` meets its contract: rule 1 is its parts. Assumes nothing.
 use mathlib.Core.Path.{sym, _∙_}
 use borrow.Author.Tests.{not-true, not-false}
+use Rattle.soundness.specs.Scalars.{scalarsBetween}
+use Rattle.table.proofs.SectionLaws.{laid-fits, laid-reads}
 use Rattle.sound_parts.proofs.ScalarLaws.{rule1-parts}
+use Rattle.sound_parts.proofs.Walks.{pairs-all}
 use Rattle.rules_1_3.proofs.rule1.keeps_rule1.Statement.{statement}
 use Rattle.rules_1_3.proofs.rule1.keeps_rule1.Tie as tie
 
@@ -23,7 +26,15 @@ scalar-others-requires c κs = c .before .before .before .before .before .pre
 
 returns-3 : tie.Need-returns-3
 returns-3 c =
-    rw (rule1-parts _, sym (c .before .before .before .before .scalar-ranges .ensures) ∙ not-false _ (c .before .before .before .if1 .left), sym (c .before .before .scalar-records .ensures) ∙ not-false _ (c .before .if2 .left)) (c .scalar-others .ensures)
+    rw (rule1-parts _, sym (c .before .before .before .before .before .scalar-ranges .ensures) ∙ not-false _ (c .before .before .before .before .if1 .left), sym (c .before .before .before .scalar-records .ensures) ∙ not-false _ (c .before .before .if2 .left), sym (c .before .scalar-others .ensures) ∙ not-true _ (c .if3 .taken))
+
+scalar-pairs-of-requires : tie.Need-scalar-pairs-of-requires
+scalar-pairs-of-requires c κs = laid-fits _ _ (c .before .before .before .before .before .before .before .pre) .escape
+
+returns-4 : tie.Need-returns-4
+returns-4 c =
+    rw (rule1-parts _, sym (c .before .before .before .before .before .before .scalar-ranges .ensures) ∙ not-false _ (c .before .before .before .before .before .if1 .left), sym (c .before .before .before .before .scalar-records .ensures) ∙ not-false _ (c .before .before .before .if2 .left), sym (c .before .before .scalar-others .ensures) ∙ not-false _ (c .before .if3 .left))
+    (c .scalar-pairs-of .ensures ∙ pairs-all scalarsBetween _ _ (laid-reads _ _ (c .before .before .before .before .before .before .before .before .pre) .escape))
 
 pub keeps-rule1-spec : {M : Type 1} → statement M
 keeps-rule1-spec =
@@ -34,4 +45,6 @@ keeps-rule1-spec =
     scalar-records-requires
     returns-2
     scalar-others-requires
-    returns-3)
+    returns-3
+    scalar-pairs-of-requires
+    returns-4)

@@ -39,9 +39,13 @@ groups-in-requires c κs = c .before .before .before .before .before .before .be
 records-in-requires-10 : tie.Need-records-in-requires-10
 records-in-requires-10 c κs = c .before .before .before .before .before .before .before .before .before .before .before .before .pre .wholes
 
+records-in-requires-11 : tie.Need-records-in-requires-11
+records-in-requires-11 c κs = c .before .before .before .before .before .before .before .before .before .before .before .before .before .pre .escape
+
 returns : tie.Need-returns
 returns c =
-    let c11 = c .before in
+    let c12 = c .before in
+    let c11 = c12 .before in
     let c10 = c11 .before in
     let c9 = c10 .before in
     let c8 = c9 .before in
@@ -53,7 +57,7 @@ returns c =
     let c2 = c3 .before in
     let c1 = c2 .before in
     let s = c1 .before .before .args in
-    all-fit-chain (s .words .now) (s .ix) _ _ _ _ _ _ _ _ _ _ _ _ (c1 .records-in .ensures) (c2 .records-in2 .ensures) (c3 .records-in3 .ensures) (c4 .records-in4 .ensures) (c5 .records-in5 .ensures) (c6 .records-in6 .ensures) (c7 .records-in7 .ensures) (c8 .records-in8 .ensures) (c9 .excluded-in .ensures) (c10 .records-in9 .ensures) (c11 .groups-in .ensures) (c .records-in10 .ensures)
+    all-fit-chain (s .words .now) (s .ix) _ _ _ _ _ _ _ _ _ _ _ _ _ (c1 .records-in .ensures) (c2 .records-in2 .ensures) (c3 .records-in3 .ensures) (c4 .records-in4 .ensures) (c5 .records-in5 .ensures) (c6 .records-in6 .ensures) (c7 .records-in7 .ensures) (c8 .records-in8 .ensures) (c9 .excluded-in .ensures) (c10 .records-in9 .ensures) (c11 .groups-in .ensures) (c12 .records-in10 .ensures) (c .records-in11 .ensures)
 
 pub all-fit-spec : {M : Type 1} → statement M
 all-fit-spec =
@@ -71,4 +75,5 @@ all-fit-spec =
     records-in-requires-9
     groups-in-requires
     records-in-requires-10
+    records-in-requires-11
     returns)

@@ -1,0 +1,139 @@
+-- Files of version 1: the table that 01 alone reads from one, with the should-escape section empty, is the table that it unpacks to. 02,
+-- Item 9. Assumes nothing.
+use Prim.Native.Nat.{ℕ, zero, suc, _≤_}
+use native.Mathlib.Omega.{arith}
+use mathlib.Core.Path.{_≡_, refl, sym, ap, _∙_}
+use mathlib.Core.Bool.{Bool, true, false}
+use mathlib.Core.List.{List, [], _∷_, _++_}
+use mathlib.Core.Option.{Option, none, some, Option·some-injective, Option·none-ne-some, Option·map}
+use lib.ListN.{length, getD, take, drop, length-append, List·getD-eq-default}
+use lib.Seq.{take-append-le, drop-append-le}
+use lib.Dec.{leb}
+use borrow.Author.Tests.{leb-true, le-leb}
+use Rattle.lists.specs.Lists.{andThen}
+use Rattle.lists.specs.Laws.{then-some}
+use Rattle.answers.specs.Verdict.{accepted}
+use Rattle.table.specs.Table.{Range, Table}
+use Rattle.table.specs.Layout.{onlyIf, inFront, sectionCount, mostItems, mostParts, mostGroups, mostWords, sections, ranges, classRanges, headed, sequences, excluded, groups, wholes, tableOf, parse}
+use Rattle.unpack.specs.Unpack.{counted, fileWords}
+
+-- 01's reading of words: "twelve sections, in this order", and "the whole at most 131,072 words". The section that is not there reads as an empty
+-- one.
+unfoldable pub parse01 : List ℕ → Option Table
+unfolding sections tableOf
+parse01 ws = onlyIf (leb (length ws) 131072) (andThen (sections 12 ws) tableOf)
+
+-- an empty section behind k sections
+sections-more : (k : ℕ) (ws : List ℕ) (ss : List (List ℕ)) → sections k ws ≡ some ss → sections (suc k) (ws ++ 0 ∷ []) ≡ some (ss ++ [] ∷ [])
+unfolding sections
+sections-more zero [] ss e = rw (← Option·some-injective [] ss e)
+sections-more zero (w ∷ ws) ss e = absurd (Option·none-ne-some ss e)
+sections-more (suc k) [] ss e = absurd (Option·none-ne-some ss e)
+sections-more (suc k) (n ∷ ws) ss e = go (λ rest q. sections-more k (drop n ws) rest q) (leb n (length ws)) refl (sections k (drop n ws)) refl e
+  where
+    go : ((rest : List (List ℕ)) → sections k (drop n ws) ≡ some rest → sections (suc k) (drop n ws ++ 0 ∷ []) ≡ some (rest ++ [] ∷ [])) → (b : Bool) → leb n (length ws) ≡ b → (o : Option (List (List ℕ))) → sections k (drop n ws) ≡ o → onlyIf b (inFront (take n ws) o) ≡ some ss
+        → sections (suc (suc k)) (n ∷ ws ++ 0 ∷ []) ≡ some (ss ++ [] ∷ [])
+    go ih true t (some rest) q h =
+        let fits : n ≤ length ws = leb-true n (length ws) t in
+        let more : leb n (length (ws ++ 0 ∷ [])) ≡ true = le-leb n (length (ws ++ 0 ∷ [])) (omega (arith, length-append ws (0 ∷ []))) in
+        let s : take n ws ∷ rest ≡ ss = Option·some-injective (take n ws ∷ rest) ss h in
+        rw (more, take-append-le n ws (0 ∷ []) fits, drop-append-le n ws (0 ∷ []) fits, ih rest q, ← s)
+    go ih true t none q h = absurd (Option·none-ne-some ss h)
+    go ih false t o q h = absurd (Option·none-ne-some ss h)
+
+-- an empty part behind the others is what is read there anyway
+part-more : (ss : List (List ℕ)) (k : ℕ) → getD (ss ++ [] ∷ []) k [] ≡ getD ss k []
+part-more [] zero = refl
+part-more [] (suc k) = refl
+part-more (s ∷ ss) zero = refl
+part-more (s ∷ ss) (suc k) = part-more ss k
+
+table-more : (ss : List (List ℕ)) → tableOf (ss ++ [] ∷ []) ≡ tableOf ss
+unfolding tableOf
+table-more ss =
+    rw (part-more ss 0, part-more ss 1, part-more ss 2, part-more ss 3, part-more ss 4, part-more ss 5, part-more ss 6, part-more ss 7, part-more ss 8, part-more ss 9, part-more ss 10, part-more ss 11, part-more ss 12)
+
+-- what 01 reads is read again once the word 0 is added
+pub older-same : (ws : List ℕ) (t : Table) → parse01 ws ≡ some t → parse (ws ++ 0 ∷ []) ≡ some t
+unfolding parse01 parse
+older-same ws t e = go (leb (length ws) 131072) refl e
+  where
+    go : (b : Bool) → leb (length ws) 131072 ≡ b → onlyIf b (andThen (sections 12 ws) tableOf) ≡ some t → onlyIf (leb (length (ws ++ 0 ∷ [])) mostWords) (andThen (sections sectionCount (ws ++ 0 ∷ [])) tableOf) ≡ some t
+    go true s h =
+        let small : leb (length (ws ++ 0 ∷ [])) mostWords ≡ true = le-leb (length (ws ++ 0 ∷ [])) mostWords (omega (arith, leb-true (length ws) 131072 s, length-append ws (0 ∷ []))) in
+        then-some (sections 12 ws) tableOf t h λ ss q r. rw (small, sections-more 12 ws ss q) (table-more ss ∙ r)
+    go false s h = absurd (Option·none-ne-some t h)
+
+-- k sections are k lists
+sections-many : (k : ℕ) (ws : List ℕ) (ss : List (List ℕ)) → sections k ws ≡ some ss → length ss ≡ k
+unfolding sections
+sections-many zero [] ss e = rw (← Option·some-injective [] ss e)
+sections-many zero (w ∷ ws) ss e = absurd (Option·none-ne-some ss e)
+sections-many (suc k) [] ss e = absurd (Option·none-ne-some ss e)
+sections-many (suc k) (n ∷ ws) ss e = go (λ rest q. sections-many k (drop n ws) rest q) (leb n (length ws)) (sections k (drop n ws)) refl e
+  where
+    go : ((rest : List (List ℕ)) → sections k (drop n ws) ≡ some rest → length rest ≡ k) → (b : Bool) (o : Option (List (List ℕ))) → sections k (drop n ws) ≡ o → onlyIf b (inFront (take n ws) o) ≡ some ss → length ss ≡ suc k
+    go ih true (some rest) q h = rw (← Option·some-injective (take n ws ∷ rest) ss h) (ap suc (ih rest q))
+    go ih true none q h = absurd (Option·none-ne-some ss h)
+    go ih false o q h = absurd (Option·none-ne-some ss h)
+
+-- the should-escape section is what part 12 spells
+escape-of : (rs : List Range) (u t : Table) → some u ≡ some t → u .escape ≡ rs → t .escape ≡ rs
+escape-of rs u t e q = rw (← Option·some-injective u t e) q
+
+escape-read : (ss : List (List ℕ)) (t : Table) → tableOf ss ≡ some t → ranges (getD ss 12 []) ≡ some (t .escape)
+unfolding tableOf
+escape-read ss t e =
+    then-some (ranges (getD ss 0 [])) _ t e λ v0 q0 e0.
+    then-some (ranges (getD ss 1 [])) _ t e0 λ v1 q1 e1.
+    then-some (ranges (getD ss 2 [])) _ t e1 λ v2 q2 e2.
+    then-some (ranges (getD ss 3 [])) _ t e2 λ v3 q3 e3.
+    then-some (ranges (getD ss 4 [])) _ t e3 λ v4 q4 e4.
+    then-some (headed (length (getD ss 5 [])) mostItems (getD ss 5 [])) _ t e4 λ v5 q5 e5.
+    then-some (headed (length (getD ss 6 [])) mostParts (getD ss 6 [])) _ t e5 λ v6 q6 e6.
+    then-some (sequences (length (getD ss 7 [])) (getD ss 7 [])) _ t e6 λ v7 q7 e7.
+    then-some (excluded (getD ss 8 [])) _ t e7 λ v8 q8 e8.
+    then-some (classRanges (getD ss 9 [])) _ t e8 λ v9 q9 e9.
+    then-some (groups (length (getD ss 10 [])) (getD ss 10 [])) _ t e9 λ v10 q10 e10.
+    then-some (wholes (length (getD ss 11 [])) (getD ss 11 [])) _ t e10 λ v11 q11 e11.
+    then-some (ranges (getD ss 12 [])) _ t e11 λ v12 q12 e12.
+    q12 ∙ ap some (sym (escape-of v12 _ t (only-some (leb (length v10) mostGroups) _ t e12) refl))
+  where
+    only-some : {A : Type 0} (b : Bool) (o : Option A) (a : A) → onlyIf b o ≡ some a → o ≡ some a
+    only-some true o a h = h
+    only-some false o a h = absurd (Option·none-ne-some a h)
+
+-- what 01 reads has nothing to show in braces
+pub older-empty : (ws : List ℕ) (t : Table) → parse01 ws ≡ some t → t .escape ≡ []
+unfolding parse01 ranges
+older-empty ws t e = go (leb (length ws) 131072) e
+  where
+    go : (b : Bool) → onlyIf b (andThen (sections 12 ws) tableOf) ≡ some t → t .escape ≡ []
+    go true h =
+        then-some (sections 12 ws) tableOf t h λ ss q r.
+        let past : getD ss 12 [] ≡ [] = List·getD-eq-default ss [] {n = 12} (omega (arith, sections-many 12 ws ss q)) in
+        sym (Option·some-injective [] (t .escape) (sym (ap ranges past) ∙ escape-read ss t r))
+    go false h = absurd (Option·none-ne-some t h)
+
+-- A file of version 1 that 01 reads as a table: what it unpacks to is that table, and its should-escape section is empty.
+pub record OldFile (rest : List ℕ) (t : Table) : Type 0 where
+  pub words : List ℕ
+  pub unpacks : fileWords (1 ∷ rest) ≡ accepted words
+  pub holds : parse words ≡ some t
+  pub empty : t .escape ≡ []
+
+pub old-file : (rest ws : List ℕ) (t : Table) → counted rest ≡ accepted ws → parse01 ws ≡ some t → OldFile rest t
+unfolding fileWords
+old-file rest ws t c e = record { words = ws ++ 0 ∷ []; unpacks = rw c; holds = older-same ws t e; empty = older-empty ws t e }
+
+-- A file whose words 01 does not read can become a table by the added word: eight empty sections, 1 0, three empty sections and 2 0.
+abbrev odd : List ℕ
+odd = 0 ∷ 0 ∷ 0 ∷ 0 ∷ 0 ∷ 0 ∷ 0 ∷ 0 ∷ 1 ∷ 0 ∷ 0 ∷ 0 ∷ 0 ∷ 2 ∷ 0 ∷ []
+
+pub odd-fault : parse01 odd ≡ none
+unfolding parse01
+odd-fault = refl
+
+pub odd-file : Option·map (λ (t : Table). t .escape) (parse (odd ++ 0 ∷ [])) ≡ some (record { first = 0; last = 0 } ∷ [])
+unfolding parse
+odd-file = refl

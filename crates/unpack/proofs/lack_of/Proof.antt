@@ -1,0 +1,17 @@
+-- `lack_of`: a row for each version, and none for the others. Assumes nothing.
+use borrow.Author.Needs.{needs}
+use Rattle.unpack.proofs.File.{not-named}
+use Rattle.unpack.proofs.lack_of.Statement.{statement}
+use Rattle.unpack.proofs.lack_of.Tie as tie
+
+returns : tie.Need-returns
+returns c = search needs
+
+returns-2 : tie.Need-returns-2
+returns-2 c = search needs
+
+returns-3 : tie.Need-returns-3
+returns-3 c = not-named _ (c .match .rest .0 .1) (c .match .rest .1)
+
+pub lack-of-spec : {M : Type 1} → statement M
+lack-of-spec = tie.close (tie.spec returns returns-2 returns-3)

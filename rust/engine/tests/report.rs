@@ -1,0 +1,213 @@
+//! The report beside the plain version: the answer, every byte of the buffer and
+//! every word of the work area.
+
+use compare::{say, Tally};
+use engine::report::report;
+use gen::{Rng, Vocabulary};
+use plain::limits::{INPUT, REPORT, WORK_WORDS};
+use plain::{parse, Refusal, TableBuilder};
+
+/// What was met.
+#[derive(Default)]
+struct Met {
+    calls: u64,
+    accepted: u64,
+    refused: Tally,
+    lines: u64,
+    emoji: u64,
+    braces: u64,
+    /// Lines of emoji tokens without a codepoint.
+    empty: u64,
+    /// Two emoji lines, one behind the other, in one label.
+    side_by_side: u64,
+    /// An ignored codepoint first in a label, behind a text, and last.
+    ignored: [u64; 3],
+}
+
+/// One call by both, with marks in the buffers; the report, or the refusal.
+fn compared(name: &[u32], table: &[u32], setting: u32, room: usize, work: usize) -> Result<String, Refusal> {
+    let (mut out, mut area) = (vec![0xA5; room], vec![0x5A5A_5A5A; work]);
+    let (mut due_out, mut due_area) = (vec![0x3C; room], vec![7; work]);
+    let given = report(name, table, setting, &mut out, &mut area);
+    let due = plain::report(name, table, setting, &mut due_out, &mut due_area);
+    assert_eq!(given.answer(), due, "name {name:X?}, room {room}, work area {work}, table {table:X?}");
+    assert!(out == due_out, "bytes: name {name:X?}, room {room}, table {table:X?}");
+    assert!(area == due_area, "work area: name {name:X?}");
+    if due.is_err() {
+        assert_eq!(given.length, 0);
+    }
+    due.map(|length| String::from_utf8(out[..length].to_vec()).expect("ASCII"))
+}
+
+impl Met {
+    fn add(&mut self, answer: &Result<String, Refusal>) {
+        self.calls += 1;
+        match answer {
+            Ok(text) => {
+                self.accepted += 1;
+                self.count(text);
+            }
+            Err(refusal) => self.refused.add(refusal.number),
+        }
+    }
+
+    fn count(&mut self, text: &str) {
+        let mut before: Option<(&str, usize)> = None;
+        for line in text.lines() {
+            let words: Vec<&str> = line.split(' ').collect();
+            let (start, end): (usize, usize) = (words[1].parse().expect("a place"), words[2].parse().expect("a place"));
+            assert!(start < end && before.is_none_or(|(_, at)| at == start || at + 1 == start), "{text}");
+            self.lines += 1;
+            self.emoji += u64::from(words[0] == "emoji");
+            self.empty += u64::from(words.len() == 3);
+            self.braces += u64::from(line.contains('{'));
+            self.side_by_side += u64::from(words[0] == "emoji" && before == Some(("emoji", start)));
+            before = Some((words[0], end));
+        }
+    }
+}
+
+/// The room for a report: much, little, or nearly the right one.
+fn room(rng: &mut Rng, name: &[u32], table: &[u32], setting: u32) -> usize {
+    let due =
+        || parse(table).and_then(|t| plain::report::report_by(&t, setting, name).ok()).map_or(0, |text| text.len());
+    match rng.below(10) {
+        0 => rng.below(12),
+        1 => due().saturating_sub(1),
+        2 => due(),
+        3 => due() + rng.below(40),
+        _ => 400 + 60 * name.len(),
+    }
+}
+
+/// Random tables, sound or not, damaged ones too, and names over them.
+#[test]
+fn random_names() {
+    let mut met = Met::default();
+    for seed in 9_000_000..9_002_000 {
+        let mut rng = Rng::new(seed);
+        let made = gen::table(&mut rng);
+        let vocabulary = Vocabulary::new(&mut rng, &made.builder);
+        for _ in 0..100 {
+            let name = vocabulary.name(&mut rng);
+            let setting = [0, 0, 1, 7][rng.below(4)];
+            let room = room(&mut rng, &name, &made.words, setting);
+            let work = if rng.percent(2) { rng.below(WORK_WORDS) } else { WORK_WORDS + rng.below(9) };
+            met.add(&compared(&name, &made.words, setting, room, work));
+            for label in name.split(|&c| c == plain::STOP) {
+                let ignored = |at: Option<&u32>| at.is_some_and(|c| [0xAD, 0xFE0E, 0x34F, 0xFE0F].contains(c));
+                met.ignored[0] += u64::from(ignored(label.first()));
+                met.ignored[1] += u64::from(label.len() > 2 && ignored(label.get(1)));
+                met.ignored[2] += u64::from(ignored(label.last()));
+            }
+        }
+    }
+    say(format!(
+        "report: calls {}, accepted {}, lines {}, of emoji {}, side by side {}, empty {}, with braces {}; refused{}",
+        met.calls, met.accepted, met.lines, met.emoji, met.side_by_side, met.empty, met.braces, met.refused
+    ));
+    for number in (1..=14).chain([17, 32]) {
+        assert!(met.refused.of(number) >= 500, "refusal {number}: {}", met.refused.of(number));
+    }
+    assert_eq!(met.refused.of(15), 0);
+    assert!(met.accepted >= 40_000 && met.emoji >= 20_000 && met.side_by_side >= 2_000 && met.braces >= 5_000);
+    assert!(met.empty >= 500 && met.ignored.iter().all(|&count| count >= 500), "{:?}", met.ignored);
+}
+
+/// A table that ignores AD, knows 1F4A9 and the family, and escapes 200D.
+fn table() -> TableBuilder {
+    TableBuilder {
+        valid: vec![(0x61, 0x7A), (0x301, 0x301), (0xE1, 0xE1)],
+        ignored: vec![(0xAD, 0xAD)],
+        mapped: vec![(0x41, vec![0x61, 0x62])],
+        decompositions: vec![(0xE1, vec![0x61, 0x301])],
+        emoji: vec![vec![0x1F468, 0xFE0F, 0x200D, 0x2764], vec![0x1F4A9]],
+        classes: vec![(0x301, 0x301, 230)],
+        groups: vec![(2, vec![(0x61, 0x7A), (0x301, 0x301), (0xE1, 0xE1)])],
+        escape: vec![(0x200D, 0x200D), (0x78, 0x79)],
+        ..TableBuilder::default()
+    }
+}
+
+/// What is ignored first, between and last; emoji side by side; braces; what is
+/// composed from both sides of an ignored codepoint.
+#[test]
+fn places() {
+    let words = table().to_words();
+    let report = |name: &[u32]| compared(name, &words, 0, 300, WORK_WORDS);
+    assert_eq!(report(&[]), Ok(String::new()));
+    assert_eq!(report(&[0xAD, 0xAD, 0x41, 0xAD, 0x63, 0xAD]), Ok("text 0 6 61 62 63\n".into()));
+    assert_eq!(report(&[0x61, 0xAD, 0x301]), Ok("text 0 3 E1\n".into()));
+    let name =
+        [0xAD, 0x1F4A9, 0x1F4A9, 0xAD, 0x1F468, 0x200D, 0x2764, 0xAD, 0x78, 0xAD, 0x2E, 0xAD, 0x7A, 0x1F4A9, 0xAD];
+    let due = "emoji 0 2 1F4A9\nemoji 2 4 1F4A9\nemoji 4 8 1F468 {200D} 2764\ntext 8 10 {78}\ntext 11 13 7A\nemoji 13 15 1F4A9\n";
+    assert_eq!(report(&name), Ok(due.into()));
+    // A room of every size: 32 below the length, and the report from there on.
+    for room in 0..due.len() + 3 {
+        let given = compared(&name, &words, 0, room, WORK_WORDS);
+        assert_eq!(given.is_ok(), room >= due.len(), "{room}");
+        assert!(given.is_ok() || given == Err(Refusal::new(32, 0)));
+    }
+    assert_eq!(report(&[0xAD]), Err(Refusal::new(6, 0)));
+}
+
+/// 32 is judged last: a later label's refusal comes before it.
+#[test]
+fn room_is_judged_last() {
+    let words = table().to_words();
+    assert_eq!(compared(&[0x61, 0x2E, 0x40], &words, 0, 0, WORK_WORDS), Err(Refusal::new(5, 2)));
+    assert_eq!(compared(&[0x61, 0x2E, 0x2E, 0x61], &words, 0, 3, WORK_WORDS), Err(Refusal::new(6, 1)));
+    assert_eq!(compared(&[0x61, 0x2E, 0x61], &words, 0, 0, WORK_WORDS), Err(Refusal::new(32, 0)));
+    assert_eq!(compared(&[0x61], &words, 0, 0, WORK_WORDS - 1), Err(Refusal::new(2, 0)));
+    assert_eq!(compared(&[0x61], &words[1..], 0, 0, 0), Err(Refusal::new(1, 0)));
+}
+
+/// As many tokens as an input has codepoints, all empty; and numbers that are no
+/// scalar values, which an unsound table may give.
+#[test]
+fn unsound_tables() {
+    let all = vec![(0x61, 0x7A), (0, 0), (u32::MAX - 1, u32::MAX)];
+    let b = TableBuilder {
+        valid: all.clone(),
+        mapped: vec![(0x41, vec![0, u32::MAX]), (0x42, vec![0x11_0000])],
+        emoji: vec![vec![0xFE0F], vec![0xFE0F, 0x1F600]],
+        groups: vec![(2, all), (2, vec![(0x11_0000, 0x11_0000)])],
+        escape: vec![(u32::MAX, u32::MAX)],
+        ..TableBuilder::default()
+    };
+    let words = b.to_words();
+    let report = |name: &[u32]| compared(name, &words, 0, REPORT, WORK_WORDS);
+    assert_eq!(report(&[0xFE0F, 0xFE0F, 0x61]), Ok("emoji 0 1\nemoji 1 2\ntext 2 3 61\n".into()));
+    assert_eq!(report(&[0x41]), Ok("text 0 1 0 {FFFFFFFF}\n".into()));
+    assert_eq!(report(&[0x42]), Ok("text 0 1 110000\n".into()));
+    let text = report(&[0xFE0F; INPUT]).expect("accepted");
+    assert_eq!((text.lines().count(), text.lines().last()), (INPUT, Some(&*format!("emoji {} {INPUT}", INPUT - 1))));
+    assert!(text.len() <= REPORT);
+    assert_eq!(compared(&[0xFE0F; INPUT], &words, 0, text.len() - 1, WORK_WORDS), Err(Refusal::new(32, 0)));
+    // Emoji, empty ones and text by turns, to the last place.
+    let mut rng = Rng::new(5);
+    for length in [1, 9, 10, 11, 99, 100, 101, 999, 1_000, 1_001, INPUT] {
+        let name: Vec<u32> = (0..length).map(|_| *rng.pick(&[0xFE0F, 0xFE0F, 0xFE0F, 0xFE0F, 0x61, 0x1F600])).collect();
+        report(&name).ok();
+    }
+}
+
+/// The longest report keeps within the room that the header names.
+#[test]
+fn the_most_bytes() {
+    let header = include_str!("../../../include/wanlopheng.h");
+    assert!(header.contains(&format!("WANLOPHENG_REPORT_BYTES {REPORT} ")));
+    let b = TableBuilder {
+        valid: vec![(0x1_0000, 0x1_FFFF)],
+        mapped: vec![(0x61, vec![u32::MAX]), (0x62, vec![u32::MAX; 2])],
+        emoji: vec![vec![0xFE0F]],
+        groups: vec![(2, vec![(0x1_0000, 0x1_FFFF), (u32::MAX, u32::MAX)])],
+        escape: vec![(0, u32::MAX)],
+        ..TableBuilder::default()
+    };
+    let words = b.to_words();
+    let name: Vec<u32> = (0..INPUT).map(|i| if i % 4 == 0 { 0x61 } else { 0xFE0F }).collect();
+    let text = compared(&name, &words, 0, REPORT, WORK_WORDS).expect("accepted");
+    say(format!("the longest report tried: {} bytes of {REPORT}", text.len()));
+    assert!(text.len() > 60_000);
+}
