@@ -26,6 +26,8 @@ extern "C" {
 #define WANLOPHENG_TABLE_WORDS 131073  /* the largest table */
 #define WANLOPHENG_FILE_BYTES 524297   /* its file */
 #define WANLOPHENG_BOOK_WORDS 16912    /* the area of a payee book */
+#define WANLOPHENG_MOVED_WORDS 128     /* a list of this size holds an entry for every slot */
+#define WANLOPHENG_GROUPS 256          /* a list of this size holds every group */
 #define WANLOPHENG_REPORT_BYTES 323584 /* a buffer of this size holds every report */
 
 /* The numbers of the refusals; wanlopheng_text.h has these texts for a screen. */
@@ -53,6 +55,7 @@ enum wanlopheng_refusal {
     WANLOPHENG_ILL_FORMED = 30,     /* bytes that are no UTF-8 */
     WANLOPHENG_UTF8_ANSWER = 31,    /* UTF-8: the answer buffer is too small */
     WANLOPHENG_REPORT_ROOM = 32,    /* the report is longer than its buffer */
+    WANLOPHENG_LIST_TOO_SMALL = 33, /* the list is too small */
     WANLOPHENG_BOOK_SIZE = 40, /* the area of the payee book has another size */
     WANLOPHENG_BOOK_DAMAGED = 41, /* the payee book is damaged */
     WANLOPHENG_BOOK_EMPTY_FORM = 42, /* the normal form is empty */
@@ -224,6 +227,26 @@ struct wanlopheng_book wanlopheng_forget(const uint32_t *name, size_t name_lengt
 /* Clears every slot, of a damaged book too, and both buffers, which may be of any length. It refuses 40 alone, and clears both then too. */
 struct wanlopheng_book wanlopheng_reset(uint32_t *area, size_t area_length, uint32_t *answer, size_t answer_length, uint32_t *work,
                                         size_t work_length);
+
+/* What a call that fills a list answers. After success the list holds the entries and then zeros, after a refusal zeros alone; the work area
+ * holds zeros either way. */
+struct wanlopheng_list {
+    uint32_t number; /* 0: done. 33, the last: the list is too small. The others stand at each call. */
+    size_t place;    /* that of a refusal of the label call, else 0 */
+    size_t entries;  /* how many entries the list holds; 0 beside a refusal */
+};
+
+/* Lists the slots of a payee book that a new table would file differently, ascending, two words each: the slot's number from 0, and the number
+ * of the refusal, 0 where the name gets another normal form, 42 or 43 where that is empty or too long for a slot. Refusals: 40, 41, 1, 2, 33.
+ * The area is only read. */
+struct wanlopheng_list wanlopheng_moved(const uint32_t *area, size_t area_length, const uint32_t *words, size_t words_length,
+                                        uint32_t *list, size_t list_length, uint32_t *work, size_t work_length);
+
+/* Lists the groups in which a label could be respelled, by their numbers from 0, ascending, one word each: there are some exactly where the
+ * label call refuses it as 14. Refusals: those of the label call before 14, then 33. */
+struct wanlopheng_list wanlopheng_respelled(const uint32_t *label, size_t label_length, const uint32_t *words, size_t words_length,
+                                            uint32_t *list, size_t list_length, uint32_t *work, size_t work_length);
+
 /* The state of a sponge of Keccak-256. It goes in and comes back by value: keep what a call gives, and hand it to the next. Every value is
  * a state, the fill counting modulo 136. */
 struct wanlopheng_sponge {

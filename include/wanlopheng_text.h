@@ -29,6 +29,7 @@ static inline const char *wanlopheng_text(uint32_t number) {
     case 30: return "bytes that are no UTF-8";
     case 31: return "UTF-8: the answer buffer is too small";
     case 32: return "the report is longer than its buffer";
+    case 33: return "the list is too small";
     case 40: return "the area of the payee book has another size";
     case 41: return "the payee book is damaged";
     case 42: return "the normal form is empty";

@@ -24,7 +24,7 @@ fn main() {
     let root = root.canonicalize().unwrap_or(root);
     let dir = root.join("target/staticlib");
     println!("cargo::rustc-link-search=native={}", dir.display());
-    for name in ["boundary", "book_boundary", "report_boundary", "normal_forms"] {
+    for name in ["boundary", "book_boundary", "listing_boundary", "report_boundary", "normal_forms"] {
         let how = format!("run `rt staticlib {name}` in {}, or set WANLOPHENG_LIB_DIR", root.display());
         link(&dir, name, &how);
     }

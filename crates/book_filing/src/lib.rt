@@ -25,7 +25,7 @@ pub enum Filing {
 }
 
 // 40, then 41.
-fn open(area: &[u32]) -> Opening
+pub fn open(area: &[u32]) -> Opening
     ensures { λ r. ⌜ OpeningIs (now (area .entry)) r ⌝ }
 {
     if area.len() != AREA {

@@ -178,7 +178,7 @@ answers-same setting words (c ∷ cs) l area m h =
 abbrev pub zeroed : List ℕ → List ℕ
 zeroed front = front ++ replicate (slotSize * slotCount) 0
 
-zeroed-holds : (front : List ℕ) → length front ≡ frontSize → Holds (zeroed front) []
+pub zeroed-holds : (front : List ℕ) → length front ≡ frontSize → Holds (zeroed front) []
 zeroed-holds front h =
     let words : drop frontSize (zeroed front) ≡ joinedMap inSlot (replicate slotCount emptySlot) =
     drop-at front (replicate (slotSize * slotCount) 0) frontSize h ∙ zeros-slots slotCount in

@@ -2,7 +2,7 @@
 use answers::Kind;
 use answers::Refusal;
 
-mod cells;
+pub mod cells;
 pub mod judging;
 
 // The verdict on the tokens of a label.

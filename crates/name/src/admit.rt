@@ -24,7 +24,7 @@ pub enum Admission {
 }
 
 // The first codepoint that is no scalar value.
-fn first_not_scalar(input: &[u32]) -> Place
+pub fn first_not_scalar(input: &[u32]) -> Place
     ensures { λ r. ⌜ placeIs r ≡ placeWith (λ c. not (isScalar c)) 0 (now (input .entry)) ⌝ }
 {
     let mut i = 0;

@@ -70,8 +70,8 @@ fn judge_one(
     }
 }
 
-// Judges a label as far as 14 and 17.
-fn judge_input(
+// Judges a label as far as 14 and 17; 15 and the clearing of both buffers are left to the call.
+pub fn judge_input(
     setting: u32,
     words: &[u32],
     input: &[u32],

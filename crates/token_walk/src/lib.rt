@@ -1,8 +1,8 @@
 // One walk over the tokens of a label: each token with its place, and its codepoints in the work area. Nothing is stored for a token: a
 // token's own part of the input, scanned alone, gives exactly that token (places/specs/Parts.antt). The report (02, Item 9) is made so.
-use table::Sections;
 use finder::emoji::Match;
 use finder::emoji::find;
+use table::Sections;
 use tokens::normal::normalise;
 use tokens::scan::Scanned;
 use tokens::scan::scan;

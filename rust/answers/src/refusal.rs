@@ -66,6 +66,7 @@ impl Refusal {
             30 => "bytes that are no UTF-8",
             31 => "UTF-8: the answer buffer is too small",
             32 => "the report is longer than its buffer",
+            33 => "the list is too small",
             40 => "the area of the payee book has another size",
             41 => "the payee book is damaged",
             42 => "the normal form is empty",

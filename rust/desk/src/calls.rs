@@ -20,6 +20,10 @@ pub trait Calls {
     fn name(&self, input: &[u32], lent: Lent) -> Result<Name, Refusal>;
     fn label(&self, input: &[u32], lent: Lent) -> Result<Label, Refusal>;
     fn namehash(&self, input: &[u32], lent: Lent) -> Result<[u8; 32], Refusal>;
+    /// The groups in which a label could be respelled: how many, and the list.
+    fn respelled(&self, label: &[u32], table: &[u32], list: &mut [u32], work: &mut [u32]) -> Result<usize, Refusal>;
+    /// The slots of a book that the table would file differently, likewise.
+    fn moved(&self, area: &[u32], table: &[u32], list: &mut [u32], work: &mut [u32]) -> Result<usize, Refusal>;
     /// Into `out`; the answer buffer is not used.
     fn report(&self, input: &[u32], out: &mut [u8], lent: Lent) -> Result<usize, Refusal>;
 }
@@ -59,6 +63,14 @@ impl Calls for Plain {
     fn namehash(&self, input: &[u32], lent: Lent) -> Result<[u8; 32], Refusal> {
         let (named, hash) = plain::namehash::namehash_with(input, lent.table, lent.setting, lent.answer, lent.work);
         named.map(|_| hash)
+    }
+
+    fn respelled(&self, label: &[u32], table: &[u32], list: &mut [u32], work: &mut [u32]) -> Result<usize, Refusal> {
+        plain::lists::respelled(label, table, list, work)
+    }
+
+    fn moved(&self, area: &[u32], table: &[u32], list: &mut [u32], work: &mut [u32]) -> Result<usize, Refusal> {
+        plain::lists::moved(area, table, list, work)
     }
 
     fn report(&self, input: &[u32], out: &mut [u8], lent: Lent) -> Result<usize, Refusal> {

@@ -64,6 +64,18 @@ fn refusal(refusal: Refusal) -> String {
     format!("\"refusal\":{number},\"place\":{place},\"place_is\":{place_is},\"meaning\":{}", string(refusal.meaning()))
 }
 
+/// The groups behind a 14.
+fn respelled(groups: &[usize], names: &Names) -> String {
+    let group = |&number: &usize| {
+        let script = names.of(number).map_or("null".into(), string);
+        format!("{{\"group\":{number},\"script\":{script}}}")
+    };
+    match groups {
+        [] => String::new(),
+        _ => format!(",\"respelled\":[{}]", groups.iter().map(group).collect::<Vec<_>>().join(",")),
+    }
+}
+
 /// The object for a name; its line where it comes from a file.
 pub fn object(line: Option<usize>, given: &Input, judged: &Judged, names: &Names) -> String {
     let line = line.map_or(String::new(), |number| format!("\"line\":{number},"));
@@ -74,7 +86,7 @@ pub fn object(line: Option<usize>, given: &Input, judged: &Judged, names: &Names
             let (text, numbers) = (text(form), numbers(form));
             format!("\"accepted\":true,\"form\":{text},\"codepoints\":{numbers},\"labels\":[{}]", labels.join(","))
         }
-        Err(found) => format!("\"accepted\":false,{}", refusal(*found)),
+        Err(found) => format!("\"accepted\":false,{}{}", refusal(*found), respelled(&judged.respelled, names)),
     };
     let hash = match judged.hash {
         Some(Ok(node)) => format!(",\"hash\":\"{}\"", digits(&node)),

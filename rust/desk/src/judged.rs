@@ -36,6 +36,8 @@ pub struct Judged {
     pub found: Result<(Vec<u32>, Vec<Part>), Refusal>,
     /// The name hash of an accepted name, or its own refusal, where it is asked for.
     pub hash: Option<Result<[u8; 32], Refusal>>,
+    /// Behind a 14, the groups in which the label could be respelled.
+    pub respelled: Vec<usize>,
     /// The report of an accepted name, line by line, where it is asked for.
     pub report: Option<Vec<String>>,
 }
@@ -47,9 +49,14 @@ impl<C: Calls> Desk<'_, C> {
         match input {
             Input::Text(bytes) => match self.read(bytes) {
                 Ok(codepoints) => self.judge_codepoints(&codepoints, (!self.trim).then_some(bytes)),
-                Err(refusal) => {
-                    Judged { codepoints: None, blanks: (0, 0), found: Err(refusal), hash: None, report: None }
-                }
+                Err(refusal) => Judged {
+                    codepoints: None,
+                    blanks: (0, 0),
+                    found: Err(refusal),
+                    hash: None,
+                    respelled: vec![],
+                    report: None,
+                },
             },
             Input::Numbers(codepoints) => self.judge_codepoints(codepoints, None),
         }
@@ -68,9 +75,21 @@ impl<C: Calls> Desk<'_, C> {
         let front = codepoints.len() - codepoints.iter().skip_while(|c| self.trim && plain::BLANKS.contains(c)).count();
         let found = self.form(left, bytes).map(|form| (form, self.parts(left)));
         let hash = (self.hash && found.is_ok()).then(|| self.hashed(left));
+        let respelled = match found {
+            Err(Refusal { number: 14, place }) => self.respelled(left, place),
+            _ => Vec::new(),
+        };
         let report = (self.report && found.is_ok()).then(|| self.reported(left));
         let blanks = (front, codepoints.len() - front - left.len());
-        Judged { codepoints: Some(left.to_vec()), blanks, found, hash, report }
+        Judged { codepoints: Some(left.to_vec()), blanks, found, hash, respelled, report }
+    }
+
+    /// The groups in which the label with this number could be respelled.
+    fn respelled(&self, codepoints: &[u32], place: usize) -> Vec<usize> {
+        let label = codepoints.split(|&c| c == STOP).nth(place).expect("the label of a 14");
+        let (mut list, mut work) = ([0; limits::GROUPS], vec![0; limits::WORK_WORDS]);
+        let count = self.calls.respelled(label, self.table, &mut list, &mut work).expect("a label that reaches 14");
+        list[..count].iter().map(|&group| group as usize).collect()
     }
 
     fn form(&self, codepoints: &[u32], bytes: Option<&Vec<u8>>) -> Result<Vec<u32>, Refusal> {

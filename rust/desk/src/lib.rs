@@ -7,6 +7,7 @@
 //! * `judged`: what the calls answer for one name.
 //! * `screen`: text that is safe to show, and carets below it.
 //! * `told`, `json`: an answer in words, and for programs.
+//! * `moved`: the payees of a book that a table would file differently.
 //! * `normalise`: the command itself.
 //! * `lines`: why a line is unreadable for the line program.
 
@@ -14,6 +15,7 @@ pub mod calls;
 pub mod json;
 pub mod judged;
 pub mod lines;
+pub mod moved;
 pub mod names;
 pub mod normalise;
 pub mod options;

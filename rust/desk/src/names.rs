@@ -24,6 +24,11 @@ impl Names {
         self.0.get(group).map(String::as_str)
     }
 
+    /// A group in words: `Latin (group 0)`.
+    pub fn group(&self, number: usize) -> String {
+        self.kind(Kind::Group { number, restricted: false })
+    }
+
     /// A kind in words: `Latin (group 0)`.
     pub fn kind(&self, kind: Kind) -> String {
         let Kind::Group { number, restricted } = kind else {

@@ -4,7 +4,7 @@ use crate::calls::Calls;
 use crate::judged::Desk;
 use crate::names::Names;
 use crate::options::{numbers, options, Input, Options, Source, HELP};
-use crate::{in_repository, json, told};
+use crate::{in_repository, json, moved, told};
 use answers::Soundness;
 use plain::limits;
 use std::ffi::OsString;
@@ -117,6 +117,7 @@ impl<C: Calls, W: Write> Teller<'_, C, W> {
                 }
                 self.lines(stdin().lock())
             }
+            Source::Book(_) => unreachable!("a book has a command of its own"),
         };
         wrote.and_then(|()| self.out.flush()).map_err(|fault| (MISSING, format!("reading or writing: {fault}")))
     }
@@ -139,11 +140,27 @@ fn check(calls: &impl Calls, path: &Path, table: &[u32]) {
     }
 }
 
+/// The payees of a book that the table would file differently.
+fn payees(calls: &impl Calls, book: &Path, table: &[u32]) -> Result<u8, Ended> {
+    let file = std::fs::read(book).map_err(|fault| missing(book, fault))?;
+    let (lines, count) =
+        moved::lines(calls, &moved::words(&file), table).map_err(|refusal| (REFUSED, refusal.to_string()))?;
+    let mut out = stdout().lock();
+    lines
+        .iter()
+        .try_for_each(|line| writeln!(out, "{line}"))
+        .map_err(|fault| (MISSING, format!("writing: {fault}")))?;
+    Ok(if count == 0 { 0 } else { REFUSED })
+}
+
 fn run(calls: &impl Calls, wanted: &Options) -> Result<u8, Ended> {
     let path: PathBuf = wanted.table.clone().unwrap_or_else(|| in_repository("data/full.tab"));
     let table = words(calls, &path)?;
     if wanted.table.is_some() {
         check(calls, &path, &table);
+    }
+    if let Source::Book(book) = &wanted.source {
+        return payees(calls, book, &table);
     }
     let names = Names::beside(&path, &table);
     let Options { restrict, trim, hash, report, .. } = *wanted;

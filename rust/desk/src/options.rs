@@ -9,6 +9,7 @@ usage: ./normalise [OPTIONS] NAME           as ./normalise 'Nick.ETH'
        ./normalise [OPTIONS] --hex HEX ..   as ./normalise --hex 5F 24 41, or U+005F U+0024 U+0041
        ./normalise [OPTIONS] --file FILE    names one a line, as text, or with --hex as numbers
        ./normalise [OPTIONS]                the same from standard input
+       ./normalise --table NEW --moved BOOK the payees of a book that a new table would file differently
 
 Shows the normal form of a name as characters and as codepoints, and the kind
 of each label; or why it is refused, and where. Labels and places count from 0.
@@ -21,6 +22,9 @@ of each label; or why it is refused, and where. Labels and places count from 0.
                   (docs/STANDIN.md); the names of its scripts come from the
                   file beside it: X.groups beside X.tab
   --hash          show the name hash of EIP-137 too
+  --moved BOOK    a file of a payee book's area, 16,912 words of 4 bytes each,
+                  big-endian: list the payees whose names the table refuses or
+                  puts into another form, with the old and the new form
   --report        show what was typed, token by token: text or emoji, where it
                   starts and ends, and what became of it, in braces what is
                   better not shown as it is
@@ -29,7 +33,7 @@ of each label; or why it is refused, and where. Labels and places count from 0.
   --help          write this text
   --              what follows is the name, though it starts with -
 
-Status: 0 accepted; 1 a name is refused; 2 bad usage, or a line that holds no
+Status: 0 accepted, or no payee moves; 1 a name is refused, or one moves; 2 bad usage, or a line that holds no
 numbers; 3 something that is needed is missing or not proved.
 ";
 
@@ -48,6 +52,8 @@ pub enum Source {
     One(Input),
     File(PathBuf),
     Standard,
+    /// The area of a payee book, for the command that lists moved payees.
+    Book(PathBuf),
 }
 
 #[derive(Clone, Debug, PartialEq, Eq)]
@@ -98,7 +104,7 @@ pub fn options(words: impl IntoIterator<Item = OsString>) -> Result<Option<Optio
         table: None,
         source: Source::Standard,
     };
-    let (mut file, mut rest) = (None, Vec::new());
+    let (mut file, mut book, mut rest) = (None, None, Vec::new());
     let mut words = words.into_iter();
     while let Some(word) = words.next() {
         let mut value = |option: &str| words.next().map(PathBuf::from).ok_or(format!("{option} needs a file"));
@@ -112,10 +118,18 @@ pub fn options(words: impl IntoIterator<Item = OsString>) -> Result<Option<Optio
             b"--json" => found.json = true,
             b"--table" => found.table = Some(value("--table")?),
             b"--file" => file = Some(value("--file")?),
+            b"--moved" => book = Some(value("--moved")?),
             b"--" => rest.extend(words.by_ref()),
             [b'-', _, ..] => return Err(format!("{}: no such option", word.to_string_lossy())),
             _ => rest.push(word),
         }
+    }
+    if let Some(path) = book {
+        if file.is_some() || !rest.is_empty() || found.json {
+            return Err("--moved takes a book and a table alone".into());
+        }
+        found.source = Source::Book(path);
+        return Ok(Some(found));
     }
     found.source = match file {
         Some(_) if !rest.is_empty() => return Err("a name and --file".into()),
@@ -151,6 +165,7 @@ mod tests {
         assert_eq!(source(&[]), Source::Standard);
         assert_eq!(source(&["--file", "-", "--hex"]), Source::Standard);
         assert_eq!(source(&["--file", "x"]), Source::File("x".into()));
+        assert_eq!(source(&["--table", "t", "--moved", "x"]), Source::Book("x".into()));
     }
 
     #[test]
@@ -164,6 +179,8 @@ mod tests {
             (&["-x"], "no such option"),
             (&["--table"], "--table needs a file"),
             (&["--file", "x", "y"], "a name and --file"),
+            (&["--moved"], "--moved needs a file"),
+            (&["--moved", "x", "y"], "--moved takes a book and a table alone"),
         ] {
             let said = read(words).expect_err(fault);
             assert!(said.contains(fault), "{words:?}: {said}");

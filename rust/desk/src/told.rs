@@ -27,6 +27,10 @@ pub fn lines(input: &Input, judged: &Judged, names: &Names) -> Vec<String> {
         Err(refusal) => refused(input, judged, *refusal),
     };
     lines.extend(judged.report.iter().flatten().cloned());
+    if !judged.respelled.is_empty() {
+        let groups: Vec<String> = judged.respelled.iter().map(|&group| names.group(group)).collect();
+        lines.push(format!("could be respelled in {}", groups.join(", ")));
+    }
     match judged.hash {
         Some(Ok(node)) => lines.push(format!("hash {}", digits(&node))),
         Some(Err(refusal)) => lines.push(format!("no hash: {}", sentence(refusal))),

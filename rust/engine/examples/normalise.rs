@@ -40,6 +40,14 @@ impl Calls for Proved {
         engine::namehash::namehash(input, lent.table, lent.setting, lent.answer, lent.work).answer()
     }
 
+    fn respelled(&self, label: &[u32], table: &[u32], list: &mut [u32], work: &mut [u32]) -> Result<usize, Refusal> {
+        engine::lists::respelled(label, table, list, work).answer()
+    }
+
+    fn moved(&self, area: &[u32], table: &[u32], list: &mut [u32], work: &mut [u32]) -> Result<usize, Refusal> {
+        engine::lists::moved(area, table, list, work).answer()
+    }
+
     fn report(&self, input: &[u32], out: &mut [u8], lent: Lent) -> Result<usize, Refusal> {
         engine::report::report(input, lent.table, lent.setting, out, lent.work).answer()
     }

@@ -8,6 +8,7 @@
 pub mod book;
 pub mod emoji;
 pub mod keccak;
+pub mod lists;
 pub mod namehash;
 pub mod normal_forms;
 mod raw;

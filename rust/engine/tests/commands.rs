@@ -97,6 +97,52 @@ fn the_report() {
     assert!(status == Some(1) && !refused.contains("text"), "{refused}");
 }
 
+/// Behind a 14, the groups in which the label could be respelled.
+#[test]
+fn groups_behind_a_14() {
+    let groups = ["Latin", "Han", "Japanese", "Korean"].map(|name| group("full", name) + ")").join(", ");
+    let refused = "no 14 in label 1: the label looks like another one\n   a.0х\n     ^^ label 1\n";
+    both(&["a.0х"], 1, &format!("{refused}   could be respelled in {groups}\n"));
+    let (status, json) = normalise(&["--json", "0х"]);
+    let first = format!("\"respelled\":[{{\"group\":{},\"script\":\"Latin\"}},", 0);
+    assert!(status == Some(1) && json.contains(&first), "{json}");
+}
+
+/// A book of three payees by the full-size table: one that it has as it is, one
+/// that it spells otherwise, one that it refuses.
+#[test]
+fn payees_that_would_move() {
+    let mut area = vec![0u32; 16_912];
+    for (i, name) in [(0, "nick"), (3, "Nick"), (63, "n k")] {
+        let slot = &mut area[16 + 264 * i..][..264];
+        slot[0] = name.len() as u32;
+        slot.iter_mut().skip(1).zip(name.chars()).for_each(|(word, c)| *word = c.into());
+    }
+    let bytes: Vec<u8> = area.iter().flat_map(|word| word.to_be_bytes()).collect();
+    let file = |name: &str, bytes: &[u8]| {
+        let path = std::env::temp_dir().join(format!("wanlopheng-{}-{name}", std::process::id()));
+        std::fs::write(&path, bytes).expect("a file can be written");
+        path
+    };
+    let (whole, damaged) =
+        (file("book", &bytes), file("damaged", &[&bytes[..64], &[0, 0, 1, 0], &bytes[68..]].concat()));
+    let told = "slot 3: Nick\n   4E 69 63 6B\n   would be nick\n   6E 69 63 6B\nslot 63: n k\n   6E 20 6B\n   \
+                would be refused as 5: a codepoint that names may not have\n2 of 3 payees would move\n";
+    both(&["--moved", &whole.to_string_lossy()], 1, told);
+    let refused = "normalise: refusal 41: the payee book is damaged\n";
+    both(&["--moved", &damaged.to_string_lossy()], 1, refused);
+    both(
+        &["--moved", &root().join("normalise").to_string_lossy()],
+        1,
+        "normalise: refusal 40: the area of the payee book has another size\n",
+    );
+    let (status, _) = normalise(&["--moved", "no-such-file"]);
+    assert_eq!(status, Some(3));
+    for path in [whole, damaged] {
+        std::fs::remove_file(path).expect("it was written");
+    }
+}
+
 #[test]
 fn a_name_as_numbers() {
     let form = "ok _$a\n   5F 24 61\n   label 0: _$a, ASCII\n";
@@ -123,7 +169,7 @@ fn refusals_have_their_place() {
         1,
         "no 5 at codepoint 1: a codepoint that names may not have\n   a<U+202E><U+0301>b\n    ^^^^^^^^ U+202E\n",
     );
-    let (status, told) = normalise(&[&"a".repeat(5_000)]);
+    let (status, told) = normalise(&[&"a".repeat(17_000)]);
     assert_eq!((status, told.as_str()), (Some(1), "no 3: the input has too many codepoints\n"));
 }
 

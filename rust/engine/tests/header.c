@@ -163,6 +163,33 @@ static int book(void) {
     return 0;
 }
 
+/* A book of 61, 62 and 41 by a table that has 61 alone, to which 41 is mapped; and 3BF, which a group with 43E could respell. */
+static int lists(void) {
+    const uint32_t table[] = {2, 0x61, 0x61, 0, 0, 0, 0, 3, 0x41, 1, 0x61, 0, 0, 1, 0, 0, 4, 1, 2, 0x61, 0x61, 0, 0};
+    const uint32_t alike[] = {4, 0x3BF, 0x3BF, 0x43E, 0x43E, 0, 0, 0, 0, 0, 0, 0, 1, 0, 0, 8, 0, 2, 0x3BF, 0x3BF, 0, 2, 0x43E, 0x43E, 4, 1, 0x43E, 1, 0x3BF, 0};
+    const uint32_t label[] = {0x3BF, 0x43E};
+    static uint32_t area[WANLOPHENG_BOOK_WORDS], work[WANLOPHENG_WORK_WORDS];
+    uint32_t list[6] = {7, 7, 7, 7, 7, 7};
+    area[0] = 9, area[16] = area[16 + 264] = area[16 + 2 * 264] = 1, area[17] = 0x61, area[17 + 264] = 0x62, area[17 + 2 * 264] = 0x41;
+    work[0] = 7;
+    struct wanlopheng_list l = wanlopheng_moved(area, WANLOPHENG_BOOK_WORDS, table, 23, list, 6, work, WANLOPHENG_WORK_WORDS);
+    if (l.number || l.place || l.entries != 2 || list[0] != 1 || list[1] != WANLOPHENG_DISALLOWED || list[2] != 2 || list[3]) return 111;
+    if (list[4] || list[5] || work[0] || area[0] != 9) return 112;
+    l = wanlopheng_moved(area, WANLOPHENG_BOOK_WORDS, table, 23, list, 3, work, WANLOPHENG_WORK_WORDS);
+    if (l.number != WANLOPHENG_LIST_TOO_SMALL || l.place || l.entries || list[0] || list[2]) return 113;
+    l = wanlopheng_moved(area, WANLOPHENG_BOOK_WORDS - 1, table, 23, list, 6, work, WANLOPHENG_WORK_WORDS);
+    if (l.number != WANLOPHENG_BOOK_SIZE || l.entries) return 114;
+    list[1] = 7;
+    l = wanlopheng_respelled(label, 1, alike, 30, list, 2, work, WANLOPHENG_WORK_WORDS);
+    if (l.number || l.place || l.entries != 1 || list[0] != 1 || list[1]) return 115;
+    l = wanlopheng_respelled(label, 1, alike, 30, list, 0, work, WANLOPHENG_WORK_WORDS);
+    if (l.number != WANLOPHENG_LIST_TOO_SMALL || l.entries || list[0] != 1) return 116;
+    l = wanlopheng_respelled(label + 1, 1, alike, 30, list, 2, work, WANLOPHENG_WORK_WORDS);
+    if (l.number || l.entries || list[0]) return 117;
+    l = wanlopheng_respelled(label, 2, alike, 30, list, 2, work, WANLOPHENG_WORK_WORDS);
+    return l.number != WANLOPHENG_NO_GROUP || l.place || l.entries ? 118 : 0;
+}
+
 /* Keccak-256 of "abc", whole and in two pieces; the name hash of "eth"; and a fill that counts modulo 136. */
 static int hashes(void) {
     const uint8_t abc[] = {0x61, 0x62, 0x63};
@@ -232,6 +259,7 @@ int main(void) {
     if (failed == 0) failed = forms();
     if (failed == 0) failed = texts();
     if (failed == 0) failed = book();
+    if (failed == 0) failed = lists();
     if (failed == 0) failed = reports();
     return failed != 0 ? failed : trimmed();
 }

@@ -5,6 +5,7 @@
 use engine::book::{Account, Found, Told};
 use engine::emoji::Emoji;
 use engine::keccak::{Digest, Sponge};
+use engine::lists::Listed;
 use engine::namehash::Namehash;
 use engine::normal_forms::Form;
 use engine::report::Report;
@@ -28,6 +29,7 @@ fn run(source: &Path, name: &str) -> Output {
         .arg(source)
         .arg(root().join("target/staticlib/libboundary.a"))
         .arg(root().join("target/staticlib/libbook_boundary.a"))
+        .arg(root().join("target/staticlib/liblisting_boundary.a"))
         .arg(root().join("target/staticlib/libreport_boundary.a"))
         .arg(root().join("target/staticlib/libnormal_forms.a"))
         .arg("-o")
@@ -79,6 +81,7 @@ fn structs_of_c_and_of_the_wrapper() {
         lines!("wanlopheng_account", Account: words),
         lines!("wanlopheng_book", Told: number, place),
         lines!("wanlopheng_found", Found: number, place, account),
+        lines!("wanlopheng_list", Listed: number, place, entries),
         lines!("wanlopheng_sponge", Sponge: lanes, fill),
         lines!("wanlopheng_digest", Digest: bytes),
         lines!("wanlopheng_namehash", Namehash: name, node),

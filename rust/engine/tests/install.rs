@@ -104,7 +104,7 @@ fn the_units_loop() {
     // The largest table, and a name that is one codepoint too long.
     let table = temporary("largest.tab");
     std::fs::write(&table, plain::pack(&largest())).expect("a file");
-    let ran = run(&unit, &table, &format!("41\n{}\nxyz\n{}\n", "61 ".repeat(5_000), "61 ".repeat(50_000)));
+    let ran = run(&unit, &table, &format!("41\n{}\nxyz\n{}\n", "61 ".repeat(17_000), "61 ".repeat(100_000)));
     let due = "accepted 61; ASCII\nrefused 3 at 0: the input has too many codepoints\nunreadable\nunreadable\n";
     assert_eq!((ran.status.code(), String::from_utf8_lossy(&ran.stdout).as_ref()), (Some(0), due));
 }

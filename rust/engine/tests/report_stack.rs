@@ -20,8 +20,8 @@ const WORDS: usize = 16;
 const IN_ORDER: usize = 2;
 
 /// What the report may use more than the name call: a bit for each record of the
-/// table.
-const MORE: usize = 8 * KB;
+/// table, and the classes of a text.
+const MORE: usize = 12 * KB;
 
 /// Bytes of the report that may stand together: one number of eight digits.
 const DIGITS: usize = 8;
@@ -46,7 +46,8 @@ fn cases() -> Vec<(&'static str, Vec<u32>, usize, u32)> {
 fn the_report_leaves_no_text() {
     let table = standin::full().words;
     for (what, name, room, due) in cases() {
-        let (mut out, mut work, mut answer) = (vec![7; room], vec![7; plain::limits::WORK_WORDS], vec![7; plain::limits::WORKED]);
+        let (mut out, mut work, mut answer) =
+            (vec![7; room], vec![7; plain::limits::WORK_WORDS], vec![7; plain::limits::WORKED]);
         let mut number = 0;
         let named = run(|| {
             black_box(engine::name(&name, &table, 0, &mut answer, &mut work));

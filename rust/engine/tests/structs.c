@@ -54,6 +54,10 @@ int main(void) {
     FIELD(wanlopheng_found, number);
     FIELD(wanlopheng_found, place);
     FIELD(wanlopheng_found, account);
+    STRUCT(wanlopheng_list);
+    FIELD(wanlopheng_list, number);
+    FIELD(wanlopheng_list, place);
+    FIELD(wanlopheng_list, entries);
     STRUCT(wanlopheng_sponge);
     FIELD(wanlopheng_sponge, lanes);
     FIELD(wanlopheng_sponge, fill);

@@ -34,7 +34,7 @@ fn refuse<T>(number: u32) -> Result<T, Refusal> {
 }
 
 /// The words of slot `i`.
-fn slot(area: &[u32], i: usize) -> &[u32] {
+pub fn slot(area: &[u32], i: usize) -> &[u32] {
     &area[FRONT + i * SLOT..][..SLOT]
 }
 
@@ -43,7 +43,7 @@ fn slot_mut(area: &mut [u32], i: usize) -> &mut [u32] {
 }
 
 /// The name under which an undamaged slot is filed, `None` where it is free.
-fn filed(slot: &[u32]) -> Option<&[u32]> {
+pub fn filed(slot: &[u32]) -> Option<&[u32]> {
     match slot[0] as usize {
         0 => None,
         length => Some(&slot[1..=length]),
@@ -60,7 +60,7 @@ fn slot_damaged(slot: &[u32]) -> bool {
 }
 
 /// 41: one of these, "or two filed slots with one name".
-fn damaged(area: &[u32]) -> bool {
+pub fn damaged(area: &[u32]) -> bool {
     if (0..SLOTS).any(|i| slot_damaged(slot(area, i))) {
         return true;
     }

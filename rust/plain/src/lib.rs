@@ -16,6 +16,7 @@
 //! * `file`: table files.
 //! * `book`: the payee book.
 //! * `keccak`: Keccak-256.
+//! * `lists`: slots that a new table would file differently, groups behind 14.
 //! * `namehash`: the name hash of EIP-137.
 //! * `report`: the report of what was typed.
 //! * `trim`: an input without the blanks at its ends.
@@ -28,6 +29,7 @@ pub mod file;
 pub mod groups;
 pub mod keccak;
 pub mod label;
+pub mod lists;
 pub mod lookup;
 pub mod namehash;
 pub mod ranges;

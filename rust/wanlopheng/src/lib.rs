@@ -44,6 +44,7 @@ struct Guide;
 pub use answers::{Kind, Label, Name, Place, Refusal, Soundness};
 pub use buffers::{Buffers, Form};
 pub use engine::book;
+pub use engine::lists;
 pub use table::Table;
 
 /// The limits of the calls.

@@ -1,0 +1,157 @@
+// The slots of a payee book that a new table would file differently. specs/Moved.antt states what the call answers.
+use answers::Refusal;
+use book_filing::Opening;
+use book_filing::open;
+use book_slots::FRONT;
+use book_slots::SLOT;
+use book_slots::SLOTS;
+use ending::finish;
+use lookalike::memo::MEMO;
+use name::admit::Admission;
+use name::admit::admit;
+use name::part::put_label;
+use refiling::Change;
+use refiling::refile;
+use table::Sections;
+use text::compose::PAIR_WORDS;
+ghost use Prim.Native.Nat.{_≤_, _*_};
+ghost use mathlib.Core.Path.{_≡_};
+ghost use mathlib.Core.Bool.{false};
+ghost use lib.ListN.{length};
+ghost use Rattle.limits.specs.Limits.{leastWork};
+ghost use Rattle.table.specs.Laid.{Laid};
+ghost use Rattle.book_slots.specs.Book.{slotSize, slotCount, areaSize, slotOf, slotsOf, slotsIn};
+ghost use Rattle.book_slots.specs.Damage.{slotDamaged};
+ghost use Rattle.refiling.specs.Labels.{changeIs, Lent, Lasting};
+ghost use Rattle.lists.specs.Lists.{any};
+ghost use Rattle.moved.specs.Moved.{slotChange};
+ghost use Rattle.moved.specs.Promise.{MovedCalls};
+ghost use Rattle.moved.specs.Steps.{EntryPut, SlotsListed, movedEntries, MovedJudged};
+
+// What the call answers: how many entries stand in the list, or why there are none.
+pub enum MovedAnswer {
+    Listed(usize),
+    OtherSize,
+    Damaged,
+    Refused(Refusal),
+    NoRoom,
+}
+
+// How the table files the name of a slot; a free one stays.
+fn slot_change(
+    slot: &[u32],
+    words: &[u32],
+    ix: Sections,
+    unpaired: &mut [u32],
+    w: &mut [u32],
+    memo: &mut [u32],
+) -> Change
+    requires { ⌜ (length (now slot) ≡ slotSize) × (slotDamaged (slotOf (now slot)) ≡ false) ⌝ }
+    requires { ⌜ Lent (now words) ix (now unpaired) (now w) (now memo) ⌝ }
+    ensures { λ r. ⌜ changeIs r ≡ slotChange (now (words .entry)) (length (now (w .entry))) (slotOf (now (slot .entry))) ⌝ }
+    ensures { λ _. ⌜ Lasting (now (words .entry)) (now (w .entry)) (now (w .exit)) (now (unpaired .exit)) (now (memo .exit)) ⌝ }
+{
+    let n = slot[0] as usize;
+    if n == 0 {
+        return Change::Stays;
+    }
+    let end = 1 + n;
+    refile(words, ix, &slot[1..end], unpaired, w, memo)
+}
+
+// Puts the entry of a slot behind the first `len` words of the list, if there is one and it fits. Answers the length with it.
+fn put_entry(list: &mut [u32], len: usize, slot: usize, change: Change) -> usize
+    requires { ⌜ (len ≤ 2 * slotCount) × (slot ≤ slotCount) ⌝ }
+    ensures { λ r. ⌜ EntryPut slot (changeIs change) (now (list .entry)) (now (list .exit)) len r ⌝ }
+{
+    match change {
+        Change::Stays => len,
+        Change::Moved(number) => put_label(list, len, true, &[slot as u32, number]),
+    }
+}
+
+// Lists the slots whose names the table files otherwise or not at all. What depends on the table alone is lent from slot to slot. Answers the
+// length of the list.
+fn list_slots(
+    slots: &[u32],
+    words: &[u32],
+    ix: Sections,
+    list: &mut [u32],
+    unpaired: &mut [u32],
+    w: &mut [u32],
+    memo: &mut [u32],
+) -> usize
+    requires { ⌜ (length (now slots) ≡ slotSize * slotCount) × (any slotDamaged (slotsOf slotCount (now slots)) ≡ false) ⌝ }
+    requires { ⌜ Lent (now words) ix (now unpaired) (now w) (now memo) ⌝ }
+    ensures { λ r. ⌜ SlotsListed (now (words .entry)) (slotsOf slotCount (now (slots .entry))) (now (list .entry)) (now (list .exit)) (now (w .entry)) (now (w .exit)) r ⌝ }
+{
+    let mut len = 0;
+    let mut i = 0;
+    while i < SLOTS {
+        let at = SLOT * i;
+        let end = at + SLOT;
+        let change = slot_change(&slots[at..end], words, ix, unpaired, w, memo);
+        len = put_entry(list, len, i, change);
+        i += 1;
+    }
+    len
+}
+
+// The entries of an area that is whole, after 1 and 2.
+fn list_area(area: &[u32], words: &[u32], ix: Sections, list: &mut [u32], w: &mut [u32]) -> usize
+    requires { ⌜ (length (now area) ≡ areaSize) × (any slotDamaged (slotsIn (now area)) ≡ false) ⌝ }
+    requires { ⌜ Laid (now words) ix × (leastWork ≤ length (now w)) ⌝ }
+    ensures { λ r. ⌜ SlotsListed (now (words .entry)) (slotsIn (now (area .entry))) (now (list .entry)) (now (list .exit)) (now (w .entry)) (now (w .exit)) r ⌝ }
+{
+    let mut unpaired = [0u32; PAIR_WORDS];
+    let mut memo = [0u32; MEMO];
+    list_slots(&area[FRONT..], words, ix, list, &mut unpaired, w, &mut memo)
+}
+
+// The call as far as 2: the slots are listed as far as they fit.
+fn moved_judged(area: &[u32], words: &[u32], list: &mut [u32], work: &mut [u32]) -> MovedAnswer
+    ensures { λ r. ⌜ MovedJudged (now (words .entry)) (now (area .entry)) (now (list .entry)) (now (list .exit)) (now (work .entry)) (now (work .exit)) r ⌝ }
+{
+    let opening = open(area);
+    match opening {
+        Opening::OtherSize => MovedAnswer::OtherSize,
+        Opening::Damaged => MovedAnswer::Damaged,
+        Opening::Whole => {
+            let admitted = admit(words, &[], work.len());
+            match admitted {
+                Admission::Refused(f) => MovedAnswer::Refused(f),
+                Admission::Found(ix) => {
+                    let len = list_area(area, words, ix, list, work);
+                    MovedAnswer::Listed(len / 2)
+                }
+            }
+        }
+    }
+}
+
+// The words of the entries, two each; none beside a refusal.
+fn moved_words(answer: MovedAnswer) -> usize
+    requires { ⌜ movedEntries answer ≤ slotCount ⌝ }
+    ensures { λ r. ⌜ r ≡ 2 * movedEntries answer ⌝ }
+{
+    match answer {
+        MovedAnswer::Listed(n) => 2 * n,
+        MovedAnswer::OtherSize => 0,
+        MovedAnswer::Damaged => 0,
+        MovedAnswer::Refused(_) => 0,
+        MovedAnswer::NoRoom => 0,
+    }
+}
+
+// Lists the slots of a book that a new table would file differently: two words for each, its number and the refusal, 0 where it is filed
+// otherwise. The area is only read. The words of the list behind the entries, and the work area, are cleared; a refusal clears both.
+pub fn moved(area: &[u32], words: &[u32], list: &mut [u32], work: &mut [u32]) -> MovedAnswer
+    ensures { λ r. ⌜ MovedCalls (now (words .entry)) (now (area .entry)) (now (list .entry)) (now (list .exit)) (now (work .entry)) (now (work .exit)) r ⌝ }
+{
+    let judged = moved_judged(area, words, list, work);
+    let length = moved_words(judged);
+    if !finish(list, work, length) {
+        return MovedAnswer::NoRoom;
+    }
+    judged
+}

@@ -1,0 +1,3 @@
+pub mod Respelled
+pub mod Promise
+pub mod Steps
