@@ -14,9 +14,11 @@ import build
 from build import HERE, ROOT, WASM_STACK, Failed, archive_names, compile_c, folder, link_wasm, run, sections, toolchain
 from machines import MACHINES
 
-KINDS = ["name", "label", "namehash", "nfd", "nfc", "name_bytes", "find", "report", "respelled", "moved", "soundness", "unpack"]
+# Every call, in the order of targets/test/calls.c and stack.mjs.
+KINDS = ["name", "label", "namehash", "nfd", "nfc", "group", "emoji", "trim", "utf8_write", "utf8_read", "name_bytes", "save", "find", "moved", "forget",
+         "reset", "respelled", "keccak256", "sponge_new", "sponge_absorb", "sponge_digest", "report", "soundness", "layout_fault", "unpack"]
 TIMES = 20  # how often each name is asked for the time
-CALLER = 256  # bytes of stack that the test's own function takes for the arguments of a call
+CALLER = 640  # bytes of stack that the test's own function takes for the arguments and the answer of a call
 
 # What the tests of foreign machines need from Debian: the program, and its package.
 PACKAGES = {
@@ -134,7 +136,7 @@ def stack_rows(told):
 
 
 def test_machine(machine, room, due, stack, tally):
-    """One machine: the header's test, all calls, the stack, the time of a name. Answers a row of the table in docs/TARGETS.md."""
+    """One machine: the header's test, all calls, the stack, the time of a name. Answers what goes into docs/TARGETS.md."""
     port = HERE / "test" / ("port_semihost.c" if machine.bare else "port_files.c")
     archives = [folder(machine) / "libwanlopheng.a"]
     header, calls = room / "header", room / "calls"
@@ -167,7 +169,7 @@ def wasm_program(machine, name, source, to):
 
 
 def test_wasm(machine, room, due, stack, tally):
-    """WebAssembly, by node: the header's test, all calls, the stack, and the JavaScript module. Answers a row of the table."""
+    """WebAssembly, by node: the header's test, all calls, the stack, and the JavaScript module. Answers the same."""
     library = folder(machine) / "wanlopheng.wasm"
     for name, source in (("run_header", ROOT / "rust/engine/tests/header.c"), ("run_calls", HERE / "test/calls.c")):
         wasm_program(machine, name, source, room / f"{name}.wasm")
@@ -199,14 +201,16 @@ def test_wasm(machine, room, due, stack, tally):
 
 
 def show(machine, file, size, left, stack, each, calls, other):
-    """Says how a machine did; a row of the table."""
+    """Says how a machine did; a row of the first table, and the column of the second."""
     bound = {kind: stack["wanlopheng_" + kind] for kind in left}
     print(f"  code {size[0]:,}, data {size[1]:,}; {calls:,} calls, {other} differences; {each * 1e3:.2f} ms a name", flush=True)
     print("  stack: " + ", ".join(f"{kind} {used:,} of {bound[kind]:,}" for kind, (used, _, _) in left.items()), flush=True)
     print(f"  left there of names: at most {max(r[1] for r in left.values())} words, {max(r[2] for r in left.values())} in order", flush=True)
     row = [f"`{machine.name}`", f"{file.stat().st_size:,}", f"{size[0]:,}"]
-    row += [f"{left[k][0]:,} / {bound[k]:,}" for k in ("name", "label", "soundness", "unpack")]
-    return row + [str(max(r[1] for r in left.values())), str(max(r[2] for r in left.values())), f"{each * 1e3:.2f}", f"{calls:,}", str(other)]
+    column = {kind: f"{used:,} / {bound[kind]:,}" for kind, (used, _, _) in left.items()}
+    row += [column[k] for k in ("name", "label", "soundness", "unpack")]
+    row += [str(max(r[1] for r in left.values())), str(max(r[2] for r in left.values())), f"{each * 1e3:.2f}", f"{calls:,}", str(other)]
+    return row, [machine.name, *(column[kind] for kind in KINDS)]
 
 
 def test_rust(machine, tally, skipped):
@@ -243,11 +247,15 @@ HEAD = ["Target", "Archive or module", "Code and constants", "Stack: name", "lab
         "Calls", "Differences"]
 
 
+def print_table(rows):
+    print("\n".join("| " + " | ".join(row) + " |" for row in [rows[0], ["---"] * len(rows[0]), *rows[1:]]) + "\n", flush=True)
+
+
 def test(machines, modules):
     """Builds and tests these machines; the last line is 'N passed, M failed'."""
     wasm = [m for m in machines if m.name.startswith("wasm32")]
     if wasm and shutil.which("node") is None:
-        print("targets: node is not installed, so WebAssembly is skipped", flush=True)
+        print("targets: node is not installed: 1 skipped, WebAssembly", flush=True)
         machines = [m for m in machines if m not in wasm]
     needs(machines)
     tally, skipped, rows = Tally(), [], []
@@ -265,8 +273,9 @@ def test(machines, modules):
                 tally.check(False, fault)
             test_rust(machine, tally, skipped)
     if len(rows) > 1:
-        print("\n".join("| " + " | ".join(row) + " |" for row in [HEAD, ["---"] * len(HEAD), *rows]))
+        print_table([HEAD, *(row for row, _ in rows)])
+        print_table(list(zip(["Call", *KINDS], *(column for _, column in rows))))
     if skipped:
-        print(f"Rust: skipped where cargo has no core: {', '.join(skipped)}")
+        print(f"Rust: {len(skipped)} skipped, where cargo has no core: {', '.join(skipped)}")
     print(f"{tally.passed} passed, {tally.failed} failed")
     return 1 if tally.failed else 0

@@ -31,6 +31,7 @@ sys.path.insert(0, str(HERE.parent / "targets"))
 import build  # noqa: E402
 import header  # noqa: E402
 import retarget  # noqa: E402
+import run  # noqa: E402
 
 SPEC = """-- What it defines.
 use Prim.Native.Nat.{ℕ, _≤_}
@@ -399,6 +400,7 @@ class Targets(unittest.TestCase):
         self.assertEqual(len({c.name for c in found.calls}), len(found.calls))
         for call in found.calls:
             found.signature(call)
+        self.assertEqual(set(run.KINDS), {c.name.removeprefix("wanlopheng_") for c in found.calls}, "the stack of every call is measured")
 
     def test_frames(self):
         usage = "/tmp/m.ll:a\t100\tstatic\n/tmp/m.ll:low::c\t50\tstatic\n"

@@ -15,23 +15,39 @@ exports.memory.grow(80); // 5 MB
 const words = new Uint32Array(exports.memory.buffer);
 const stack = words.subarray(low / 4, high / 4);
 
-// Places: what is told, the answer, the work area, the name, its bytes, a payee book, the table, a report.
-const [TOLD, ANSWER, WORK, NAME, BYTES, BOOK, TABLE, REPORT] = [0, 1 << 12, 1 << 15, 1 << 17, 1 << 18, 1 << 20, 1 << 21, 1 << 22].map((n) => base + n);
+// Places: what is told, the answer, the work area, the name, its bytes, an account and a sponge, a payee book, the table, a report.
+const PLACES = [0, 1 << 12, 1 << 15, 1 << 17, 1 << 18, 1 << 19, 1 << 20, 1 << 21, 1 << 22];
+const [TOLD, ANSWER, WORK, NAME, BYTES, GIVEN, BOOK, TABLE, REPORT] = PLACES.map((n) => base + n);
 const put = (at, list) => words.set(list, at / 4);
 
+// Each call, on a name of n codepoints and b bytes and a table of t words. Of a name nothing may stay; the hashes are handed bytes.
+const BUFFERS = [ANSWER, 4096, WORK, 8192];
 const CALLS = {
-    name: (n, t) => exports.wanlopheng_name(TOLD, NAME, n, TABLE, t, 0, ANSWER, 4096, WORK, 8192),
-    label: (n, t) => exports.wanlopheng_label(TOLD, NAME, n, TABLE, t, 0, ANSWER, 4096, WORK, 8192),
-    namehash: (n, t) => exports.wanlopheng_namehash(TOLD, NAME, n, TABLE, t, 0, ANSWER, 4096, WORK, 8192),
-    nfd: (n, t) => exports.wanlopheng_nfd(TOLD, NAME, n, TABLE, t, ANSWER, 4096, WORK, 8192),
-    nfc: (n, t) => exports.wanlopheng_nfc(TOLD, NAME, n, TABLE, t, ANSWER, 4096, WORK, 8192),
-    name_bytes: (n, t, b) => exports.wanlopheng_name_bytes(TOLD, BYTES, b, TABLE, t, 0, ANSWER, 4096, WORK, 8192),
-    find: (n, t) => exports.wanlopheng_find(TOLD, NAME, n, TABLE, t, 0, BOOK, 16912, ANSWER, 4096, WORK, 8192),
+    name: (n, t) => exports.wanlopheng_name(TOLD, NAME, n, TABLE, t, 0, ...BUFFERS),
+    label: (n, t) => exports.wanlopheng_label(TOLD, NAME, n, TABLE, t, 0, ...BUFFERS),
+    namehash: (n, t) => exports.wanlopheng_namehash(TOLD, NAME, n, TABLE, t, 0, ...BUFFERS),
+    nfd: (n, t) => exports.wanlopheng_nfd(TOLD, NAME, n, TABLE, t, ...BUFFERS),
+    nfc: (n, t) => exports.wanlopheng_nfc(TOLD, NAME, n, TABLE, t, ...BUFFERS),
+    group: (n, t) => exports.wanlopheng_group(TOLD, NAME, n, TABLE, t),
+    emoji: (n, t) => exports.wanlopheng_emoji(TOLD, NAME, n, TABLE, t),
+    trim: (n) => exports.wanlopheng_trim(TOLD, NAME, n),
+    utf8_write: (n) => exports.wanlopheng_utf8_write(TOLD, NAME, n, ANSWER, 16384),
+    utf8_read: (n, t, b) => exports.wanlopheng_utf8_read(TOLD, BYTES, b, ANSWER, 4096),
+    name_bytes: (n, t, b) => exports.wanlopheng_name_bytes(TOLD, BYTES, b, TABLE, t, 0, ...BUFFERS),
+    save: (n, t) => exports.wanlopheng_save(TOLD, NAME, n, TABLE, t, 0, GIVEN, BOOK, 16912, ...BUFFERS),
+    find: (n, t) => exports.wanlopheng_find(TOLD, NAME, n, TABLE, t, 0, BOOK, 16912, ...BUFFERS),
+    moved: (n, t) => exports.wanlopheng_moved(TOLD, BOOK, 16912, TABLE, t, ...BUFFERS),
+    forget: (n, t) => exports.wanlopheng_forget(TOLD, NAME, n, TABLE, t, 0, BOOK, 16912, ...BUFFERS),
+    reset: () => exports.wanlopheng_reset(TOLD, BOOK, 16912, ...BUFFERS),
+    respelled: (n, t) => exports.wanlopheng_respelled(TOLD, NAME, n, TABLE, t, ...BUFFERS),
+    keccak256: (n, t, b) => exports.wanlopheng_keccak256(TOLD, BYTES, b),
+    sponge_new: () => exports.wanlopheng_sponge_new(TOLD),
+    sponge_absorb: (n, t, b) => exports.wanlopheng_sponge_absorb(TOLD, GIVEN, BYTES, b),
+    sponge_digest: () => exports.wanlopheng_sponge_digest(TOLD, GIVEN),
     report: (n, t) => exports.wanlopheng_report(TOLD, NAME, n, TABLE, t, 0, REPORT, 323584, WORK, 8192),
-    respelled: (n, t) => exports.wanlopheng_respelled(TOLD, NAME, n, TABLE, t, ANSWER, 4096, WORK, 8192),
-    moved: (n, t) => exports.wanlopheng_moved(TOLD, BOOK, 16912, TABLE, t, ANSWER, 4096, WORK, 8192),
 };
-const most = Object.fromEntries([...Object.keys(CALLS), 'soundness', 'unpack'].map((kind) => [kind, [0, 0, 0]]));
+const HASHES = ['keccak256', 'sponge_new', 'sponge_absorb', 'sponge_digest'];
+const most = Object.fromEntries([...Object.keys(CALLS), 'soundness', 'layout_fault', 'unpack'].map((kind) => [kind, [0, 0, 0]]));
 
 /** What of a text stands in the words from `at` on, as rust/engine/tests/painted/mod.rs counts it. */
 function traces(text, at) {
@@ -70,6 +86,7 @@ for (let i = 0; i < given[2]; i++) {
 for (const table of tables) {
     put(TABLE, table);
     measure('soundness', () => exports.wanlopheng_soundness(TOLD, TABLE, table.length), () => []);
+    measure('layout_fault', () => exports.wanlopheng_layout_fault(TABLE, table.length), () => []);
     const file = new DataView(new ArrayBuffer(5 + 4 * table.length));
     file.setUint8(0, 2);
     [table.length, ...table].forEach((word, i) => file.setUint32(1 + 4 * i, word));
@@ -93,10 +110,8 @@ for (let left = given[at++]; left > 0; left--) {
             const end = answer.indexOf(0);
             return [...answer.subarray(0, end < 0 ? 4096 : end)];
         };
-        // A book with this name in it is walked by `moved`.
-        if (kind === 'moved') exports.wanlopheng_save(TOLD, NAME, count, TABLE, tables[table].length, 0, TOLD + 64, BOOK, 16912, ANSWER, 4096, WORK, 8192);
-        measure(kind, () => call(count, tables[table].length, length), () => [name, form(), decomposed]);
-        words.fill(0, BOOK / 4, BOOK / 4 + 16912);
+        const texts = () => (HASHES.includes(kind) ? [] : [name, form(), decomposed]);
+        measure(kind, () => call(count, tables[table].length, length), texts);
     }
 }
 console.log(JSON.stringify(most));
