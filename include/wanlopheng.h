@@ -1,4 +1,5 @@
-/* The calls of Wanlopheng for C. Link libwanlopheng.a, which `./install` of the repository writes (x86-64).
+/* The calls of Wanlopheng for C. Link libwanlopheng.a, which `./install` of the repository writes for x86-64 and `tools/targets` for
+ * other machines.
  *
  * A slice crosses as a pointer and a number of elements. The pointer is not null and is aligned, also where there are no
  * elements: hand over the address of any word then. The elements can be read, those of the answer and of the work area also

@@ -1,4 +1,4 @@
-# Functions of ./normalise, ./run and ./install, to be sourced with $root and $me (the command's name) set: they prove and build what has
+# Functions of ./normalise, ./run, ./install and tools/targets, to be sourced with $root and $me (the command's name) set: they prove and build what has
 # changed. With WANLOPHENG_BUILT=1 in the environment everything is taken as it is built, and nothing is proved.
 
 # need TOOL WHAT: the tool has to be there
@@ -90,10 +90,15 @@ build_program() {
     quietly "$(reached "$1" | wc -l)" rt check "$1"
 }
 
-# build_archive NAME: proves and writes target/staticlib/libNAME.a where something of it has changed: a crate below it was proved since the
-# archive was written, or its own files are newer
+# archives: the archives of the library, one a line
+archives() {
+    sed '/^#/d' "$root/archives.txt"
+}
+
+# build_archive NAME: proves and writes target/staticlib/libNAME.a, and NAME.bc beside it, the module that it was compiled from, where
+# something of it has changed: a crate below it was proved since the archive was written, or its own files are newer
 build_archive() {
-    local archive=$root/target/staticlib/lib$1.a crate=$root/crates/$1 name rests_on
+    local archive=$root/target/staticlib/lib$1.a module=$root/target/staticlib/$1.bc crate=$root/crates/$1 name rests_on
     if [ -n "${WANLOPHENG_BUILT:-}" ]; then
         [ -f "$archive" ] && return
         echo "$me: target/staticlib/lib$1.a is missing, and WANLOPHENG_BUILT is set" >&2
@@ -108,8 +113,16 @@ build_archive() {
     for name in $(below "$1"); do
         rests_on+=("$root/target/stamp/$name")
     done
-    if [ ! -f "$archive" ] || [ -n "$(find "${rests_on[@]}" -newer "$archive" -print -quit)" ]; then
+    if [ ! -f "$archive" ] || [ ! "$module" -nt "$archive" ] || [ -n "$(find "${rests_on[@]}" -newer "$archive" -print -quit)" ]; then
         told_first
-        quietly 1 rt staticlib "$1"
+        quietly 1 tools/staticlib "$1"
     fi
+}
+
+# build_archives: all archives of the library
+build_archives() {
+    local name
+    for name in $(archives); do
+        build_archive "$name"
+    done
 }

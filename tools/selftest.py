@@ -1,11 +1,12 @@
 #!/usr/bin/env python3
-"""Tests of tools/landing, tools/edits and tools/pointers. Last line: 'N passed, M failed'."""
+"""Tests of tools/landing, tools/edits, tools/pointers and of what tools/targets does to a module. Last line: 'N passed, M failed'."""
 
 import contextlib
 import importlib.machinery
 import importlib.util
 import io
 import os
+import re
 import subprocess
 import sys
 import tempfile
@@ -26,6 +27,11 @@ sys.dont_write_bytecode = True
 landing = tool("landing")
 edits = tool("edits")
 pointers = tool("pointers")
+sys.path.insert(0, str(HERE.parent / "targets"))
+import build  # noqa: E402
+import header  # noqa: E402
+import retarget  # noqa: E402
+import run  # noqa: E402
 
 SPEC = """-- What it defines.
 use Prim.Native.Nat.{ℕ, _≤_}
@@ -263,6 +269,152 @@ class Pointers(unittest.TestCase):
         dead = lambda cell: list(pointers.dead_in_cell(cell))
         self.assertEqual(dead("`low` `limit`, `in-limit`; `low/src/lib.rt` `fits`"), [])
         self.assertEqual(len(dead("`low` `limits`, `in-lim`; `low/src/lib.rt` `limit-of`")), 3)
+
+
+HEADER = """/* Two calls. */
+struct wanlopheng_part { size_t start; size_t length; };
+struct wanlopheng_big { uint32_t number; struct wanlopheng_part part; uint8_t bytes[3]; };
+struct wanlopheng_part wanlopheng_trim(const uint32_t *input,
+                                       size_t input_length);
+struct wanlopheng_big wanlopheng_fill(struct wanlopheng_big big, uint32_t setting);
+"""
+
+MODULE = f"""source_filename = "rattle"
+target datalayout = "{retarget.LAYOUT}"
+target triple = "{retarget.TRIPLE}"
+
+; Function Attrs: nounwind
+define internal void @"low::copy"(ptr noundef %a0, ptr noundef %a1) #0 {{
+start:
+  %r0 = alloca [16 x i8], align 8
+  call void @llvm.memmove.p0.p0.i64(ptr %r0, ptr %a0, i64 16, i1 false)
+  %r1 = getelementptr i8, ptr %r0, i64 8
+  %r2 = load i64, ptr %r1, align 8, !noundef !1
+  store i64 %r2, ptr %a1, align 8
+  ret void
+}}
+
+define {{ i64, i64 }} @wanlopheng_trim(ptr noundef %a0, i64 noundef %a1) #0 {{
+start:
+  %r0 = alloca [16 x i8], align 8
+  call void @"low::copy"(ptr %a0, ptr %r0)
+  %r9 = load {{ i64, i64 }}, ptr %r0, align 8
+  ret {{ i64, i64 }} %r9
+}}
+
+define noundef ptr @wanlopheng_fill(ptr noundef %a0, ptr noundef byval([32 x i8]) align 8 %a1, i32 noundef %a2) #0 {{
+start:
+  ret ptr %a0
+}}
+
+declare void @llvm.memmove.p0.p0.i64(ptr writeonly captures(none), ptr readonly captures(none), i64, i1 immarg) #1
+
+{retarget.ATTRIBUTES}
+attributes #1 = {{ nocallback nofree nounwind willreturn memory(argmem: readwrite) }}
+
+!llvm.ident = !{{!0}}
+
+!0 = !{{!"rattle logic=00"}}
+!1 = !{{}}
+"""
+
+
+class Targets(unittest.TestCase):
+    def setUp(self):
+        self.header = header.Header(HEADER)
+
+    def changed(self, module=MODULE, probes=False, bits=32):
+        return retarget.retarget(module, self.header, "e-p:32:32", "thumbv7em-none-eabi", probes, bits)
+
+    def test_only_these_lines_are_changed(self):
+        text, calls = self.changed()
+        self.assertEqual([c.name for c in calls], ["wanlopheng_trim", "wanlopheng_fill"])
+        before, after = MODULE.splitlines(), text.splitlines()
+        moved = [(a, b) for a, b in zip(before, after) if a != b]
+        self.assertEqual([b for _, b in moved], [
+            'target datalayout = "e-p:32:32"',
+            'target triple = "thumbv7em-none-eabi"',
+            "  call void @llvm.memmove.p0.p0.i32(ptr %r0, ptr %a0, i32 16, i1 false)",
+            "define internal { i64, i64 } @wanlopheng_trim(ptr noundef %a0, i64 noundef %a1) #0 {",
+            "define internal noundef ptr @wanlopheng_fill(ptr noundef %a0, ptr noundef byval([32 x i8]) align 8 %a1, i32 noundef %a2) #0 {",
+            "declare void @llvm.memmove.p0.p0.i32(ptr writeonly captures(none), ptr readonly captures(none), i32, i1 immarg) #1",
+            "attributes #0 = { nounwind }",
+        ])
+        added = "\n".join(after[len(before):])
+        self.assertEqual(re.findall(r"^  (.*)", added, re.M), [
+            "%r = call { i64, i64 } @wanlopheng_trim(ptr %a0, i64 %a1)",
+            "store { i64, i64 } %r, ptr %answer, align 8",
+            "ret void",
+            "call ptr @wanlopheng_fill(ptr %answer, ptr byval([32 x i8]) align 8 %a0, i32 %a1)",
+            "ret void",
+        ])
+        self.assertIn('"probe-stack"="inline-asm"', self.changed(probes=True)[0])
+        self.assertIn("i64 16, i1 false", self.changed(bits=64)[0])
+
+    def test_what_does_not_carry_over_is_refused(self):
+        line = "  store i64 %r2, ptr %a1, align 8\n"
+        for other in (
+            "  %r3 = ptrtoint ptr %a0 to i64\n",
+            "  %r3 = inttoptr i64 %r2 to ptr\n",
+            '  call void asm sideeffect "nop", ""()\n',
+            "  %r3 = load i128, ptr %a0, align 16\n",
+            "  %r3 = load double, ptr %a0, align 8\n",
+            "  %r3 = alloca { ptr, i64 }, align 8\n",
+            "  %r3 = getelementptr { ptr, i64 }, ptr %a0, i64 1\n",
+            "  call void @llvm.memmove.p0.p0.i64(ptr %r0, ptr %a0, i64 %r2, i1 false)\n",
+            "  %r3 = call i64 @llvm.ctpop.i64(i64 %r2)\n",
+            "  store <4 x i32> zeroinitializer, ptr %a0, align 16\n",
+        ):
+            with self.assertRaises(header.Unknown, msg=other):
+                self.changed(MODULE.replace(line, line + other))
+        for old, new in (
+            (retarget.LAYOUT, retarget.LAYOUT.replace("i64:64", "i64:32")),
+            (retarget.TRIPLE, "x86_64-pc-windows-msvc"),
+            ('"target-cpu"="x86-64"', '"target-cpu"="x86-64-v3"'),
+            ('source_filename = "rattle"', '@table = internal constant [1 x ptr] [ptr @wanlopheng_trim], align 8'),
+            ("@wanlopheng_trim(ptr noundef %a0, i64 noundef %a1)", "@wanlopheng_trim(ptr noundef %a0, i32 noundef %a1)"),
+            ("define noundef ptr @wanlopheng_fill", "define noundef ptr @wanlopheng_more"),
+        ):
+            self.assertIn(old, MODULE)
+            with self.assertRaises(header.Unknown, msg=new):
+                self.changed(MODULE.replace(old, new))
+
+    def test_the_header(self):
+        self.assertEqual(self.header.layout("struct wanlopheng_big"), (32, 8))
+        shim = self.header.shim(self.header.calls)
+        self.assertIn("_Static_assert(sizeof(struct wide_wanlopheng_big) == 32", shim)
+        self.assertIn("to->start = (size_t)from->start;", shim)
+        self.assertIn("for (size_t i = 0; i < 3; i++) to->bytes[i] = from->bytes[i];", shim)
+        for bad in ("struct wanlopheng_x { float f; };", "uint32_t wanlopheng_x(struct wanlopheng_part small);", "long wanlopheng_x(void);"):
+            with self.assertRaises(header.Unknown, msg=bad):
+                other = header.Header(HEADER + bad + "\n")
+                for call in other.calls:
+                    other.signature(call)
+                for struct in other.structs:
+                    other.layout(f"struct {struct}")
+
+    def test_every_call_of_the_header_is_found(self):
+        text = (HERE.parent / "include/wanlopheng.h").read_text(encoding="utf-8")
+        found = header.Header(text)
+        self.assertGreater(len(found.calls), 20)
+        self.assertEqual(len({c.name for c in found.calls}), len(found.calls))
+        for call in found.calls:
+            found.signature(call)
+        self.assertEqual(set(run.KINDS), {c.name.removeprefix("wanlopheng_") for c in found.calls}, "the stack of every call is measured")
+
+    def test_frames(self):
+        usage = "/tmp/m.ll:a\t100\tstatic\n/tmp/m.ll:low::c\t50\tstatic\n"
+        self.assertEqual(build.frame_sizes("/tmp/m.c:7:24:wanlopheng_name\t40\tstatic\n"), {"wanlopheng_name": 48})
+        text = ('define void @a() {\n  call void @"low::b"()\n  call void @"low::c"()\n}\ndefine void @"low::b"() {\n  call void @"low::c"()\n}\n'
+                'define void @"low::c"() {\n}\n')
+        self.assertEqual(build.frames(usage, text), {"a": 166, "low::b": 58, "low::c": 58})
+        copy = "  call void @llvm.memmove.p0.p0.i32(ptr %a, ptr %b, i32 9, i1 false)"
+        copying = text.replace('@"low::c"() {', '@"low::c"() {\n' + copy)
+        self.assertEqual(build.frames(usage, copying)["a"], 166 + build.ROUTINE)
+        with self.assertRaises(header.Unknown):
+            build.frames(usage, text.replace('@"low::c"() {', '@"low::c"() {\n  call void @a()'))
+        with self.assertRaises(header.Unknown):
+            build.frames(usage.replace("static", "dynamic"), text)
 
 
 if __name__ == "__main__":

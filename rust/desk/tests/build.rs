@@ -26,9 +26,19 @@ check)
         fi
     done
     ;;
-staticlib) mkdir -p target/staticlib && echo >"target/staticlib/lib$1.a" ;;
+staticlib)
+    mkdir -p target/staticlib
+    room=$(mktemp -d)
+    echo "the module of $1" >"$room/module.bc"
+    (cd "$room" && env -i PATH="$PATH" "$RATTLE_HOME/on/$(uname -m)/toolchain/bin/clang" -x ir module.bc -o module.o)
+    mv "$room/module.o" "target/staticlib/lib$1.a"
+    rm -r "$room"
+    ;;
 esac
 "#;
+
+/// What stands for the toolchain's clang: it writes what it was asked.
+const CLANG: &str = "#!/bin/sh\n(echo \"$@\"; cat \"$3\") >\"$5\"\n";
 
 /// A repository of two libraries and a program, and the stand-in for rt.
 struct Repository(PathBuf);
@@ -52,9 +62,13 @@ impl Repository {
                 fs::create_dir_all(repository.0.join("crates").join(name).join(folder)).expect("a folder");
             }
         }
-        repository.write("bin/rt", RT);
-        let made = Command::new("chmod").arg("+x").arg(repository.0.join("bin/rt")).status();
-        assert!(made.is_ok_and(|status| status.success()));
+        let staticlib = fs::read_to_string(desk::in_repository("tools/staticlib")).expect("tools/staticlib");
+        let clang = format!("on/{}/toolchain/bin/clang", std::env::consts::ARCH);
+        for (program, text) in [("bin/rt", RT), (&clang, CLANG), ("tools/staticlib", &staticlib)] {
+            repository.write(program, text);
+            let made = Command::new("chmod").arg("+x").arg(repository.0.join(program)).status();
+            assert!(made.is_ok_and(|status| status.success()));
+        }
         repository
     }
 
@@ -99,6 +113,21 @@ fn an_archive_is_built_where_something_of_it_has_changed() {
     assert_eq!(archive(), checked, "a crate that it does not stand on");
     fs::remove_file(repository.0.join("target/staticlib/libboundary.a")).expect("an archive");
     assert_eq!(archive(), both, "the archive is gone");
+    fs::remove_file(repository.0.join("target/staticlib/boundary.bc")).expect("a module");
+    assert_eq!(archive(), both, "its module is gone");
+    repository.calls("sleep 0.01; touch target/staticlib/libboundary.a");
+    assert_eq!(archive(), both, "the archive is newer than the module that is kept");
+}
+
+/// The module that is kept is the one that was compiled, with the words that rt
+/// gave.
+#[test]
+fn the_module_of_an_archive_is_kept() {
+    let repository = Repository::new("module");
+    repository.calls("build_archive boundary");
+    let read = |name: &str| fs::read_to_string(repository.0.join("target/staticlib").join(name)).expect("a file");
+    assert_eq!(read("boundary.bc"), "the module of boundary\n");
+    assert_eq!(read("libboundary.a"), "-x ir module.bc -o module.o\nthe module of boundary\n");
 }
 
 #[test]

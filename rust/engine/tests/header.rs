@@ -19,6 +19,13 @@ fn root() -> PathBuf {
     Path::new(env!("CARGO_MANIFEST_DIR")).join("../..")
 }
 
+/// The archives that archives.txt lists.
+fn archives() -> Vec<PathBuf> {
+    let list = std::fs::read_to_string(root().join("archives.txt")).expect("archives.txt");
+    let names = list.lines().filter(|line| !line.starts_with('#'));
+    names.map(|name| root().join(format!("target/staticlib/lib{name}.a"))).collect()
+}
+
 /// Compiles a C file, with every warning an error, and runs it in the root of
 /// the repository.
 fn run(source: &Path, name: &str) -> Output {
@@ -27,11 +34,7 @@ fn run(source: &Path, name: &str) -> Output {
         .args(["-std=c99", "-Wall", "-Wextra", "-Werror", "-I"])
         .arg(root().join("include"))
         .arg(source)
-        .arg(root().join("target/staticlib/libboundary.a"))
-        .arg(root().join("target/staticlib/libbook_boundary.a"))
-        .arg(root().join("target/staticlib/liblisting_boundary.a"))
-        .arg(root().join("target/staticlib/libreport_boundary.a"))
-        .arg(root().join("target/staticlib/libnormal_forms.a"))
+        .args(archives())
         .arg("-o")
         .arg(&program)
         .status()
