@@ -15,18 +15,18 @@ function h(tag, attributes = {}, ...children) {
         else if (value === true) made.setAttribute(name, '');
         else if (value !== false && value !== null) made.setAttribute(name, value);
     }
-    made.append(...children.flat().filter((c) => c !== null && c !== undefined));
+    made.append(...children.flat(Infinity).filter((c) => c !== null && c !== undefined));
     return made;
 }
 
 function fill(id, ...children) {
-    $(id).replaceChildren(...children.flat().filter((c) => c !== null && c !== undefined));
+    $(id).replaceChildren(...children.flat(Infinity).filter((c) => c !== null && c !== undefined));
 }
 
 const bytesOf = (base64) => Uint8Array.from(atob(base64.trim()), (c) => c.charCodeAt(0));
 
 /** What the page has: the engine, the tables, and the book to try. */
-const state = { library: null, module: null, tables: [], try: null, dump: null, list: null, difference: null };
+export const state = { library: null, module: null, tables: [], try: null, dump: null, list: null, difference: null };
 
 /** The table in use, with what `judge` needs. */
 function desk(number = Number($('which').value)) {

@@ -58,7 +58,7 @@ test('ignored characters count to a token, also before an emoji', async () => {
 const REFUSED = [
     ['x'.repeat(16385), 3, null], ['a\ud800b', 4, [1, 2]], ['nıck', 5, [1, 2]], ['a..b', 6, [2, 2]], ['ab.' + of('21000').repeat(4097), 7, [3, 4100]],
     ['a'.repeat(4097), 7, [0, 4097]], ['x.a_', 8, [2, 4]], ['xn--', 9, [0, 4]], ["a.b'", 10, [2, 4]], ['💩\u0301', 11, [0, 2]], ['aж', 12, [0, 2]],
-    ['x\u0300\u0300', 13, [0, 3]], ['0х', 14, [0, 2]],
+    ['\u0645\u0610\u0610', 13, [0, 3]], ['0х', 14, [0, 2]],
 ];
 
 test('refusals in words, with their places', async () => {
@@ -71,7 +71,7 @@ test('refusals in words, with their places', async () => {
         else assert.equal(found.label, null);
     }
     const mixed = judge(desk, 'aжb');
-    assert.deepEqual(mixed.characters.map((c) => c.codepoint).sort(), [0x61, 0x62, 0x436]);
+    assert.deepEqual(mixed.characters.map((c) => c.codepoint).toSorted((a, b) => a - b), [0x61, 0x62, 0x436]);
     assert.ok(mixed.characters.find((c) => c.codepoint === 0x436).groups.includes('Cyrillic'));
     const alike = judge(desk, '0х');
     assert.ok(alike.groups.includes('Latin'));
