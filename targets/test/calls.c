@@ -80,12 +80,15 @@ static void fold_digest(struct wanlopheng_digest d) {
     for (size_t i = 0; i < 32; i++) fold(d.bytes[i]);
 }
 
-static int names(const struct question *q) {
+static int name(const struct question *q) {
     mark(q);
     struct wanlopheng_name n = wanlopheng_name(q->name, q->length, q->table, q->words, q->setting, answer, q->room, work, q->work);
     fold_size(n.length);
     fold_size(n.labels);
-    if (ended(q, n.number, n.place)) return 1;
+    return ended(q, n.number, n.place);
+}
+
+static int labels(const struct question *q) {
     mark(q);
     struct wanlopheng_label l = wanlopheng_label(q->name, q->length, q->table, q->words, q->setting, answer, q->room, work, q->work);
     fold_size(l.length);
@@ -252,9 +255,11 @@ static int tables(const uint32_t *table, size_t words) {
     return 0;
 }
 
+/* All calls; a long name on a large table is asked of the name call alone, since an emulator is slow. */
 static int answered(const struct question *q, uint32_t number) {
     if (q->room > ROOM || q->work > ROOM || q->length > 4 * ROOM) return 5;
-    return names(q) || lookups(q) || forms(q) || shown(q) || bytes(q) || payees(q, number) ? 7 : 0;
+    if (q->length > 1000 && q->words > 10000) return name(q) ? 7 : 0;
+    return name(q) || labels(q) || lookups(q) || forms(q) || shown(q) || bytes(q) || payees(q, number) ? 7 : 0;
 }
 
 #ifdef __wasm__ /* targets/test/stack.mjs does it from without */
@@ -342,6 +347,7 @@ static void traces(const uint32_t *text, size_t length, size_t at, uint32_t *wor
     uint32_t found = 0;
     for (; at < PAINTED; at++) {
         int counts = 0;
+        if (lowest[at] == 0 || lowest[at] > 0x10FFFF) continue;
         for (size_t start = 0; start < length; start++) {
             if (text[start] != lowest[at]) continue;
             counts = text[start] >= 0x100;

@@ -54,6 +54,7 @@ function traces(text, at) {
     let [found, inOrder] = [0, 0];
     for (let i = at; i < stack.length; i++) {
         let counts = false;
+        if (stack[i] === 0 || stack[i] > 0x10ffff) continue;
         text.forEach((c, start) => {
             if (c !== stack[i]) return;
             counts = c >= 0x100;
