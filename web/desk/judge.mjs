@@ -137,7 +137,7 @@ export const greekOf = (desk) => (desk.groups.includes('Greek') ? desk.groups.in
 
 /** The screen form (Item 1), where the engine has the call; else null. */
 export function screenOf(desk, text) {
-    return typeof desk.table.screen === 'function' ? desk.table.screen(text, greekOf(desk), desk.options) : null;
+    return typeof desk.table.screen === 'function' ? desk.table.screen(text, { ...desk.options, greek: greekOf(desk) }) : null;
 }
 
 function accepted(desk, text, codepoints, name) {

@@ -163,7 +163,7 @@ function allow() {
 
 function showRefused(found) {
     const place = found.number === 4 || found.number === 5 ? `character ${found.place}, ${numbered(found.codepoint)}, in label ${found.label}` : found.label === null ? '' : `label ${found.label}`;
-    return [facts(['Refusal', `${found.number}: ${found.text}`], place === '' ? null : ['Where', `${place}, counted from 0`], ['Rule', found.rule], ['What helps', found.help]), found.label === null ? null : marked(found), behind(found)];
+    return [facts(['Refusal', `${found.number}: ${found.text}`], place === '' ? null : ['Where', `${place}, counted from 0`], ['What helps', found.help]), found.label === null ? null : marked(found), behind(found)];
 }
 
 function blankNote({ front, back, without }) {
@@ -336,13 +336,16 @@ function showDifference(found) {
 
 // A payee book.
 
+/** The filed slots; with the screen form where the engine has the call. */
 function slotTable(caption, words) {
-    const rows = filed(words).map(({ slot, length, form, account }) => {
+    const screens = screenOf(desk(), '') !== null;
+    const rows = filed(words).map(({ slot, form, account }) => {
         const name = textOf(form);
-        const screen = name === null || length > 255 ? null : screenOf(desk(), name);
-        return [String(slot), labels(form), screen?.accepted ? labels(screen.codepoints) : '', h('code', {}, accountText(account))];
+        const screen = name === null || !screens ? null : screenOf(desk(), name);
+        const shownScreen = screens ? [screen?.accepted ? labels(screen.codepoints) : ''] : [];
+        return [String(slot), labels(form), ...shownScreen, h('code', {}, accountText(account))];
     });
-    return rows.length === 0 ? h('p', {}, 'No slot is filed.') : grid(caption, ['Slot', 'Name', 'Screen form', 'Account'], rows);
+    return rows.length === 0 ? h('p', {}, 'No slot is filed.') : grid(caption, ['Slot', 'Name', ...(screens ? ['Screen form'] : []), 'Account'], rows);
 }
 
 function movedTables(words) {

@@ -7,7 +7,7 @@ import { fileURLToPath } from 'node:url';
 import vm from 'node:vm';
 import { BOOK_WORDS, MEANINGS, load } from '../wanlopheng.mjs';
 import * as books from './book.mjs';
-import { judge, RULES, shown } from './judge.mjs';
+import { judge, RULES, screenOf, shown } from './judge.mjs';
 import { arranged, cell, cellsOf, counts, csv, differs, namesOf, row, ROW_HEAD, told } from './lists.mjs';
 import { Contents, SOUNDNESS_RULES } from './table.mjs';
 import { work } from './worker.mjs';
@@ -45,6 +45,15 @@ test('an accepted name', async () => {
     assert.equal(judge(desk, '𓆏').labels[0].kind, 'Egyp, a rare script (restricted)');
     assert.equal(judge(desk, '🧑‍💻').labels[0].kind, 'emoji alone');
     assert.deepEqual(judge(desk, '').labels, []);
+});
+
+test('the screen form, where the engine has it', async () => {
+    const desk = await opened();
+    const asked = screenOf({ ...desk, table: { screen: (name, options) => [name, options] }, options: { restrict: true } }, 'x');
+    assert.deepEqual(asked, ['x', { restrict: true, greek: 1 }]);
+    assert.equal(screenOf({ ...desk, groups: [], table: { screen: (name, options) => options.greek } }, 'x'), desk.contents.groups.length);
+    if (typeof desk.table.screen !== 'function') return assert.equal(judge(desk, 'a').screen, null);
+    assert.deepEqual(judge(desk, '👨‍❤‍👨').screen.codepoints, hex('1F468 200D 2764 FE0F 200D 1F468'));
 });
 
 test('ignored characters count to a token, also before an emoji', async () => {
