@@ -129,7 +129,7 @@ export const groupName = (desk, number) => desk.groups[number] ?? `group ${numbe
 function kindOf(desk, label) {
     if (label.kind === 'emoji') return 'emoji alone';
     if (label.kind === 'ascii') return 'ASCII';
-    return `${groupName(desk, label.group)}${label.restricted ? ', a rare script (restricted)' : ''}`;
+    return groupName(desk, label.group);
 }
 
 /** The number of the Greek group, or one beyond the last group. */
@@ -144,7 +144,7 @@ function accepted(desk, text, codepoints, name) {
     const labels = labelsOf(name.codepoints).map(({ start, end }) => {
         const form = name.codepoints.slice(start, end);
         const label = name.form === null ? null : desk.table.label(textOf(form), desk.options);
-        return { codepoints: form, kind: label?.accepted ? kindOf(desk, label) : 'not told by this table', restricted: label?.restricted === true };
+        return { codepoints: form, kind: label?.accepted ? kindOf(desk, label) : 'not told by this table', restricted: label?.restricted ?? null };
     });
     const hashed = desk.table.namehash(text, desk.options);
     return {

@@ -26,7 +26,7 @@ function fill(id, ...children) {
 const bytesOf = (base64) => Uint8Array.from(atob(base64.trim()), (c) => c.charCodeAt(0));
 
 /** What the page has: the engine, the tables, and the book to try. */
-export const state = { library: null, module: null, tables: [], try: null, dump: null, list: null, difference: null };
+export const state = { library: null, module: null, tables: [], try: null, dump: null, list: null, difference: null, check: () => {}, due: null };
 
 /** The table in use, with what `judge` needs. */
 function desk(number = Number($('which').value)) {
@@ -35,17 +35,26 @@ function desk(number = Number($('which').value)) {
 
 // Text on the page.
 
+const LONG = 300; // codepoints of a text that are shown
+
+const rest = (codepoints) => (codepoints.length > LONG ? h('span', { class: 'number' }, `and ${(codepoints.length - LONG).toLocaleString('en')} more`) : null);
+
 /** A text in which what cannot be seen stands as a number; isolated, so that its direction does not turn what stands beside it. */
-function text(codepoints, className = null) {
+function text(codepoints) {
     const { contents } = desk();
-    return h('bdi', { class: className }, shown([...codepoints], contents).map((p) => (p.number ? h('span', { class: 'number' }, p.text) : p.text)));
+    const pieces = shown([...codepoints.slice(0, LONG)], contents).map((p) => (p.number ? h('span', { class: 'number' }, p.text) : p.text));
+    return h('bdi', {}, pieces, rest(codepoints));
+}
+
+function numbers(codepoints) {
+    return h('code', {}, hex(codepoints.slice(0, LONG)), rest(codepoints));
 }
 
 /** A whole name, label by label, each isolated. */
 function labels(codepoints, className = null) {
     const parts = [];
     let from = 0;
-    codepoints.forEach((c, at) => {
+    codepoints.slice(0, LONG).forEach((c, at) => {
         if (c !== 0x2e) return;
         parts.push(text(codepoints.slice(from, at)), '.');
         from = at + 1;
@@ -94,11 +103,12 @@ function save(name, content) {
 
 // A name.
 
+const SHOWN = 200; // rows of labels and tokens
 const HOW = { kept: 'kept', mapped: 'mapped to', ignored: 'ignored', disallowed: 'not allowed', emoji: 'emoji' };
 
 function partLine(part) {
-    const from = [text(part.from), ' ', h('code', {}, hex(part.from))];
-    if (part.how === 'mapped') return h('li', {}, from, ' mapped to ', text(part.to), ' ', h('code', {}, hex(part.to)));
+    const from = [text(part.from), ' ', numbers(part.from)];
+    if (part.how === 'mapped') return h('li', {}, from, ' mapped to ', text(part.to), ' ', numbers(part.to));
     return h('li', {}, from, ` ${HOW[part.how]}`);
 }
 
@@ -114,8 +124,9 @@ function partLines(parts) {
 }
 
 function tokenTable(found) {
-    const rows = found.tokens.map((t) => [t.kind, `${t.start} to ${t.end}`, text(found.input.slice(t.start, t.end)), partLines(t.parts)]);
-    return rows.length === 0 ? null : grid('What was typed, token by token; places are counted from 0', ['Token', 'Places', 'Typed', 'What became of it'], rows);
+    const rows = found.tokens.slice(0, SHOWN).map((t) => [t.kind, `${t.start} to ${t.end}`, text(found.input.slice(t.start, t.end)), partLines(t.parts)]);
+    const more = found.tokens.length > SHOWN ? `; the first ${SHOWN} of ${found.tokens.length}` : '';
+    return rows.length === 0 ? null : grid(`What was typed, token by token; places are counted from 0${more}`, ['Token', 'Places', 'Typed', 'What became of it'], rows);
 }
 
 function showAccepted(found) {
@@ -125,11 +136,11 @@ function showAccepted(found) {
         found.codepoints.length === 0 ? h('p', {}, 'The empty name: it has no labels.') : null,
         facts(
             ['Normal form', labels(found.codepoints, 'form'), copyButton('the normal form', form)],
-            ['Codepoints', h('code', {}, hex(found.codepoints)), copyButton('the codepoints', hex(found.codepoints))],
+            ['Codepoints', numbers(found.codepoints), copyButton('the codepoints', hex(found.codepoints))],
             screen === null ? null : ['Screen form', screen.accepted ? [labels(screen.codepoints, 'form'), copyButton('the screen form', screen.form ?? '')] : `refusal ${screen.refusal.number}: ${screen.refusal.text}`],
             found.hash === null ? null : ['Hash', h('code', {}, found.hash), copyButton('the hash', found.hash)],
         ),
-        found.labels.length === 0 ? null : grid('Labels', ['No.', 'Label', 'Kind', 'Codepoints'], found.labels.map((l, i) => [String(i), text(l.codepoints), l.kind, h('code', {}, hex(l.codepoints))])),
+        found.labels.length === 0 ? null : grid('Labels', ['No.', 'Label', 'Kind', 'Rare script (restricted)', 'Codepoints'], found.labels.slice(0, SHOWN).map((l, i) => [String(i), text(l.codepoints), l.kind, l.restricted === null ? '' : l.restricted ? 'yes' : 'no', numbers(l.codepoints)])),
     ];
 }
 
@@ -176,22 +187,32 @@ function blankNote({ front, back, without }) {
     return h('p', {}, `Blanks or line ends stand around the name: ${front} before it, ${back} behind it. `, h('button', { type: 'button', id: 'trim', onclick: take }, 'Take them off'));
 }
 
+/** Judges what is in the field, and shows it. */
 function judgeName() {
     const typed = $('name').value;
     $('verdict').className = 'verdict';
-    if (typed === '') {
-        fill('verdict');
-        fill('answer');
-        fill('took');
-        return;
-    }
+    for (const id of ['verdict', 'answer', 'took']) fill(id);
+    if (typed === '') return;
     const began = performance.now();
-    const found = judge(desk(), typed);
-    const took = performance.now() - began;
-    $('verdict').classList.add(found.accepted ? 'accepted' : 'refused');
-    fill('verdict', found.accepted ? (found.changed ? 'Accepted; the normal form differs from what was typed' : 'Accepted; it is its own normal form') : `Refused (${found.number}): ${found.rule}`);
-    fill('answer', blankNote(found.blanks), found.accepted ? showAccepted(found) : showRefused(found), tokenTable(found));
-    fill('took', `Answered in ${took.toFixed(1)} ms, shown after ${(performance.now() - began).toFixed(1)} ms.`);
+    try {
+        const found = judge(desk(), typed);
+        const took = performance.now() - began;
+        const said = found.changed ? 'Accepted; the normal form differs from what was typed' : 'Accepted; it is its own normal form';
+        $('verdict').classList.add(found.accepted ? 'accepted' : 'refused');
+        fill('verdict', found.accepted ? said : `Refused (${found.number}): ${found.rule}`);
+        fill('answer', blankNote(found.blanks), found.accepted ? showAccepted(found) : showRefused(found), tokenTable(found));
+        fill('took', `Answered in ${took.toFixed(1)} ms, shown after ${(performance.now() - began).toFixed(1)} ms.`);
+    } catch (fault) {
+        fill('verdict', `The engine could not judge this: ${fault.message}`);
+    }
+}
+
+/** At each key; a name of thousands of characters, when the keys rest. */
+function typedName() {
+    clearTimeout(state.due);
+    if ($('name').value.length <= 2000) return judgeName();
+    fill('verdict', 'A long name: it is judged when you stop typing.');
+    state.due = setTimeout(judgeName, 300);
 }
 
 // Jobs in a worker.
@@ -301,6 +322,7 @@ function fillTables() {
 
 async function takeTable(file) {
     const bytes = new Uint8Array(await file.arrayBuffer());
+    state.check(); // an earlier check that still runs
     const unpacked = state.library.table(bytes);
     fill('table-answer');
     if (!unpacked.accepted) {
@@ -320,7 +342,7 @@ async function takeTable(file) {
     const sections = grid('Sections', ['No.', 'Section', 'Words', 'Entries'], contents.sections.map((s, i) => [String(i + 1), s.name, s.words.toLocaleString('en'), s.entries.length.toLocaleString('en')]));
     fill('table-said', `${file.name}: the soundness check is running.`);
     fill('table-answer', facts(...sound('being checked')), sections);
-    start('soundness', [{ words }], {}, () => {}, ({ answer, fault }) => {
+    state.check = start('soundness', [{ words }], {}, () => {}, ({ answer, fault }) => {
         const said = fault ? `could not be checked: ${fault}` : answer.sound ? 'sound' : `Not sound, rule ${answer.rule} is broken: ${SOUNDNESS_RULES[answer.rule]}`;
         fill('table-said', `${file.name}: ${said}`);
         fill('table-answer', facts(...sound(said)), sections);
@@ -376,7 +398,7 @@ function showDump() {
     fill('book-said', `${name}, ${order === 'little' ? 'lowest' : 'highest'} byte first${chosen ? '' : found ? ' (as the lengths say)' : ' (both orders fit; choose another if need be)'}: ${said}`);
     fill(
         'book-answer',
-        facts(['Front words', h('code', {}, accountWords(words.subarray(0, FRONT)))], ['Words left outside the front', left.length === 0 ? 'none' : `${left.length.toLocaleString('en')}; the first at word ${left[0]}, the last at word ${left.at(-1)}`]),
+        facts(['Front words', h('code', {}, accountWords(words.subarray(0, FRONT)))], ['Words left outside the front', left.length === 0 ? 'none' : `${left.length.toLocaleString('en')}: words ${left.slice(0, 20).join(', ')}${left.length > 20 ? ` .. ${left.at(-1)}` : ''}`]),
         wrong.length === 0 ? null : grid('What is wrong', ['Slot', 'Word', 'What'], wrong.map(({ slot, at, text: what }) => [String(slot), String(at), what])),
         slotTable('Filed slots', words),
         damaged ? null : movedTables(words),
@@ -432,7 +454,7 @@ async function takeDump(file) {
 }
 
 function listen() {
-    $('name').addEventListener('input', judgeName);
+    $('name').addEventListener('input', typedName);
     $('restrict').addEventListener('change', judgeName);
     $('which').addEventListener('change', () => {
         judgeName();

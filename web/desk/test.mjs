@@ -42,7 +42,7 @@ test('an accepted name', async () => {
     assert.deepEqual(found.tokens[1].output.map((o) => o.escaped), [false, true, false]);
     assert.equal(found.changed, true);
     assert.deepEqual(found.blanks, { front: 0, back: 0, without: 'Nick™.🧑‍💻Ñ.жук' });
-    assert.equal(judge(desk, '𓆏').labels[0].kind, 'Egyp, a rare script (restricted)');
+    assert.deepEqual(judge(desk, '𓆏.ñ.a').labels.map((l) => [l.kind, l.restricted]), [['Egyp', true], ['Latin', false], ['ASCII', null]]);
     assert.equal(judge(desk, '🧑‍💻').labels[0].kind, 'emoji alone');
     assert.deepEqual(judge(desk, '').labels, []);
 });
