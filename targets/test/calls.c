@@ -80,15 +80,16 @@ static void fold_digest(struct wanlopheng_digest d) {
     for (size_t i = 0; i < 32; i++) fold(d.bytes[i]);
 }
 
-static int name(const struct question *q) {
+/* A long name on one of the two tables of data/: it is asked of the name call alone, since an emulator is slow. */
+static int is_slow(const struct question *q) { return q->length > 1000 && q->words > 5000; }
+
+static int names(const struct question *q) {
     mark(q);
     struct wanlopheng_name n = wanlopheng_name(q->name, q->length, q->table, q->words, q->setting, answer, q->room, work, q->work);
     fold_size(n.length);
     fold_size(n.labels);
-    return ended(q, n.number, n.place);
-}
-
-static int labels(const struct question *q) {
+    if (ended(q, n.number, n.place)) return 1;
+    if (is_slow(q)) return 0;
     mark(q);
     struct wanlopheng_label l = wanlopheng_label(q->name, q->length, q->table, q->words, q->setting, answer, q->room, work, q->work);
     fold_size(l.length);
@@ -255,11 +256,10 @@ static int tables(const uint32_t *table, size_t words) {
     return 0;
 }
 
-/* All calls; a long name on the two tables of data/ is asked of the name call alone, since an emulator is slow. */
 static int answered(const struct question *q, uint32_t number) {
     if (q->room > ROOM || q->work > ROOM || q->length > 4 * ROOM) return 5;
-    if (q->length > 1000 && q->words > 5000) return name(q) ? 7 : 0;
-    return name(q) || labels(q) || lookups(q) || forms(q) || shown(q) || bytes(q) || payees(q, number) ? 7 : 0;
+    if (is_slow(q)) return names(q) ? 7 : 0;
+    return names(q) || lookups(q) || forms(q) || shown(q) || bytes(q) || payees(q, number) ? 7 : 0;
 }
 
 #ifdef __wasm__ /* targets/test/stack.mjs does it from without */
