@@ -140,20 +140,25 @@ export function screenOf(desk, text) {
     return typeof desk.table.screen === 'function' ? desk.table.screen(text, { ...desk.options, greek: greekOf(desk) }) : null;
 }
 
+/** The name's answer and its hash by one call; the hash's own 4, which only a table that is not sound can give, leaves the name's answer alone. */
+function named(desk, text) {
+    const hashed = desk.table.namehash(text, desk.options);
+    return !hashed.accepted && hashed.refusal.number === 4 ? desk.table.normalise(text, desk.options) : hashed;
+}
+
 function accepted(desk, text, codepoints, name) {
     const labels = labelsOf(name.codepoints).map(({ start, end }) => {
         const form = name.codepoints.slice(start, end);
         const label = name.form === null ? null : desk.table.label(textOf(form), desk.options);
         return { codepoints: form, kind: label?.accepted ? kindOf(desk, label) : 'not told by this table', restricted: label?.restricted ?? null };
     });
-    const hashed = desk.table.namehash(text, desk.options);
     return {
         accepted: true,
         form: name.form,
         codepoints: name.codepoints,
         labels,
         screen: screenOf(desk, text),
-        hash: hashed.accepted ? `0x${hexBytes(hashed.node)}` : null,
+        hash: name.node ? `0x${hexBytes(name.node)}` : null,
         changed: name.form !== text,
         tokens: reported(desk, text, codepoints),
     };
@@ -194,7 +199,7 @@ function refused(desk, codepoints, { number, place, text }) {
 export function judge(desk, text) {
     const codepoints = codepointsOf(text);
     const part = desk.library.trim(text);
-    const name = desk.table.normalise(text, desk.options);
+    const name = named(desk, text);
     const found = name.accepted ? accepted(desk, text, codepoints, name) : refused(desk, codepoints, name.refusal);
     const blanks = { front: part.start, back: codepoints.length - part.start - part.length, without: part.text };
     return { input: codepoints, blanks, ...found };

@@ -207,12 +207,12 @@ function judgeName() {
     }
 }
 
-/** At each key; a name of thousands of characters, when the keys rest. */
+/** At each key; a name of hundreds of characters, when the keys rest. */
 function typedName() {
     clearTimeout(state.due);
-    if ($('name').value.length <= 2000) return judgeName();
+    if ($('name').value.length <= 400) return judgeName();
     fill('verdict', 'A long name: it is judged when you stop typing.');
-    state.due = setTimeout(judgeName, 300);
+    state.due = setTimeout(judgeName, 150);
 }
 
 // Jobs in a worker.
