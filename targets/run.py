@@ -51,7 +51,7 @@ def check_left(machine, kind, words, in_order, tally):
 
 def needs(machines):
     """Fails where a program is missing, and says what to install."""
-    programs = {p for m in machines if m.cc for p in (m.cc[0], m.qemu[0] or "qemu-x86_64")} | {"gcc"}
+    programs = {p for m in machines for p in ([m.cc[0], m.qemu[0] or "qemu-x86_64"] if m.cc else []) + ["gcc"]}
     missing = sorted(p for p in programs if shutil.which(p) is None)
     if missing:
         packages = sorted({PACKAGES[p] for p in missing} | {LIBC[p] for p in missing if p in LIBC})
