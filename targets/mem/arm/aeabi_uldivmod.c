@@ -4,7 +4,7 @@ __attribute__((naked)) void __aeabi_uldivmod(void) {
             "sub sp, #16\n"
             "add r6, sp, #8\n"
             "str r6, [sp]\n"
-            "bl __udivmoddi4\n"
+            "bl wanlopheng_divide\n"
             "ldr r2, [sp, #8]\n"
             "ldr r3, [sp, #12]\n"
             "add sp, #16\n"
