@@ -12,15 +12,10 @@ export function wordsOfDump(bytes, order) {
     return Uint32Array.from({ length: Math.floor(bytes.length / 4) }, (_, i) => view.getUint32(4 * i, order === 'little'));
 }
 
-/** The byte order in which the lengths of the slots are lengths, or null where both or neither make sense. */
-export function orderOf(bytes) {
-    if (bytes.length !== 4 * BOOK_WORDS) return null;
-    const fits = (order) => {
-        const words = wordsOfDump(bytes, order);
-        return slotsOf(words).every(({ length }) => length <= FORM_MOST);
-    };
-    const [little, big] = [fits('little'), fits('big')];
-    return little === big ? null : little ? 'little' : 'big';
+/** The byte orders in which the length of every slot is one: both for an empty book, none for some damaged ones. */
+export function ordersOf(bytes) {
+    const fits = (order) => slotsOf(wordsOfDump(bytes, order)).every(({ length }) => length <= FORM_MOST);
+    return bytes.length === 4 * BOOK_WORDS ? ['little', 'big'].filter(fits) : [];
 }
 
 /** All slots, filed or not. */

@@ -1,6 +1,6 @@
 // The page itself: what is typed, chosen and dropped goes to the engine, and what it answers is shown. Text is set as text, never as markup.
 import { BOOK_WORDS, MEANINGS, load, textOf } from '../wanlopheng.mjs';
-import { accountOf, accountText, changes, damage, filed, FRONT, leftOver, orderOf, refiled, wordsOfDump } from './book.mjs';
+import { accountOf, accountText, changes, damage, filed, FRONT, leftOver, ordersOf, refiled, wordsOfDump } from './book.mjs';
 import { hex, judge, numbered, RULES, screenOf, shown } from './judge.mjs';
 import { arranged, cellsOf, counts, csv, DIFFERENCE_HEAD, namesOf, ROW_HEAD, told } from './lists.mjs';
 import { Contents, SOUNDNESS_RULES } from './table.mjs';
@@ -387,15 +387,16 @@ function showDump() {
         return fill('book-said', `${name} has ${bytes.length.toLocaleString('en')} bytes; the area of a payee book has ${(4 * BOOK_WORDS).toLocaleString('en')} (refusal 40).`);
     }
     const chosen = $('order').value;
-    const found = orderOf(bytes);
-    const order = chosen || found || 'little';
+    const fitting = ordersOf(bytes);
+    const order = chosen || fitting[0] || 'little';
+    const why = chosen ? '' : [' (neither order fits; one can be chosen)', ' (as the lengths say)', ' (both orders fit; one can be chosen)'][fitting.length];
     const words = wordsOfDump(bytes, order);
     const wrong = damage(words);
     const left = leftOver(words);
     const told41 = desk().table.book(words).find('a');
     const damaged = !told41.accepted && told41.refusal.number === 41;
     const said = damaged ? `The book is damaged (41), in ${wrong.length} place${wrong.length === 1 ? '' : 's'}.` : left.length === 0 ? 'No word outside the front 16 is left: the area is as a reset leaves it.' : `The book is whole; ${filed(words).length} of 64 slots are filed.`;
-    fill('book-said', `${name}, ${order === 'little' ? 'lowest' : 'highest'} byte first${chosen ? '' : found ? ' (as the lengths say)' : ' (both orders fit; choose another if need be)'}: ${said}`);
+    fill('book-said', `${name}, ${order === 'little' ? 'lowest' : 'highest'} byte first${why}: ${said}`);
     fill(
         'book-answer',
         facts(['Front words', h('code', {}, accountWords(words.subarray(0, FRONT)))], ['Words left outside the front', left.length === 0 ? 'none' : `${left.length.toLocaleString('en')}: words ${left.slice(0, 20).join(', ')}${left.length > 20 ? ` .. ${left.at(-1)}` : ''}`]),

@@ -179,10 +179,10 @@ test('payee books: dumps, damage, what a reset leaves', async () => {
         return new Uint8Array(view.buffer);
     };
     for (const order of ['little', 'big']) {
-        assert.equal(books.orderOf(dump(order)), order);
+        assert.deepEqual(books.ordersOf(dump(order)), [order]);
         assert.deepEqual(books.wordsOfDump(dump(order), order), book.words);
     }
-    assert.deepEqual([books.orderOf(new Uint8Array(4 * BOOK_WORDS)), books.orderOf(new Uint8Array(5))], [null, null]);
+    assert.deepEqual([books.ordersOf(new Uint8Array(4 * BOOK_WORDS)), books.ordersOf(new Uint8Array(5))], [['little', 'big'], []]);
     assert.deepEqual(books.filed(book.words).map((s) => [s.slot, s.form.length]), [[0, 8], [1, 3]]);
     assert.equal(books.accountText(books.filed(book.words)[0].account), '0102'.padStart(64, '0'));
     assert.deepEqual(books.damage(book.words), []);
