@@ -7,10 +7,14 @@ import resource
 import shutil
 import struct
 import subprocess
+import sys
 import tempfile
 from pathlib import Path
 
+sys.path.append(str(Path(__file__).resolve().parent.parent / "web/desk"))
+
 import build
+import make
 from build import HERE, ROOT, WASM_STACK, Failed, archive_names, compile_c, folder, link_wasm, run, sections, toolchain
 from machines import MACHINES
 
@@ -170,7 +174,7 @@ def wasm_program(machine, name, source, to):
 
 
 def test_wasm(machine, room, due, stack, tally):
-    """WebAssembly, by node: the header's test, all calls, the stack, and the JavaScript module. Answers the same."""
+    """WebAssembly, by node: the header's test, all calls, the stack, the JavaScript module and the desk's page. Answers the same."""
     library = folder(machine) / "wanlopheng.wasm"
     for name, source in (("run_header", ROOT / "rust/engine/tests/header.c"), ("run_calls", HERE / "test/calls.c")):
         wasm_program(machine, name, source, room / f"{name}.wasm")
@@ -191,12 +195,14 @@ def test_wasm(machine, room, due, stack, tally):
         tally.check(2 * used <= WASM_STACK, f"{kind}: {used} bytes of stack, over half of the module's")
         check_left(machine, kind, words, in_order, tally)
     link_wasm(folder(machine) / "libwanlopheng.a", room / "small.wasm", 16384)
-    ran = subprocess.run([*node[:1], ROOT / "web/test.mjs", library, room / "small.wasm"], capture_output=True, text=True, check=False)
-    counts = re.search(r"(\d+) passed, (\d+) failed\n$", ran.stdout)
-    tally.passed += int(counts[1]) if counts else 0
-    if not counts or ran.returncode != 0:
-        tally.failed += int(counts[2]) if counts else 1
-        print(ran.stdout + ran.stderr, flush=True)
+    (room / "desk.html").write_text(make.page(library.read_bytes()), encoding="utf-8")
+    for words in ((ROOT / "web/test.mjs", library, room / "small.wasm"), (ROOT / "web/desk/test.mjs", library, room / "desk.html")):
+        ran = subprocess.run([*node[:1], *words], capture_output=True, text=True, check=False)
+        counts = re.search(r"(\d+) passed, (\d+) failed\n$", ran.stdout)
+        tally.passed += int(counts[1]) if counts else 0
+        if not counts or ran.returncode != 0:
+            tally.failed += int(counts[2]) if counts else 1
+            print(ran.stdout + ran.stderr, flush=True)
     each = (min(took[2]) - min(took[3])) / (TIMES * due["names"])
     return show(machine, library, (library.stat().st_size, 0), left, stack, each, len(due[0]) // 12, other)
 

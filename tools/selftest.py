@@ -1,5 +1,5 @@
 #!/usr/bin/env python3
-"""Tests of tools/landing, tools/edits, tools/pointers and of what tools/targets does to a module. Last line: 'N passed, M failed'."""
+"""Tests of tools/landing, tools/edits, tools/pointers, of what tools/targets does to a module and of how the page is made. Last line: 'N passed, M failed'."""
 
 import contextlib
 import importlib.machinery
@@ -27,9 +27,10 @@ sys.dont_write_bytecode = True
 landing = tool("landing")
 edits = tool("edits")
 pointers = tool("pointers")
-sys.path.insert(0, str(HERE.parent / "targets"))
+sys.path[:0] = [str(HERE.parent / "targets"), str(HERE.parent / "web/desk")]
 import build  # noqa: E402
 import header  # noqa: E402
+import make  # noqa: E402
 import retarget  # noqa: E402
 import run  # noqa: E402
 
@@ -415,6 +416,29 @@ class Targets(unittest.TestCase):
             build.frames(usage, text.replace('@"low::c"() {', '@"low::c"() {\n  call void @a()'))
         with self.assertRaises(header.Unknown):
             build.frames(usage.replace("static", "dynamic"), text)
+
+
+class Page(unittest.TestCase):
+    def module(self, text):
+        with tempfile.NamedTemporaryFile("w", suffix=".mjs", encoding="utf-8") as file:
+            file.write(text)
+            file.flush()
+            return make.wrapped(file.name)
+
+    def test_a_module_is_wrapped(self):
+        text = self.module("import { a, b } from '../low-er.mjs';\nexport const c = a;\nexport async function d() {}\nconst e = b;\n")
+        self.assertIn("const { a, b } = module_low_er;\nconst c = a;\nasync function d() {}\nconst e = b;\nreturn { c, d };\n})();\n", text)
+
+    def test_other_shapes_are_refused(self):
+        for bad in ("import x from './x.mjs';\n", "import {\n    a,\n} from './x.mjs';\n", "export default 1;\n", "export { a };\n", "import './x.mjs';\n"):
+            with self.assertRaises(make.Unfit, msg=bad):
+                self.module(bad)
+
+    def test_the_page_is_the_same_each_time(self):
+        text = make.page(b"module")
+        self.assertEqual(text, make.page(b"module"))
+        self.assertEqual(text.count("'sha256-"), 3)
+        self.assertNotRegex(text, r"@[A-Z]+@")
 
 
 if __name__ == "__main__":

@@ -104,6 +104,8 @@ export declare class Table {
     private constructor();
     /** The number of its words. */
     readonly size: number;
+    /** Its words, a copy. */
+    readonly words: Uint32Array;
     /** Checks it for soundness: once, when a table arrives. */
     soundness(): Soundness;
     layoutFault(): boolean;

@@ -312,6 +312,11 @@ export class Table {
         return this.#words.length;
     }
 
+    /** Its words, a copy. */
+    get words() {
+        return Uint32Array.from(this.#words);
+    }
+
     /** Checks it for soundness: once, when a table arrives. */
     soundness() {
         return this.#run(2, (calls, lent, told, table, size) => {
