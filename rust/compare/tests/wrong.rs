@@ -676,12 +676,13 @@ fn wrong_screen_forms_are_found() {
     }
 }
 
-/// The three that the request itself rules out fail on named labels of the small
-/// table, with 3BE among Latin letters.
+/// Those that the request itself rules out, and some more, fail on named labels
+/// of the small table, with 3BE among Latin letters and in the last group.
 #[test]
 fn wrong_screen_forms_fail_on_cases() {
-    use gen::small::{GREEK, LATIN};
+    use gen::small::{GREEK, KOREAN, LATIN};
     let mut b = gen::screens::xi_table();
+    b.groups[KOREAN].1.push((0x3BE, 0x3BE));
     b.emoji.push(vec![0x1F680, 0xFE0F, 0xFE0F]);
     let words = b.to_words();
     let cases: [(WrongScreen, &[u32], usize, usize); 7] = [
@@ -690,7 +691,7 @@ fn wrong_screen_forms_fail_on_cases() {
         (WrongScreen::NeverCapital, &[0x61, 0x3BE], GREEK, 9),
         (WrongScreen::FifteenOfNormalForm, &[0x1F4A9], GREEK, 1),
         (WrongScreen::AsTyped, &[0x31, 0x20E3], GREEK, 9),
-        (WrongScreen::GreekAtMostTheLast, &[0xAC00, 0x2E, 0x3BE], 7, 9),
+        (WrongScreen::GreekAtMostTheLast, &[0xAC00, 0x3BE], KOREAN + 1, 9),
         (WrongScreen::GreekByText, &[0x3BE, 0x1F4A9, 0x3B1], LATIN, 9),
     ];
     for (wrong, name, greek, room) in cases {
@@ -700,7 +701,6 @@ fn wrong_screen_forms_fail_on_cases() {
             wrong_screen(WrongScreen::RightScreen, asked, answer, work)
         };
         assert!(both(&plainly, &right, &asked, room, WORK_WORDS).2, "{wrong:?}");
-        let differ = !both(&plainly, &call, &asked, room, WORK_WORDS).2;
-        assert_eq!(differ, wrong != WrongScreen::GreekAtMostTheLast, "{wrong:?}");
+        assert!(!both(&plainly, &call, &asked, room, WORK_WORDS).2, "{wrong:?}");
     }
 }
