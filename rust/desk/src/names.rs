@@ -24,6 +24,12 @@ impl Names {
         self.0.get(group).map(String::as_str)
     }
 
+    /// The number of the Greek group, by its name; where no group has it, a
+    /// number beyond every group.
+    pub fn greek(&self) -> u32 {
+        self.0.iter().position(|name| name == "Greek").map_or(u32::MAX, |number| number as u32)
+    }
+
     /// A group in words: `Latin (group 0)`.
     pub fn group(&self, number: usize) -> String {
         self.kind(Kind::Group { number, restricted: false })

@@ -23,7 +23,7 @@ pub fn head(input: &Input) -> String {
 /// The lines for a name.
 pub fn lines(input: &Input, judged: &Judged, names: &Names) -> Vec<String> {
     let mut lines = match &judged.found {
-        Ok((form, parts)) => accepted(form, parts, names),
+        Ok((form, parts)) => accepted(form, judged.screen.as_deref(), parts, names),
         Err(refusal) => refused(input, judged, *refusal),
     };
     lines.extend(judged.report.iter().flatten().cloned());
@@ -45,13 +45,16 @@ pub fn lines(input: &Input, judged: &Judged, names: &Names) -> Vec<String> {
     lines
 }
 
-fn accepted(form: &[u32], parts: &[Part], names: &Names) -> Vec<String> {
+fn accepted(form: &[u32], screen: Option<&[u32]>, parts: &[Part], names: &Names) -> Vec<String> {
     if form.is_empty() && parts.is_empty() {
         return vec!["ok".into(), "the empty name, which has no labels".into()];
     }
     let label =
         |(number, part): (usize, &Part)| format!("label {number}: {}, {}", readable(&part.form), names.kind(part.kind));
     let mut lines = vec![format!("ok {}", readable(form)), hex(form)];
+    if let Some(screen) = screen.filter(|screen| *screen != form) {
+        lines.extend([format!("screen form {}", readable(screen)), hex(screen)]);
+    }
     lines.extend(parts.iter().enumerate().map(label));
     lines
 }
