@@ -107,7 +107,7 @@ fn the_screen_form() {
     let latin = group("full", "Latin");
     let label = format!("   label 0: -ξ1\u{20E3}, {latin})\n");
     let due = shown("-ξ1\u{20E3}", "2D 3BE 31 20E3", "-Ξ1\u{FE0F}\u{20E3}", "2D 39E 31 FE0F 20E3", &label);
-    both(&["-ξ1\u{20E3}"], 0, &due);
+    both(&["--", "-ξ1\u{20E3}"], 0, &due);
     both(&["\u{2010}Ξ1\u{FE0F}\u{20E3}"], 0, &due);
     let labels = format!("   label 0: ξδ, {})\n   label 1: aξ, {latin})\n", group("full", "Greek"));
     both(&["ξδ.aξ"], 0, &shown("ξδ.aξ", "3BE 3B4 2E 61 3BE", "ξδ.aΞ", "3BE 3B4 2E 61 39E", &labels));

@@ -7,15 +7,9 @@ use standin::{full, names};
 
 #[test]
 fn examples_of_ensip_15() {
-    run_examples(&plainly, &full(), &EXAMPLES);
-}
-
-/// The table of the line program lacks some of the emoji.
-#[test]
-fn examples_on_names_tab() {
-    let has = |name: &str| !name.contains("23 20E3");
-    let examples: Vec<_> = EXAMPLES.into_iter().filter(|(name, _)| has(name)).collect();
-    run_examples(&plainly, &names(), &examples);
+    for made in [full(), names()] {
+        run_examples(&plainly, &made, &EXAMPLES);
+    }
 }
 
 /// Both tables are tables that the wanted theorem speaks of; it is run on
