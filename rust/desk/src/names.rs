@@ -48,3 +48,23 @@ impl Names {
         }
     }
 }
+
+#[cfg(test)]
+mod tests {
+    use super::*;
+
+    #[test]
+    fn the_greek_group() {
+        let names = |of: &[&str]| Names(of.iter().map(|name| name.to_string()).collect());
+        assert_eq!(names(&["Latin", "Greek", "Greek"]).greek(), 1);
+        assert_eq!(names(&["Greek"]).greek(), 0);
+        assert_eq!(names(&["Latin", "greek", "Greek (old)"]).greek(), u32::MAX);
+        assert_eq!(Names::default().greek(), u32::MAX);
+        let full = crate::in_repository("data/full.tab");
+        let mut words = vec![0; plain::limits::TABLE_WORDS];
+        let count = plain::unpack(&std::fs::read(&full).expect("a table"), &mut words).expect("it unpacks");
+        let names = Names::beside(&full, &words[..count]);
+        assert_eq!(names.of(names.greek() as usize), Some("Greek"));
+        assert_eq!(Names::beside(&full, &words[..count - 1]).greek(), u32::MAX, "no table, and no names");
+    }
+}

@@ -108,3 +108,41 @@ fn at_byte(bytes: &[u8], place: usize) -> Vec<String> {
     let before = String::from_utf8_lossy(&bytes[..place]).chars().count();
     marked(&cells_of_bytes(bytes), before, before + 1, &format!("byte {place}")).to_vec()
 }
+
+#[cfg(test)]
+mod tests {
+    use super::*;
+    use crate::calls::Plain;
+    use crate::judged::Desk;
+    use plain::TableBuilder;
+
+    /// The screen form below the normal form, where it is another; by the number
+    /// of the Greek group.
+    #[test]
+    fn screen_forms() {
+        let table = TableBuilder {
+            valid: vec![(0x61, 0x61), (0x3B1, 0x3B1), (0x3BE, 0x3BE)],
+            emoji: vec![vec![0x2764, 0xFE0F], vec![0xFE0F; 32]],
+            groups: vec![(0, vec![(0x61, 0x61)]), (0, vec![(0x3B1, 0x3B1), (0x3BE, 0x3BE)])],
+            ..TableBuilder::default()
+        };
+        let words = table.to_words();
+        let told = |greek: u32, name: &[u32]| {
+            let desk =
+                Desk { calls: &Plain, table: &words, setting: 0, greek, trim: false, hash: false, report: false };
+            let input = Input::Numbers(name.to_vec());
+            lines(&input, &desk.judge(&input), &Names::default())
+        };
+        let plain = ["ok a", "   61", "   label 0: a, ASCII"];
+        assert_eq!(told(1, &[0x61]), plain);
+        assert_eq!(told(1, &[0x3BE])[..2], ["ok ξ", "   3BE"]);
+        assert_eq!(told(1, &[0x3BE]).len(), 3);
+        assert_eq!(told(2, &[0x3BE])[..4], ["ok ξ", "   3BE", "   screen form Ξ", "   39E"]);
+        let heart = ["ok ❤", "   2764", "   screen form ❤\u{FE0F}", "   2764 FE0F", "   label 0: ❤, emoji"];
+        assert_eq!(told(1, &[0x2764]), heart);
+        assert_eq!(told(1, &[0x62])[0], "no 5 at codepoint 0: a codepoint that names may not have");
+        assert_eq!(told(1, &[])[0], "ok");
+        // An empty emoji of 32 FE0F, which are shown.
+        assert_eq!(told(1, &[0xFE0F, 0x61])[3], format!("   {}61", "FE0F ".repeat(32)));
+    }
+}
