@@ -78,12 +78,12 @@ const NAMEHASH: Call = Call {
     limits: within(48 * KB),
 };
 
-/// It judges the name as the name call does and walks it again. The last walk
-/// is composing, which can leave a starter and the codepoint behind it.
+/// It judges each label as the name call does and walks it again, with a bit for
+/// each record of the table and the classes of a text beside.
 const SCREEN: Call = Call {
     what: "screen form",
     number: |l| screen(l.name, l.table, 1, l.setting, l.answer, l.work).number,
-    limits: Limits { words: 16, in_order: 2, stack: 56 * KB },
+    limits: within(56 * KB),
 };
 
 /// The codepoints take an array beside what the name call uses.

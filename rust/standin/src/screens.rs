@@ -11,7 +11,7 @@ use gen::Rng;
 use maker::Spec;
 use plain::limits::{SCREEN, WORK_WORDS};
 use plain::screen::{comes_back, CAPITAL_XI};
-use plain::{Index, Name, Refusal, FE0F};
+use plain::{judge_name_with, Index, Name, Refusal, FE0F};
 
 /// The number of the Greek group.
 pub fn greek(spec: &Spec) -> u32 {
@@ -100,8 +100,8 @@ fn name(rng: &mut Rng, vocabulary: &Vocabulary, emoji: &[Vec<u32>]) -> Vec<u32> 
 
 /// The claim on `count` accepted names, a multiple of PART: the screen form,
 /// normalised with the same setting, gives the normal form, with the same kinds.
-/// Kinds are asked of the plain version; where `calls` are given, the forms of
-/// them too.
+/// All by the plain version; where `calls` are given, the screen form and what
+/// it is normalised to by them too.
 pub fn coming_back(made: &Made, calls: Option<Calls>, seed: u64, count: usize) -> Counts {
     const PART: usize = 200;
     assert_eq!(count % PART, 0);
@@ -121,8 +121,8 @@ pub fn coming_back(made: &Made, calls: Option<Calls>, seed: u64, count: usize) -
             if let Some(calls) = calls {
                 let asked = Asked { name: &name, table: &made.words, greek, setting };
                 assert_eq!(shown(calls.screen, &asked), form, "Greek {greek}, {name:X?}");
-                let twice = [&name, &form].map(|name| (calls.normal)(name, &made.words, setting));
-                assert!(twice[0].is_ok() && twice[0] == twice[1], "setting {setting}, {name:X?}");
+                let normal = plain::calls::join_labels(&judge_name_with(&index, setting, &name).expect("accepted"));
+                assert_eq!((calls.normal)(&form, &made.words, setting), Ok(normal), "setting {setting}, {name:X?}");
             }
             counts.accepted += 1;
             counts.styled += usize::from(form.contains(&FE0F));
