@@ -1,17 +1,21 @@
 -- An accepted name's labels, and the forms that are made of them: the normal form of 01 and the screen form of 02, Item 1. Assumes nothing.
 use Prim.Native.Nat.{ℕ}
+use mathlib.Core.Path.{refl}
 use mathlib.Core.Bool.{Bool, false, cond}
 use mathlib.Core.List.{List, [], _∷_, map}
-use lib.ListN.{getD}
+use lib.ListN.{length, getD}
 use lib.Dec.{eqb}
 use Rattle.lists.specs.Lists.{joinWith, joinedMap}
+use Rattle.answers.specs.Values.{NameValues}
 use Rattle.answers.specs.declared.Kind.{Kind}
 use Rattle.answers.specs.declared.Kind.the-variants.{Emoji, Ascii, Group}
+use Rattle.ending.specs.Ending.{Answering}
 use Rattle.table.specs.Table.{Table}
 use Rattle.text.specs.Composition.{nfc}
 use Rattle.tokens.specs.Tokens.{codepoints, normalToken}
 use Rattle.places.specs.Places.{Source, emoji, text, Placed, tokenOf, placed}
 use Rattle.name.specs.Label.{Label, stop}
+use Rattle.name.specs.Name.{labelsOf}
 
 -- a label of an accepted name: its tokens as the scan found them, in order, and its kind
 pub record Typed : Type 0 where
@@ -42,6 +46,18 @@ labelForm f x = joinedMap (f (x .kind)) (x .sources)
 unfoldable pub nameForm : Form → List Typed → List ℕ
 unfolding labelForm joinWith
 nameForm f xs = joinWith stop (map (labelForm f) xs)
+
+-- how a call answers with a form: it, its length and the number of labels, as the name call does
+abbrev pub formAnswering : Form → List ℕ → Answering (List Typed) NameValues
+formAnswering f name =
+    record {
+      form = nameForm f;
+      given = λ xs. record { number = 0; place = 0; length = length (nameForm f xs); labels = length (labelsOf name) };
+      beside = λ n p. record { number = n; place = p; length = 0; labels = 0 };
+      lengthOf = λ v. v .length;
+      long = λ xs. refl;
+      none = λ n p. refl;
+    }
 
 -- the normal form: NFC of text, emoji stripped of FE0F
 unfoldable pub normalForm : Table → Form

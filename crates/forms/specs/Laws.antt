@@ -1,13 +1,10 @@
 -- Laws of the forms, on every table: the normal form is the name call's answer, and a label's form goes on token by token. Assumes nothing.
-use Prim.Native.Nat.{ℕ, suc, _+_, _≤_}
-use native.Mathlib.Omega.{arith}
+use Prim.Native.Nat.{ℕ, suc, _+_}
 use mathlib.Core.Path.{_≡_, refl, sym, ap, _∙_}
-use mathlib.Core.Bool.{Bool, true, false, false≢true}
 use mathlib.Core.List.{List, [], _∷_, _++_, map}
 use mathlib.Core.Option.{Option, none, some}
 use lib.ListN.{length, drop}
-use Rattle.lists.specs.Lists.{isEmpty, joinWith, joinedMap}
-use Rattle.limits.specs.Limits.{mostWorked}
+use Rattle.lists.specs.Lists.{joinWith, joinedMap}
 use Rattle.answers.specs.Verdict.{accepted}
 use Rattle.answers.specs.declared.Kind.{Kind}
 use Rattle.table.specs.Table.{Table}
@@ -20,7 +17,7 @@ use Rattle.name.specs.Label.{Label, stop, answer, labelVerdict}
 use Rattle.name.specs.Name.{labelsVerdict, nameAnswer}
 use Rattle.joining.specs.Places.{label-accepts}
 use Rattle.joining.specs.Labels.{cons-accepts}
-use Rattle.forms.specs.Forms.{Typed, sourcesOf, typed, labelForm, nameForm, normalForm}
+use Rattle.forms.specs.Forms.{sourcesOf, typed, labelForm, nameForm, normalForm}
 
 -- what a token was does not hang on where the label starts
 abbrev sources : List Placed → List Source
@@ -91,11 +88,3 @@ module _ (t : Table) where
       → nameForm (normalForm t) (typed t xs ls) ≡ nameAnswer xs
   unfolding nameForm nameAnswer
   name-normal on s d p ls xs e = ap (joinWith stop) (labels-normal on s d p ls xs e)
-
-  -- each label of a list is typed
-  pub typed-count : (on s d p : ℕ) (ls : List (List ℕ)) (xs : List Label) → labelsVerdict on t s d p ls ≡ accepted xs → length (typed t xs ls) ≡ length ls
-  unfolding labelsVerdict typed
-  typed-count on s d p [] xs e = let none-left : xs ≡ [] = cc in rw none-left
-  typed-count on s d p (l ∷ ls) xs e =
-      let c = cons-accepts on t s d p l ls xs e in
-      rw (c .both) (ap suc (typed-count on (s + length l + 1) (d + c .first .worked + 1) (suc p) ls (c .rest) (c .rest-accepted)))

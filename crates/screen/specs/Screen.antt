@@ -1,7 +1,6 @@
 -- The screen call. 02, Item 1: "Add the beautified form of source document 000 .. Refusals and their order are as for the name call, and 15 is
 -- judged on the screen form." Assumes nothing.
 use Prim.Native.Nat.{ℕ}
-use mathlib.Core.Path.{refl}
 use mathlib.Core.List.{List}
 use lib.ListN.{length}
 use Rattle.answers.specs.Verdict.{Verdict, accepted, next}
@@ -13,19 +12,11 @@ use Rattle.table.specs.Table.{Table}
 use Rattle.table.specs.Laid.{theTable}
 use Rattle.name.specs.Label.{Label}
 use Rattle.name.specs.Name.{labelsOf, labelsVerdict, nameBefore15}
-use Rattle.forms.specs.Forms.{Typed, typed, nameForm, screenForm}
+use Rattle.forms.specs.Forms.{Typed, typed, nameForm, formAnswering, screenForm}
 
--- how the call answers: the screen form, its length and the number of labels, as the name call
+-- how the call answers: with the screen form
 abbrev pub screenAnswering : Table → ℕ → List ℕ → Answering (List Typed) NameValues
-screenAnswering t greek name =
-    record {
-      form = nameForm (screenForm t greek);
-      given = λ xs. record { number = 0; place = 0; length = length (nameForm (screenForm t greek) xs); labels = length (labelsOf name) };
-      beside = λ n p. record { number = n; place = p; length = 0; labels = 0 };
-      lengthOf = λ v. v .length;
-      long = λ xs. refl;
-      none = λ n p. refl;
-    }
+screenAnswering t greek name = formAnswering (screenForm t greek) name
 
 -- labels as the name call judges them, each with what was typed for it
 unfoldable pub labelsTyped : ℕ → Table → ℕ → ℕ → ℕ → List (List ℕ) → Verdict (List Typed)
@@ -40,7 +31,7 @@ screenBefore15 setting words name work = next (nameBefore15 setting words name w
 -- "and 15 is judged on the screen form"
 unfoldable pub screenVerdict : ℕ → ℕ → List ℕ → List ℕ → ℕ → ℕ → Verdict (List Typed)
 unfolding screenBefore15 nameForm screenForm
-screenVerdict greek setting words name room work = then15 (screenAnswering (theTable words) greek name) room (screenBefore15 setting words name work)
+screenVerdict greek setting words name room work = then15 (formAnswering (screenForm (theTable words) greek) name) room (screenBefore15 setting words name work)
 
 -- The call with the number of the Greek group and a setting, on the words of a table and a name, with an answer buffer of `room` words and a work
 -- area of `work` words: what it answers, and every word of both buffers afterwards.
