@@ -52,7 +52,7 @@ unfolding sourcesOf placedFrom steps
 sources-none t = refl
 
 -- the tokens of the label call and of the name call
-sources-tokens : (t : Table) (l : List ℕ) → map tokenOf (sourcesOf t l) ≡ tokensOf (steps t l)
+pub sources-tokens : (t : Table) (l : List ℕ) → map tokenOf (sourcesOf t l) ≡ tokensOf (steps t l)
 unfolding sourcesOf
 sources-tokens t l = go (placed t 0 l) ∙ bare-placed t 0 l
   where
