@@ -37,7 +37,8 @@ pub record Shown : Type 0 where
   pub due : List ℕ
 
 -- the bare heart and keycap 1 have every FE0F, whatever was typed; 3BE is shown as 39E unless the label's kind is the Greek group; a text with a mark
--- is in NFC
+-- is in NFC; the two examples of 000, "Annex: Beautification", as one (2010 39E 31 FE0F 20E3 has the normal form 2D 3BE 31 20E3), each shown as 2D 39E
+-- 31 FE0F 20E3
 unfoldable pub shows : List Shown
 shows =
     record { greek = 1; name = 0x2764 ∷ []; due = 0x2764 ∷ 0xFE0F ∷ [] }
@@ -47,6 +48,8 @@ shows =
     ∷ record { greek = 3; name = 0x39E ∷ 0x3C4 ∷ []; due = 0x39E ∷ 0x3C4 ∷ [] }
     ∷ record { greek = 0xFFFFFFFF; name = 0x41 ∷ 0x2E ∷ 0x3BE ∷ 0x2764 ∷ []; due = 0x61 ∷ 0x2E ∷ 0x39E ∷ 0x2764 ∷ 0xFE0F ∷ [] }
     ∷ record { greek = 1; name = 0x78 ∷ 0x61 ∷ 0x300 ∷ []; due = 0x78 ∷ 0xE0 ∷ [] }
+    ∷ record { greek = 3; name = 0x2D ∷ 0x3BE ∷ 0x31 ∷ 0x20E3 ∷ []; due = 0x2D ∷ 0x39E ∷ 0x31 ∷ 0xFE0F ∷ 0x20E3 ∷ [] }
+    ∷ record { greek = 3; name = 0x2010 ∷ 0x39E ∷ 0x31 ∷ 0xFE0F ∷ 0x20E3 ∷ []; due = 0x2D ∷ 0x39E ∷ 0x31 ∷ 0xFE0F ∷ 0x20E3 ∷ [] }
     ∷ []
 
 pub small-shows : map (λ (c : Shown). screenOf smallTable (c .greek) (c .name)) shows ≡ map (λ (c : Shown). accepted (c .due)) shows
