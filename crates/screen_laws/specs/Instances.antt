@@ -37,8 +37,7 @@ pub record Shown : Type 0 where
   pub due : List ℕ
 
 -- the bare heart and keycap 1 have every FE0F, whatever was typed; 3BE is shown as 39E unless the label's kind is the Greek group; a text with a mark
--- is in NFC; the two examples of 000, "Annex: Beautification", as one (2010 39E 31 FE0F 20E3 has the normal form 2D 3BE 31 20E3), each shown as 2D 39E
--- 31 FE0F 20E3
+-- is in NFC; last the examples of 000, "Annex: Beautification": 2D 3BE 31 20E3, and 2010 39E 31 FE0F 20E3, whose normal form that is
 unfoldable pub shows : List Shown
 shows =
     record { greek = 1; name = 0x2764 ∷ []; due = 0x2764 ∷ 0xFE0F ∷ [] }
