@@ -23,6 +23,7 @@ extern "C" {
 /* Sizes of buffers, in elements. */
 #define WANLOPHENG_INPUT_MOST 16384    /* codepoints of an input */
 #define WANLOPHENG_ANSWER_WORDS 4096   /* an answer of this size holds every normal form */
+#define WANLOPHENG_SCREEN_WORDS 8192   /* an answer of this size holds every screen form by a sound table */
 #define WANLOPHENG_WORK_WORDS 8192     /* the least work area */
 #define WANLOPHENG_TABLE_WORDS 131073  /* the largest table */
 #define WANLOPHENG_FILE_BYTES 524297   /* its file */
@@ -99,6 +100,15 @@ struct wanlopheng_name {
  * restricted groups are refused as 17, after 14 in each label. */
 struct wanlopheng_name wanlopheng_name(const uint32_t *input, size_t input_length, const uint32_t *words, size_t words_length,
                                        uint32_t setting, uint32_t *answer, size_t answer_length, uint32_t *work, size_t work_length);
+
+/* Writes the screen form of a name: its normal form, but with every FE0F of each emoji's sequence, and with 39E for each 3BE of a text in labels that
+ * are not Greek. `greek` is the number of the Greek group, counted from 0; with one that the table does not have, as 0xFFFFFFFF, no label is Greek.
+ * Labels of emoji alone and of ASCII alone never are; in an emoji 3BE stays. Refusals, setting and buffers are those of wanlopheng_name, and 15
+ * is judged on the screen form, whose length is answered. It is for a screen alone: file, hash and compare the normal form. By a sound table it
+ * has at most twice the worked length. */
+struct wanlopheng_name wanlopheng_screen(const uint32_t *input, size_t input_length, const uint32_t *words, size_t words_length,
+                                         uint32_t greek, uint32_t setting, uint32_t *answer, size_t answer_length, uint32_t *work,
+                                         size_t work_length);
 
 /* What the label call answers. */
 struct wanlopheng_label {

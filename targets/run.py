@@ -19,7 +19,7 @@ from build import HERE, ROOT, WASM_STACK, Failed, archive_names, compile_c, fold
 from machines import MACHINES
 
 # Every call, in the order of targets/test/calls.c and stack.mjs.
-KINDS = ["name", "label", "namehash", "nfd", "nfc", "group", "emoji", "trim", "utf8_write", "utf8_read", "name_bytes", "save", "find", "moved", "forget",
+KINDS = ["name", "label", "namehash", "screen", "nfd", "nfc", "group", "emoji", "trim", "utf8_write", "utf8_read", "name_bytes", "save", "find", "moved", "forget",
          "reset", "respelled", "keccak256", "sponge_new", "sponge_absorb", "sponge_digest", "report", "soundness", "layout_fault", "unpack"]
 TIMES = 100  # how often each name is asked for the time
 RUNS = 3  # the least time of so many runs counts, since other programs only add to it

@@ -71,6 +71,14 @@ test('the other calls', async () => {
     assert.deepEqual(form(library.table(file.subarray(0, 1000))), [21, 0]);
     assert.deepEqual(table.report('Ñ🧑‍💻').lines, ['text 0 1 F1', 'emoji 1 4 1F9D1 {200D} 1F4BB']);
     assert.deepEqual(form(table.report('a_')), [8, 0]);
+    assert.deepEqual(table.screen('-ξ1\u20e3', { greek: 1 }), { accepted: true, form: '-Ξ1\ufe0f\u20e3', codepoints: [0x2d, 0x39e, 0x31, 0xfe0f, 0x20e3], labels: 1 });
+    assert.equal(form(table.screen('ξδ.aξ', { greek: 1 })), 'ξδ.aΞ');
+    assert.equal(form(table.screen('ξδ.aξ')), 'Ξδ.aΞ');
+    assert.equal(form(table.screen('')), '');
+    assert.deepEqual(form(table.screen('a_', { greek: 1 })), [8, 0]);
+    assert.deepEqual(form(table.screen('𓆏', { restrict: true })), [17, 0]);
+    assert.equal(table.screen('\u2764'.repeat(4096)).codepoints.length, 8192);
+    assert.deepEqual(form(table.screen('x'.repeat(16385))), [3, 0]);
     assert.deepEqual(table.respelled('0х').groups.slice(0, 2), [0, 3]);
     assert.deepEqual(table.respelled('жук'), { accepted: true, groups: [] });
     assert.deepEqual(form(table.respelled('a_')), [8, 0]);
@@ -110,7 +118,7 @@ test('nothing of a name stays in the memory, the stack included', async () => {
             () => table.nfd(name), () => table.nfc(name), () => table.group(name), () => table.emoji(name), () => library.trim(name),
             () => library.writeUtf8(name), () => library.readUtf8(Buffer.from(name)), () => library.keccak256(Buffer.from(name)),
             () => book.save(name, [1, 2, 3, 4, 5, 6, 7, 8]), () => book.find(name), () => book.forget(name), () => table.soundness(),
-            () => table.report(name), () => table.respelled(name), () => book.moved(),
+            () => table.report(name), () => table.screen(name), () => table.respelled(name), () => book.moved(),
         ];
         for (const call of calls) {
             call();
@@ -151,7 +159,7 @@ test('the meanings and sizes are those of the headers', () => {
     delete due[0];
     assert.deepEqual({ ...MEANINGS }, due);
     const header = read('include/wanlopheng.h').toString();
-    for (const name of ['ANSWER_WORDS', 'WORK_WORDS', 'TABLE_WORDS', 'BOOK_WORDS', 'MOVED_WORDS', 'GROUPS', 'REPORT_BYTES']) {
+    for (const name of ['INPUT_MOST', 'ANSWER_WORDS', 'SCREEN_WORDS', 'WORK_WORDS', 'TABLE_WORDS', 'BOOK_WORDS', 'MOVED_WORDS', 'GROUPS', 'REPORT_BYTES']) {
         assert.equal(wanlopheng[name], Number(header.match(new RegExp(`WANLOPHENG_${name} (\\d+)`))[1]), name);
     }
 });

@@ -52,11 +52,18 @@ export interface Options {
     restrict?: boolean;
 }
 
+export interface ScreenOptions extends Options {
+    /** The number of the Greek group, counted from 0; where it is left out, no label is Greek. */
+    greek?: number;
+}
+
 /** A call that trapped. It cannot happen in proved code within the stack; the instance is thrown away, and the next call has a new one. */
 export declare class Trap extends Error {}
 
 export declare const MEANINGS: Readonly<Record<number, string>>;
+export declare const INPUT_MOST: number;
 export declare const ANSWER_WORDS: number;
+export declare const SCREEN_WORDS: number;
 export declare const WORK_WORDS: number;
 export declare const TABLE_WORDS: number;
 export declare const BOOK_WORDS: number;
@@ -112,6 +119,8 @@ export declare class Table {
     normalise(name: string, options?: Options): Answer<Name>;
     normaliseBytes(bytes: Uint8Array, options?: Options): Answer<Name>;
     namehash(name: string, options?: Options): Answer<Hashed>;
+    /** The screen form: emoji with every FE0F of their sequence, and 39E for 3BE in text of labels that are not Greek. For a screen alone. */
+    screen(name: string, options?: ScreenOptions): Answer<Name>;
     label(label: string, options?: Options): Answer<Label>;
     emoji(part: string): Answer<Emoji>;
     group(text: string): Answer<Group>;

@@ -39,7 +39,9 @@ export const MEANINGS = Object.freeze({
 });
 
 /** Sizes of include/wanlopheng.h, in words. */
+export const INPUT_MOST = 16384;
 export const ANSWER_WORDS = 4096;
+export const SCREEN_WORDS = 8192;
 export const WORK_WORDS = 8192;
 export const TABLE_WORDS = 131073;
 export const BOOK_WORDS = 16912;
@@ -48,6 +50,8 @@ export const GROUPS = 256;
 export const REPORT_BYTES = 323584;
 
 const KINDS = [null, 'emoji', 'ascii', 'group'];
+const NO_GROUP = 0xffffffff; // beyond every group
+const SEQUENCE = 32; // codepoints of the longest emoji sequence
 const PAGE = 65536;
 const STATE = 208; // bytes of struct wanlopheng_sponge
 
@@ -344,6 +348,23 @@ export class Table {
     /** Normalises a name and hashes its normal form (EIP-137). */
     namehash(name, options = {}) {
         return this.#name('wanlopheng_namehash', (lent) => wordsOf(lent, name), options, (lent, told) => ({ node: lent.bytesAt(told + 16, 32) }));
+    }
+
+    /** The screen form of a name: emoji with every FE0F of their sequence, and 39E for 3BE in text of labels that are not of the Greek group, whose
+     *  number is options.greek; where that is left out, no label is Greek. For a screen alone. */
+    screen(name, options = {}) {
+        return this.#run(4, (calls, lent, told, table, size) => {
+            const [at, length] = wordsOf(lent, name);
+            const room = Math.max(SCREEN_WORDS, SEQUENCE * Math.min(length, INPUT_MOST) + ANSWER_WORDS); // by any table
+            const answer = lent.place(4 * room);
+            const work = lent.place(4 * WORK_WORDS);
+            calls.wanlopheng_screen(told, at, length, table, size, options.greek ?? NO_GROUP, setting(options), answer, room, work, WORK_WORDS);
+            const [number, place, count, labels] = lent.wordsAt(told, 4);
+            return accepted(number, place, () => {
+                const codepoints = lent.wordsAt(answer, count);
+                return { form: textOf(codepoints), codepoints, labels };
+            });
+        });
     }
 
     /** Normalises one label. */

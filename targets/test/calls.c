@@ -102,7 +102,14 @@ static int names(const struct question *q) {
     fold_size(h.name.length);
     fold_size(h.name.labels);
     fold_digest(h.node);
-    return ended(q, h.name.number, h.name.place);
+    if (ended(q, h.name.number, h.name.place)) return 1;
+    /* The Greek group is one of the first, or none. */
+    const uint32_t greek = q->length % 4 == 3 ? 0xFFFFFFFFu : (uint32_t)(q->length % 4);
+    mark(q);
+    n = wanlopheng_screen(q->name, q->length, q->table, q->words, greek, q->setting, answer, q->room, work, q->work);
+    fold_size(n.length);
+    fold_size(n.labels);
+    return ended(q, n.number, n.place);
 }
 
 static int lookups(const struct question *q) {
@@ -299,6 +306,7 @@ static struct wanlopheng_sponge sponge;
 CALL(name, wanlopheng_name(LENT, 0, BUFFERS).number)
 CALL(label, wanlopheng_label(LENT, 0, BUFFERS).number)
 CALL(namehash, wanlopheng_namehash(LENT, 0, BUFFERS).name.number)
+CALL(screen, wanlopheng_screen(LENT, 1, 0, BUFFERS).number)
 CALL(nfd, wanlopheng_nfd(LENT, BUFFERS).number)
 CALL(nfc, wanlopheng_nfc(LENT, BUFFERS).number)
 CALL(group, wanlopheng_group(LENT).number)
@@ -324,7 +332,7 @@ CALL(unpack, wanlopheng_unpack(BYTES, answer, q->room).number)
 
 /* In the order of KINDS of targets/run.py. Of a name nothing may stay; the hashes are handed bytes, and those from SOUNDNESS on a table alone. */
 static void (*const CALLS[])(void) = {
-    call_name, call_label, call_namehash, call_nfd, call_nfc, call_group, call_emoji, call_trim, call_utf8_write, call_utf8_read, call_name_bytes,
+    call_name, call_label, call_namehash, call_screen, call_nfd, call_nfc, call_group, call_emoji, call_trim, call_utf8_write, call_utf8_read, call_name_bytes,
     call_save, call_find, call_moved, call_forget, call_reset, call_respelled, call_keccak256, call_sponge_new, call_sponge_absorb,
     call_sponge_digest, call_report, call_soundness, call_layout_fault, call_unpack};
 enum { KINDS = sizeof CALLS / sizeof CALLS[0], SOUNDNESS = KINDS - 3, REPORT = KINDS - 4, HASHES = KINDS - 8 };

@@ -26,6 +26,7 @@ const CALLS = {
     name: (n, t) => exports.wanlopheng_name(TOLD, NAME, n, TABLE, t, 0, ...BUFFERS),
     label: (n, t) => exports.wanlopheng_label(TOLD, NAME, n, TABLE, t, 0, ...BUFFERS),
     namehash: (n, t) => exports.wanlopheng_namehash(TOLD, NAME, n, TABLE, t, 0, ...BUFFERS),
+    screen: (n, t) => exports.wanlopheng_screen(TOLD, NAME, n, TABLE, t, 1, 0, ...BUFFERS),
     nfd: (n, t) => exports.wanlopheng_nfd(TOLD, NAME, n, TABLE, t, ...BUFFERS),
     nfc: (n, t) => exports.wanlopheng_nfc(TOLD, NAME, n, TABLE, t, ...BUFFERS),
     group: (n, t) => exports.wanlopheng_group(TOLD, NAME, n, TABLE, t),

@@ -25,7 +25,7 @@ use Rattle.text_laws.specs.Laws.{nfc-empty}
 use Rattle.rule6_laws.specs.Laws.{pair-is-not-ascii}
 use Rattle.idempotence.specs.Rules.{Sound, Valid, valid-text-rounds, items-valid}
 use Rattle.idempotence.specs.Rendering as rendering
-use Rattle.idempotence.specs.Rendering.{Piece, writtenAll, tokensIn, Proper, stripped-way}
+use Rattle.idempotence.specs.Rendering.{Piece, writtenAll, tokensIn, WrittenSo, Proper, stripped-way}
 
 -- e is an emoji sequence of the table, stripped
 pub record IsSequence (t : Table) (e : List ℕ) : Type 0 where
@@ -79,7 +79,7 @@ Gives t scan.ignored = Unit {0}
 Gives t scan.disallowed = Unit {0}
 
 -- only a sequence with items takes something
-takes-item : (seq inp : List ℕ) (k : Taken) → takes seq inp ≡ some k → 1 ≤ k .length → 1 ≤ length seq
+pub takes-item : (seq inp : List ℕ) (k : Taken) → takes seq inp ≡ some k → 1 ≤ k .length → 1 ≤ length seq
 unfolding takes
 takes-item [] inp k e h =
     let z : record { length = 0; selectors = 0 } ≡ k = cc in
@@ -160,8 +160,9 @@ pub record RenderedAs (t : Table) (ts : List Token) (s : List ℕ) : Type 0 wher
   pub tokens : tokensIn pieces ≡ ts
   pub spelling : writtenAll pieces ≡ s
 
-abbrev self : ℕ → Piece
-self x = rendering.char x x
+-- the characters of a text, each written by w
+abbrev chars : (ℕ → ℕ) → List ℕ → List Piece
+chars w s = map (λ (x : ℕ). rendering.char x (w x)) s
 
 before-before : (c : ℕ) (s : List ℕ) (ts : List Token) → before (c ∷ []) (before s ts) ≡ before (c ∷ s) ts
 before-before c [] ts = refl
@@ -169,19 +170,19 @@ before-before c (d ∷ s) [] = refl
 before-before c (d ∷ s) (emoji e ∷ ts) = refl
 before-before c (d ∷ s) (text r ∷ ts) = refl
 
-chars-tokens : (s : List ℕ) (ps : List Piece) → tokensIn (map self s ++ ps) ≡ before s (tokensIn ps)
+chars-tokens : (w : ℕ → ℕ) (s : List ℕ) (ps : List Piece) → tokensIn (chars w s ++ ps) ≡ before s (tokensIn ps)
 unfolding tokensIn
-chars-tokens [] ps = refl
-chars-tokens (c ∷ s) ps = ap (before (c ∷ [])) (chars-tokens s ps) ∙ before-before c s (tokensIn ps)
+chars-tokens w [] ps = refl
+chars-tokens w (c ∷ s) ps = ap (before (c ∷ [])) (chars-tokens w s ps) ∙ before-before c s (tokensIn ps)
 
-chars-written : (s : List ℕ) (ps : List Piece) → writtenAll (map self s ++ ps) ≡ s ++ writtenAll ps
+chars-written : (w : ℕ → ℕ) (s : List ℕ) (ps : List Piece) → writtenAll (chars w s ++ ps) ≡ map w s ++ writtenAll ps
 unfolding writtenAll
-chars-written [] ps = refl
-chars-written (c ∷ s) ps = ap (λ (r : List ℕ). c ∷ r) (chars-written s ps)
+chars-written w [] ps = refl
+chars-written w (c ∷ s) ps = ap (λ (r : List ℕ). w c ∷ r) (chars-written w s ps)
 
-chars-proper : (t : Table) (s : List ℕ) → Every (Valid t) s → Every (Proper t) (map self s)
-chars-proper t [] h = tt
-chars-proper t (c ∷ s) h = (inl (refl, h .0), chars-proper t s (h .1))
+chars-proper : (t : Table) (w : ℕ → ℕ) (s : List ℕ) → Every (λ x. Proper t (rendering.char x (w x))) s → Every (Proper t) (chars w s)
+chars-proper t w [] h = tt
+chars-proper t w (c ∷ s) h = (h .0, chars-proper t w s (h .1))
 
 before-text : (s : List ℕ) (ts : List Token) → isEmpty s ≡ false → startsText ts ≡ false → before s ts ≡ text s ∷ ts
 before-text [] ts h k = absurd (false≢true (sym h))
@@ -189,24 +190,45 @@ before-text (c ∷ s) [] h k = refl
 before-text (c ∷ s) (emoji e ∷ ts) h k = refl
 before-text (c ∷ s) (text r ∷ ts) h k = absurd (false≢true (sym k))
 
+-- a rendering with one token more in front: an emoji that is written as v, or a text whose characters are written by w
+module _ (t : Table) (ts : List Token) (v : List ℕ) (r : RenderedAs t ts v) where
+  pub emoji-front : (seq u : List ℕ) → WrittenSo t seq u → RenderedAs t (emoji (strip seq) ∷ ts) (u ++ v)
+  unfolding tokensIn writtenAll
+  emoji-front seq u p =
+      record {
+        pieces = rendering.emoji seq u ∷ r .pieces;
+        proper = (p, r .proper);
+        tokens = rw (r .tokens) refl;
+        spelling = rw (r .spelling) refl;
+      }
+
+  pub text-front : (w : ℕ → ℕ) (s : List ℕ) → isEmpty s ≡ false → startsText ts ≡ false → Every (λ x. Proper t (rendering.char x (w x))) s
+      → RenderedAs t (text s ∷ ts) (map w s ++ v)
+  text-front w s h k p =
+      record {
+        pieces = chars w s ++ r .pieces;
+        proper = every-append (Proper t) (chars w s) (r .pieces) (chars-proper t w s p) (r .proper);
+        tokens = chars-tokens w s (r .pieces) ∙ ap (before s) (r .tokens) ∙ before-text s ts h k;
+        spelling = chars-written w s (r .pieces) ∙ ap (λ (x : List ℕ). map w s ++ x) (r .spelling);
+      }
+
+pub nothing-rendered : (t : Table) → RenderedAs t [] []
+unfolding tokensIn writtenAll
+nothing-rendered t = record { pieces = []; proper = tt; tokens = refl; spelling = refl }
+
+map-self : (s : List ℕ) → map (λ (x : ℕ). x) s ≡ s
+map-self [] = refl
+map-self (c ∷ s) = ap (λ (r : List ℕ). c ∷ r) (map-self s)
+
 -- tokens of valid text, put together in order, are a rendering of themselves
 pub joinedTokens-rendering : (t : Table) (ts : List Token) → Formed t (Valid t) ts → RenderedAs t ts (joinedTokens ts)
-unfolding joinedTokens tokensIn writtenAll
-joinedTokens-rendering t [] h = record { pieces = []; proper = tt; tokens = refl; spelling = refl }
+unfolding joinedTokens
+joinedTokens-rendering t [] h = nothing-rendered t
 joinedTokens-rendering t (emoji e ∷ ts) h =
-    let r = joinedTokens-rendering t ts (h .1) in
     let q = h .0 in
-    record {
-      pieces = rendering.emoji (q .sequence) (strip (q .sequence)) ∷ r .pieces;
-      proper = (record { listed = q .listed; some-item = q .some-item; selectors = 0; way = stripped-way (q .sequence) }, r .proper);
-      tokens = rw (r .tokens, q .stripped) refl;
-      spelling = rw (r .spelling, q .stripped) refl;
-    }
+    let stripped : WrittenSo t (q .sequence) (strip (q .sequence)) =
+    record { listed = q .listed; some-item = q .some-item; selectors = 0; way = stripped-way (q .sequence) } in
+    rw (q .stripped) (emoji-front t ts (joinedTokens ts) (joinedTokens-rendering t ts (h .1)) (q .sequence) (strip (q .sequence)) stripped)
 joinedTokens-rendering t (text s ∷ ts) h =
-    let r = joinedTokens-rendering t ts (h .3) in
-    record {
-      pieces = map self s ++ r .pieces;
-      proper = every-append (Proper t) (map self s) (r .pieces) (chars-proper t s (h .2)) (r .proper);
-      tokens = chars-tokens s (r .pieces) ∙ ap (before s) (r .tokens) ∙ before-text s ts (h .0) (h .1);
-      spelling = chars-written s (r .pieces) ∙ ap (λ (v : List ℕ). s ++ v) (r .spelling);
-    }
+    let each : Every (λ x. Proper t (rendering.char x x)) s = every-imp s (λ x v. inl (refl, v)) (h .2) in
+    rw map-self at (text-front t ts (joinedTokens ts) (joinedTokens-rendering t ts (h .3)) (λ x. x) s (h .0) (h .1) each)

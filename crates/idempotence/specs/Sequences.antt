@@ -64,6 +64,10 @@ module _ (t : Table) (s : Sound t) (seq : List ℕ) (m : List·Memᴰ seq (t .em
       let ab = both-left (not (mem 0x2E seq) && not (startsWith selector seq)) (not (twoSelectors seq)) rule4-here in
       not-true (startsWith selector seq) (both-right (not (mem 0x2E seq)) (not (startsWith selector seq)) ab)
 
+  pub no-two-selectors : twoSelectors seq ≡ false
+  no-two-selectors =
+      not-true (twoSelectors seq) (both-right (not (mem 0x2E seq) && not (startsWith selector seq)) (not (twoSelectors seq)) rule4-here)
+
   -- Rule 5
 
   rule5-here : (not (oneValid t (strip seq)) && apart t (strip seq)) ≡ true

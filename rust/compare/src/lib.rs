@@ -6,6 +6,7 @@ pub mod engine;
 pub mod harness;
 pub mod older;
 pub mod plain_engine;
+pub mod screens;
 pub mod tally;
 
 pub use again::{check_again, check_joining};

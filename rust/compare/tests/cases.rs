@@ -2,7 +2,7 @@
 //! document, the errors met in the field, layout, unpacking and soundness.
 
 use gen::small::*;
-use plain::limits::{INPUT, WORKED, WORK_WORDS};
+use plain::limits::{INPUT, SCREEN, SCREEN_ANY, WORKED, WORK_WORDS};
 use plain::*;
 
 const NO_ROOM: u32 = 15;
@@ -193,6 +193,116 @@ fn the_whole_of_item_6() {
     assert_eq!(run_name(&words, &[E], 9), Err(Refusal::new(14, 0)));
     assert_eq!(run_name(&words, &[A, E], 9), Ok((vec![A, E], 1)));
     assert_eq!(run_name(&words, &[A, STOP, E], 9), Err(Refusal::new(14, 1)));
+}
+
+/// The screen form by these words, with the number of labels.
+fn run_screen(words: &[u32], greek: u32, input: &[u32], room: usize) -> Result<(Vec<u32>, usize), Refusal> {
+    let (given, answer) = lent(room, |answer, work| screen(input, words, greek, 0, answer, work));
+    let answer = taken(answer, given.map_or(0, |n| n.length));
+    given.map(|n| (answer, n.labels))
+}
+
+/// 02, Item 1 on the small table, with 3BE among Latin letters too: what ENSIP-15
+/// says of beautifying, Greek labels, and 15.
+#[test]
+fn screen_forms() {
+    let words = gen::screens::xi_table().to_words();
+    let greek = GREEK as u32;
+    let shows = |input: &[u32], due: &[u32]| {
+        let labels = input.split(|&c| c == STOP).count();
+        assert_eq!(run_screen(&words, greek, input, SCREEN), Ok((due.to_vec(), labels)), "{input:X?}");
+    };
+    // "beautify("-ξ1⃣") [2D 3BE 31 20E3] is "-Ξ1️⃣" [2D 39E 31 FE0F 20E3]"
+    shows(&[0x2D, 0x3BE, 0x31, 0x20E3], &[0x2D, 0x39E, 0x31, 0xFE0F, 0x20E3]);
+    shows(&[0x2010, 0x39E, 0x31, 0xFE0F, 0x20E3], &[0x2D, 0x39E, 0x31, 0xFE0F, 0x20E3]);
+    // "Beautification can be used to restore emoji-presentation in normalized names."
+    shows(&[0x2764], &[0x2764, 0xFE0F]);
+    shows(&[0x1F4A9, 0x1F4A9, 0xFE0F], &[0x1F4A9, 0xFE0F, 0x1F4A9, 0xFE0F]);
+    let couple = [0x1F468, 0x200D, 0x2764, 0xFE0F, 0x200D, 0x1F468];
+    shows(&couple, &couple);
+    shows(&[0x1F468, 0x200D, 0x2764, 0x200D, 0x1F468], &couple);
+    shows(&[0x1F468, 0x1F3FB, 0x200D, 0x1F4BB], &[0x1F468, 0x1F3FB, 0x200D, 0x1F4BB]);
+    // Text that nothing is put back to.
+    shows(&[0x5F, 0x24, 0x41], &[0x5F, 0x24, 0x61]);
+    shows(&[0x45, 0xFE0E, 0x303], &[0x1EBD]);
+    shows(&[0x1F680, 0x61, 0x300], &[0x1F680, 0xFE0F, 0xE0]);
+    // Label by label: Greek, Latin and, since Latin comes first, 3BE alone.
+    shows(&[0x3B1, 0x3BE, STOP, 0x61, 0x3BE, STOP, 0x39E], &[0x3B1, 0x3BE, STOP, 0x61, 0x39E, STOP, 0x39E]);
+    let name = [0x3B1, 0x3BE, STOP, 0x3BE];
+    for (number, due) in [(LATIN as u32, [0x39E, 0x3BE]), (7, [0x39E, 0x39E]), (u32::MAX, [0x39E, 0x39E])] {
+        let due = vec![0x3B1, due[0], STOP, due[1]];
+        assert_eq!(run_screen(&words, number, &name, SCREEN), Ok((due, 2)), "{number}");
+    }
+    assert_eq!(run_screen(&words, greek, &[], 0), Ok((vec![], 0)));
+    // 15 where the screen form alone is too long; it comes after every label.
+    assert_eq!(run_screen(&words, greek, &[0x2764], 2), Ok((vec![0x2764, 0xFE0F], 1)));
+    assert_eq!(run_screen(&words, greek, &[0x2764], 1), Err(Refusal::new(NO_ROOM, 0)));
+    assert_eq!(run_name(&words, &[0x2764], 1), Ok((vec![0x2764], 1)));
+    assert_eq!(run_screen(&words, greek, &[0x2764, STOP, 0x21], 1), Err(Refusal::new(5, 2)));
+    assert_eq!(run_screen(&words, greek, &[0x2764, STOP, STOP], 0), Err(Refusal::new(6, 1)));
+    // 17 is the setting's.
+    let call = |setting| {
+        let (given, _) = lent(9, |answer, work| screen(&[0x1318F], &words, greek, setting, answer, work));
+        given
+    };
+    assert_eq!((call(0), call(2)), (Ok(Name { length: 1, labels: 1 }), Err(Refusal::new(17, 0))));
+}
+
+/// Records that are equal when they are stripped: the one that the finder named,
+/// the first among those that take most. 3BE in an emoji is not touched.
+#[test]
+fn screen_forms_by_unsound_tables() {
+    let mut b = gen::screens::xi_table();
+    b.emoji.extend([
+        vec![0x1F9E1, 0x3BE, 0xFE0F],
+        vec![0x1F9E1, 0x3BE],
+        vec![0xFE0F, 0x1F9E2],
+        vec![0x1F9E2, 0xFE0F],
+        vec![0xFE0F, 0xFE0F],
+    ]);
+    let words = b.to_words();
+    let shows = |input: &[u32], due: &[u32]| {
+        assert_eq!(run_screen(&words, GREEK as u32, input, 50), Ok((due.to_vec(), 1)), "{input:X?}");
+    };
+    shows(&[0x1F9E1, 0x3BE, 0x3BE], &[0x1F9E1, 0x3BE, 0xFE0F, 0x39E]);
+    // Equally much is taken by both: the first. More by the other one: that.
+    shows(&[0x1F9E2, 0x61], &[0xFE0F, 0x1F9E2, 0x61]);
+    shows(&[0x1F9E2, 0xFE0F, 0x61], &[0x1F9E2, 0xFE0F, 0x61]);
+    // Empty emoji, side by side too, leave no trace in the normal form.
+    shows(&[0xFE0F, 0xFE0F, 0xFE0F, 0x61], &[0xFE0F, 0xFE0F, 0xFE0F, 0xFE0F, 0x61]);
+    assert_eq!(run_name(&words, &[0xFE0F, 0xFE0F, 0xFE0F, 0x61], 50), Ok((vec![0x61], 1)));
+    // They part texts: neither composes with the other.
+    shows(&[0x3BE, 0xFE0F, 0x3BE], &[0x39E, 0xFE0F, 0xFE0F, 0x39E]);
+    let (b, names) = gen::screens::long_screens();
+    let words = b.to_words();
+    for (name, length) in names {
+        let given = run_screen(&words, GREEK as u32, &name, length).expect("accepted");
+        assert!(given.0.len() == length && length > WORKED && length <= SCREEN_ANY);
+        assert_eq!(run_screen(&words, GREEK as u32, &name, length - 1), Err(Refusal::new(NO_ROOM, 0)));
+    }
+}
+
+/// The wanted theorem: each hypothesis is used.
+#[test]
+fn hypotheses_of_the_screen_form() {
+    use plain::screen::{comes_back, unmet};
+    let xi = gen::screens::xi_table().to_words();
+    assert_eq!((unmet(&xi), unmet(&small_table().to_words())), (vec![], vec![]));
+    let parsed = parse(&xi).expect("a table");
+    for (hypothesis, table, name) in gen::screens::witnesses() {
+        let words = table.to_words();
+        assert_eq!(unmet(&words), [hypothesis], "{name:X?}");
+        let table = parse(&words).expect("a table");
+        for setting in [0, 1] {
+            assert_eq!(comes_back(&table, GREEK as u32, setting, &name), Some(false), "{hypothesis:?}, {name:X?}");
+            assert_ne!(comes_back(&parsed, GREEK as u32, setting, &name), Some(false), "{hypothesis:?}, {name:X?}");
+        }
+    }
+    // A later record of 39E does not count.
+    let mut b = gen::screens::xi_table();
+    b.mapped.push((0x39E, vec![0x61]));
+    assert_eq!(unmet(&b.to_words()), []);
+    assert_eq!(unmet(&[]), plain::screen::HYPOTHESES);
 }
 
 #[test]

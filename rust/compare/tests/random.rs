@@ -1,5 +1,6 @@
 //! The random comparison and demand 3, on the plain engine.
 
+use compare::screens::{check_coming_back, check_screens, indexed, plain_normal, plainly};
 use compare::{check_again, check_joining, check_older, compare, say, Indexed, Plain, Settings};
 
 /// The generators reach everything that the comparison asks for, and the index
@@ -35,6 +36,19 @@ fn joining_joins() {
 #[test]
 fn older_files() {
     check_older(&Plain, 7_000_000, 2_000);
+}
+
+/// The generators reach everything of the screen form that the comparison asks
+/// for.
+#[test]
+fn screen_forms() {
+    check_screens(&plainly, &indexed, 8_000_000);
+}
+
+/// The wanted theorem of the screen form.
+#[test]
+fn screen_forms_come_back() {
+    check_coming_back(&plainly, &plain_normal, 8_100_000, 400);
 }
 
 /// Every lookup of the index is that of the table.

@@ -1,5 +1,6 @@
 //! Wrong engines: the comparison finds each of them different.
 
+use compare::screens::{both, compare_screens, plainly, Asked};
 use compare::{compare, say, Engine, Plain, Settings};
 use plain::label::{self, Finished};
 use plain::limits::{INPUT, WORKED, WORK_WORDS};
@@ -550,4 +551,156 @@ fn one_hop_fails() {
     assert_eq!(run(Nothing, &[A]), Ok(Name { length: 1, labels: 1 }));
     assert_eq!(run(ExtentOfOneHop, &[E]), refuse(14, 0));
     assert_eq!(run(Nothing, &[E]), refuse(14, 0));
+}
+
+wrongs! {
+    WrongScreen, WRONG_SCREENS;
+    RightScreen,;
+    // FE0F of another record with the same stripped form.
+    LastOfEquals,
+    // 39E in the Greek group, or in no group.
+    CapitalInGreek,
+    NeverCapital,
+    // 15 judged on the normal form.
+    FifteenOfNormalForm,
+    XiInEmoji,
+    // The FE0F that were typed, and none.
+    AsTyped,
+    Stripped,
+    // The number of the Greek group cut to a byte, or to the last group.
+    GreekOfEightBits,
+    GreekAtMostTheLast,
+    // Which tokens are Greek is asked of each text alone.
+    GreekByText,
+    CapitalTyped,
+    SettingForgotten,
+    StopsForgotten,
+    LeavesTail,
+}
+
+/// The screen form put together anew from the parts of the plain version, with
+/// one thing wrong.
+fn wrong_screen(wrong: WrongScreen, asked: &Asked, answer: &mut [u32], work: &mut [u32]) -> Result<Name, Refusal> {
+    use WrongScreen::*;
+    let judged = plain::calls::check_room(asked.table, work).and_then(|t| {
+        let setting = if wrong == SettingForgotten { 0 } else { asked.setting };
+        let forms = judge_name_with(&t, setting, asked.name)?;
+        let labels: Vec<Vec<u32>> = asked
+            .name
+            .split(|&c| c == STOP)
+            .zip(&forms)
+            .map(|(label, form)| wrong_label(wrong, &t, asked.greek, label, form))
+            .collect();
+        let normal = plain::calls::join_labels(&forms).len();
+        let due = if wrong == StopsForgotten { labels.concat() } else { labels.join(&STOP) };
+        Ok((due, normal, forms.len()))
+    });
+    let old = answer.to_vec();
+    answer.fill(0);
+    work.fill(0);
+    let (due, normal, labels) = judged?;
+    if if wrong == FifteenOfNormalForm { normal } else { due.len() } > answer.len() {
+        return refuse(15, 0);
+    }
+    let length = due.len().min(answer.len());
+    answer[..length].copy_from_slice(&due[..length]);
+    if wrong == LeavesTail {
+        answer[length..].copy_from_slice(&old[length..]);
+    }
+    Ok(Name { length: due.len(), labels })
+}
+
+fn wrong_label(wrong: WrongScreen, t: &Table, greek: u32, label: &[u32], form: &LabelForm) -> Vec<u32> {
+    use WrongScreen::*;
+    let last = (t.group_count() as u32).saturating_sub(1);
+    let greek = match wrong {
+        GreekOfEightBits => greek & 0xFF,
+        GreekAtMostTheLast => greek.min(last),
+        _ => greek,
+    };
+    let is_greek = |text: &[u32]| match wrong {
+        CapitalInGreek => false,
+        NeverCapital => true,
+        GreekByText => label::first_group(t, text) == Some(greek as usize),
+        _ => matches!(form.kind, Kind::Group { number, .. } if number == greek as usize),
+    };
+    let shown = |c: u32, text: &[u32]| if c == 0x3BE && !is_greek(text) { 0x39E } else { c };
+    let (mut screen, mut at) = (Vec::new(), 0);
+    for (token, finished) in tokens(t, label).expect("an accepted label").iter().zip(&form.tokens) {
+        let Token::Emoji { record, taken } = token else {
+            let text = finished.codepoints();
+            screen.extend(text.iter().map(|&c| shown(c, text)));
+            // Texts are stepped over as far as the next emoji.
+            while at < label.len() && t.find_emoji(&label[at..]).is_none() {
+                at += 1;
+            }
+            continue;
+        };
+        while t.find_emoji(&label[at..]).is_none() {
+            at += 1; // ignored
+        }
+        let typed = &label[at..at + taken];
+        at += taken;
+        let sequence = t.emoji[*record];
+        match wrong {
+            LastOfEquals => {
+                let like = |s: &&&[u32]| strip(s) == strip(sequence);
+                screen.extend(*t.emoji.iter().rfind(like).expect("itself"));
+            }
+            AsTyped => screen.extend(typed),
+            Stripped => screen.extend(strip(sequence)),
+            XiInEmoji => screen.extend(sequence.iter().map(|&c| shown(c, &[]))),
+            _ => screen.extend(sequence),
+        }
+    }
+    if wrong == CapitalTyped && !label.contains(&0x39E) {
+        // Shown only where it was typed.
+        screen.iter_mut().filter(|c| **c == 0x39E).for_each(|c| *c = 0x3BE);
+    }
+    screen
+}
+
+#[test]
+fn wrong_screen_forms_are_found() {
+    let found = |wrong: WrongScreen| {
+        let call = |asked: &Asked, answer: &mut [u32], work: &mut [u32]| wrong_screen(wrong, asked, answer, work);
+        let (met, differences) = compare_screens(&plainly, &call, 8_200_000, 150, 100);
+        say(format!("{wrong:?}: {} differences", met.differences));
+        (met.differences, differences)
+    };
+    assert_eq!(found(WrongScreen::RightScreen), (0, vec![]));
+    for &wrong in WRONG_SCREENS {
+        let (count, differences) = found(wrong);
+        assert!(count >= 3, "{wrong:?} is hardly found");
+        assert!(differences[0].starts_with("seed ") && differences[0].contains("table "), "{}", differences[0]);
+    }
+}
+
+/// Those that the request itself rules out, and some more, fail on named labels
+/// of the small table, with 3BE among Latin letters and in the last group.
+#[test]
+fn wrong_screen_forms_fail_on_cases() {
+    use gen::small::{GREEK, KOREAN, LATIN};
+    let mut b = gen::screens::xi_table();
+    b.groups[KOREAN].1.push((0x3BE, 0x3BE));
+    b.emoji.push(vec![0x1F680, 0xFE0F, 0xFE0F]);
+    let words = b.to_words();
+    let cases: [(WrongScreen, &[u32], usize, usize); 7] = [
+        (WrongScreen::LastOfEquals, &[0x1F680], GREEK, 9),
+        (WrongScreen::CapitalInGreek, &[0x3B1, 0x3BE], GREEK, 9),
+        (WrongScreen::NeverCapital, &[0x61, 0x3BE], GREEK, 9),
+        (WrongScreen::FifteenOfNormalForm, &[0x1F4A9], GREEK, 1),
+        (WrongScreen::AsTyped, &[0x31, 0x20E3], GREEK, 9),
+        (WrongScreen::GreekAtMostTheLast, &[0xAC00, 0x3BE], KOREAN + 1, 9),
+        (WrongScreen::GreekByText, &[0x3BE, 0x1F4A9, 0x3B1], LATIN, 9),
+    ];
+    for (wrong, name, greek, room) in cases {
+        let asked = Asked { name, table: &words, greek: greek as u32, setting: 0 };
+        let call = |asked: &Asked, answer: &mut [u32], work: &mut [u32]| wrong_screen(wrong, asked, answer, work);
+        let right = |asked: &Asked, answer: &mut [u32], work: &mut [u32]| {
+            wrong_screen(WrongScreen::RightScreen, asked, answer, work)
+        };
+        assert!(both(&plainly, &right, &asked, room, WORK_WORDS).2, "{wrong:?}");
+        assert!(!both(&plainly, &call, &asked, room, WORK_WORDS).2, "{wrong:?}");
+    }
 }

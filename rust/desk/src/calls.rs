@@ -20,6 +20,8 @@ pub trait Calls {
     fn name(&self, input: &[u32], lent: Lent) -> Result<Name, Refusal>;
     fn label(&self, input: &[u32], lent: Lent) -> Result<Label, Refusal>;
     fn namehash(&self, input: &[u32], lent: Lent) -> Result<[u8; 32], Refusal>;
+    /// The screen form; `greek` is the number of the Greek group.
+    fn screen(&self, input: &[u32], greek: u32, lent: Lent) -> Result<Name, Refusal>;
     /// The groups in which a label could be respelled: how many, and the list.
     fn respelled(&self, label: &[u32], table: &[u32], list: &mut [u32], work: &mut [u32]) -> Result<usize, Refusal>;
     /// The slots of a book that the table would file differently, likewise.
@@ -63,6 +65,10 @@ impl Calls for Plain {
     fn namehash(&self, input: &[u32], lent: Lent) -> Result<[u8; 32], Refusal> {
         let (named, hash) = plain::namehash::namehash_with(input, lent.table, lent.setting, lent.answer, lent.work);
         named.map(|_| hash)
+    }
+
+    fn screen(&self, input: &[u32], greek: u32, lent: Lent) -> Result<Name, Refusal> {
+        plain::screen(input, lent.table, greek, lent.setting, lent.answer, lent.work)
     }
 
     fn respelled(&self, label: &[u32], table: &[u32], list: &mut [u32], work: &mut [u32]) -> Result<usize, Refusal> {

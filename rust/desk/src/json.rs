@@ -83,8 +83,15 @@ pub fn object(line: Option<usize>, given: &Input, judged: &Judged, names: &Names
     let found = match &judged.found {
         Ok((form, parts)) => {
             let labels: Vec<String> = parts.iter().map(|part| label(part, names)).collect();
-            let (text, numbers) = (text(form), numbers(form));
-            format!("\"accepted\":true,\"form\":{text},\"codepoints\":{numbers},\"labels\":[{}]", labels.join(","))
+            let screen = judged.screen.as_deref().unwrap_or_default();
+            format!(
+                "\"accepted\":true,\"form\":{},\"codepoints\":{},\"screen\":{},\"screen_codepoints\":{},\"labels\":[{}]",
+                text(form),
+                numbers(form),
+                text(screen),
+                numbers(screen),
+                labels.join(",")
+            )
         }
         Err(found) => format!("\"accepted\":false,{}{}", refusal(*found), respelled(&judged.respelled, names)),
     };

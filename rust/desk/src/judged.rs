@@ -10,6 +10,8 @@ pub struct Desk<'a, C> {
     pub calls: &'a C,
     pub table: &'a [u32],
     pub setting: u32,
+    /// The number of the Greek group, for the screen form.
+    pub greek: u32,
     pub trim: bool,
     /// The name hash is asked for too.
     pub hash: bool,
@@ -34,6 +36,8 @@ pub struct Judged {
     pub blanks: (usize, usize),
     /// The normal form and its labels, or the refusal.
     pub found: Result<(Vec<u32>, Vec<Part>), Refusal>,
+    /// The screen form of an accepted name.
+    pub screen: Option<Vec<u32>>,
     /// The name hash of an accepted name, or its own refusal, where it is asked for.
     pub hash: Option<Result<[u8; 32], Refusal>>,
     /// Behind a 14, the groups in which the label could be respelled.
@@ -53,6 +57,7 @@ impl<C: Calls> Desk<'_, C> {
                     codepoints: None,
                     blanks: (0, 0),
                     found: Err(refusal),
+                    screen: None,
                     hash: None,
                     respelled: vec![],
                     report: None,
@@ -74,6 +79,7 @@ impl<C: Calls> Desk<'_, C> {
         let left = if self.trim { self.calls.trim(codepoints) } else { codepoints };
         let front = codepoints.len() - codepoints.iter().skip_while(|c| self.trim && plain::BLANKS.contains(c)).count();
         let found = self.form(left, bytes).map(|form| (form, self.parts(left)));
+        let screen = found.is_ok().then(|| self.shown(left));
         let hash = (self.hash && found.is_ok()).then(|| self.hashed(left));
         let respelled = match found {
             Err(Refusal { number: 14, place }) => self.respelled(left, place),
@@ -81,7 +87,7 @@ impl<C: Calls> Desk<'_, C> {
         };
         let report = (self.report && found.is_ok()).then(|| self.reported(left));
         let blanks = (front, codepoints.len() - front - left.len());
-        Judged { codepoints: Some(left.to_vec()), blanks, found, hash, respelled, report }
+        Judged { codepoints: Some(left.to_vec()), blanks, found, screen, hash, respelled, report }
     }
 
     /// The groups in which the label with this number could be respelled.
@@ -98,6 +104,14 @@ impl<C: Calls> Desk<'_, C> {
             None => self.calls.name(codepoints, lent).map(|name| name.length),
         })
         .map(|(_, form)| form)
+    }
+
+    /// The screen form of an accepted name: the call accepts it, and there is
+    /// room, by a table that is not sound too.
+    fn shown(&self, codepoints: &[u32]) -> Vec<u32> {
+        let room = limits::SEQUENCE * codepoints.len() + limits::WORKED;
+        let call = |lent: Lent| self.calls.screen(codepoints, self.greek, lent).map(|name| name.length);
+        self.with_room(room, call).expect("it was accepted").1
     }
 
     fn hashed(&self, codepoints: &[u32]) -> Result<[u8; 32], Refusal> {
@@ -136,7 +150,16 @@ impl<C: Calls> Desk<'_, C> {
     /// Lends a call buffers of the sizes that hold every name: the length, and
     /// the answer.
     fn with_buffers(&self, call: impl FnOnce(Lent) -> Result<usize, Refusal>) -> Result<(usize, Vec<u32>), Refusal> {
-        let (mut answer, mut work) = (vec![0; limits::WORKED], vec![0; limits::WORK_WORDS]);
+        self.with_room(limits::WORKED, call)
+    }
+
+    /// The same with an answer buffer of so many words.
+    fn with_room(
+        &self,
+        room: usize,
+        call: impl FnOnce(Lent) -> Result<usize, Refusal>,
+    ) -> Result<(usize, Vec<u32>), Refusal> {
+        let (mut answer, mut work) = (vec![0; room], vec![0; limits::WORK_WORDS]);
         let lent = Lent { table: self.table, setting: self.setting, answer: &mut answer, work: &mut work };
         let length = call(lent)?;
         answer.truncate(length);

@@ -24,6 +24,12 @@ impl Names {
         self.0.get(group).map(String::as_str)
     }
 
+    /// The number of the Greek group, by its name; where no group has it, a
+    /// number beyond every group.
+    pub fn greek(&self) -> u32 {
+        self.0.iter().position(|name| name == "Greek").map_or(u32::MAX, |number| number as u32)
+    }
+
     /// A group in words: `Latin (group 0)`.
     pub fn group(&self, number: usize) -> String {
         self.kind(Kind::Group { number, restricted: false })
@@ -40,5 +46,25 @@ impl Names {
             (None, false) => format!("group {number}"),
             (None, true) => format!("group {number} (restricted)"),
         }
+    }
+}
+
+#[cfg(test)]
+mod tests {
+    use super::*;
+
+    #[test]
+    fn the_greek_group() {
+        let names = |of: &[&str]| Names(of.iter().map(|name| name.to_string()).collect());
+        assert_eq!(names(&["Latin", "Greek", "Greek"]).greek(), 1);
+        assert_eq!(names(&["Greek"]).greek(), 0);
+        assert_eq!(names(&["Latin", "greek", "Greek (old)"]).greek(), u32::MAX);
+        assert_eq!(Names::default().greek(), u32::MAX);
+        let full = crate::in_repository("data/full.tab");
+        let mut words = vec![0; plain::limits::TABLE_WORDS];
+        let count = plain::unpack(&std::fs::read(&full).expect("a table"), &mut words).expect("it unpacks");
+        let names = Names::beside(&full, &words[..count]);
+        assert_eq!(names.of(names.greek() as usize), Some("Greek"));
+        assert_eq!(Names::beside(&full, &words[..count - 1]).greek(), u32::MAX, "no table, and no names");
     }
 }

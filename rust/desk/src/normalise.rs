@@ -164,7 +164,7 @@ fn run(calls: &impl Calls, wanted: &Options) -> Result<u8, Ended> {
     }
     let names = Names::beside(&path, &table);
     let Options { restrict, trim, hash, report, .. } = *wanted;
-    let desk = Desk { calls, table: &table, setting: u32::from(restrict), trim, hash, report };
+    let desk = Desk { calls, table: &table, setting: u32::from(restrict), greek: names.greek(), trim, hash, report };
     let out = stdout().lock();
     let (json, hex) = (wanted.json, wanted.hex);
     let mut teller = Teller { desk, names, json, hex, out, judged: 0, refused: 0, unreadable: 0 };

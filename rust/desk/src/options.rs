@@ -11,8 +11,9 @@ usage: ./normalise [OPTIONS] NAME           as ./normalise 'Nick.ETH'
        ./normalise [OPTIONS]                the same from standard input
        ./normalise --table NEW --moved BOOK the payees of a book that a new table would file differently
 
-Shows the normal form of a name as characters and as codepoints, and the kind
-of each label; or why it is refused, and where. Labels and places count from 0.
+Shows the normal form of a name as characters and as codepoints, below it its
+screen form where that is another, and the kind of each label; or why the name
+is refused, and where. Labels and places count from 0.
 
   --hex           the name is given as hexadecimal codepoints, of 1 to 8 digits
   --file FILE     take the names of this file; - is standard input

@@ -23,7 +23,7 @@ pub fn head(input: &Input) -> String {
 /// The lines for a name.
 pub fn lines(input: &Input, judged: &Judged, names: &Names) -> Vec<String> {
     let mut lines = match &judged.found {
-        Ok((form, parts)) => accepted(form, parts, names),
+        Ok((form, parts)) => accepted(form, judged.screen.as_deref(), parts, names),
         Err(refusal) => refused(input, judged, *refusal),
     };
     lines.extend(judged.report.iter().flatten().cloned());
@@ -45,13 +45,16 @@ pub fn lines(input: &Input, judged: &Judged, names: &Names) -> Vec<String> {
     lines
 }
 
-fn accepted(form: &[u32], parts: &[Part], names: &Names) -> Vec<String> {
+fn accepted(form: &[u32], screen: Option<&[u32]>, parts: &[Part], names: &Names) -> Vec<String> {
     if form.is_empty() && parts.is_empty() {
         return vec!["ok".into(), "the empty name, which has no labels".into()];
     }
     let label =
         |(number, part): (usize, &Part)| format!("label {number}: {}, {}", readable(&part.form), names.kind(part.kind));
     let mut lines = vec![format!("ok {}", readable(form)), hex(form)];
+    if let Some(screen) = screen.filter(|screen| *screen != form) {
+        lines.extend([format!("screen form {}", readable(screen)), hex(screen)]);
+    }
     lines.extend(parts.iter().enumerate().map(label));
     lines
 }
@@ -104,4 +107,42 @@ fn at_label(codepoints: &[u32], place: usize) -> Vec<String> {
 fn at_byte(bytes: &[u8], place: usize) -> Vec<String> {
     let before = String::from_utf8_lossy(&bytes[..place]).chars().count();
     marked(&cells_of_bytes(bytes), before, before + 1, &format!("byte {place}")).to_vec()
+}
+
+#[cfg(test)]
+mod tests {
+    use super::*;
+    use crate::calls::Plain;
+    use crate::judged::Desk;
+    use plain::TableBuilder;
+
+    /// The screen form below the normal form, where it is another; by the number
+    /// of the Greek group.
+    #[test]
+    fn screen_forms() {
+        let table = TableBuilder {
+            valid: vec![(0x61, 0x61), (0x3B1, 0x3B1), (0x3BE, 0x3BE)],
+            emoji: vec![vec![0x2764, 0xFE0F], vec![0xFE0F; 32]],
+            groups: vec![(0, vec![(0x61, 0x61)]), (0, vec![(0x3B1, 0x3B1), (0x3BE, 0x3BE)])],
+            ..TableBuilder::default()
+        };
+        let words = table.to_words();
+        let told = |greek: u32, name: &[u32]| {
+            let desk =
+                Desk { calls: &Plain, table: &words, setting: 0, greek, trim: false, hash: false, report: false };
+            let input = Input::Numbers(name.to_vec());
+            lines(&input, &desk.judge(&input), &Names::default())
+        };
+        let plain = ["ok a", "   61", "   label 0: a, ASCII"];
+        assert_eq!(told(1, &[0x61]), plain);
+        assert_eq!(told(1, &[0x3BE])[..2], ["ok ξ", "   3BE"]);
+        assert_eq!(told(1, &[0x3BE]).len(), 3);
+        assert_eq!(told(2, &[0x3BE])[..4], ["ok ξ", "   3BE", "   screen form Ξ", "   39E"]);
+        let heart = ["ok ❤", "   2764", "   screen form ❤\u{FE0F}", "   2764 FE0F", "   label 0: ❤, emoji"];
+        assert_eq!(told(1, &[0x2764]), heart);
+        assert_eq!(told(1, &[0x62])[0], "no 5 at codepoint 0: a codepoint that names may not have");
+        assert_eq!(told(1, &[])[0], "ok");
+        // An empty emoji of 32 FE0F, which are shown.
+        assert_eq!(told(1, &[0xFE0F, 0x61])[3], format!("   {}61", "FE0F ".repeat(32)));
+    }
 }

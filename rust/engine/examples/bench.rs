@@ -62,20 +62,36 @@ fn seconds(times: u32, mut job: impl FnMut()) -> f64 {
     }
 }
 
+/// A call that is lent a name, a table and both buffers: the number it answers.
+type Call = fn(&[u32], &[u32], &mut [u32], &mut [u32]) -> u32;
+
+fn number<T>(answer: Result<T, engine::Refusal>) -> u32 {
+    answer.map_or_else(|refusal| refusal.number, |_| 0)
+}
+
 /// The name call over these names, `times` times.
 fn compare(what: &str, names: &[Vec<u32>], table: &[u32], times: u32) {
+    let proved: Call = |n, t, a, w| engine::name(n, t, 0, a, w).number;
+    compare_calls(what, names, table, times, proved, |n, t, a, w| number(plain::name(n, t, a, w)));
+}
+
+/// The screen form, likewise, with the Greek group of both tables.
+fn compare_screens(what: &str, names: &[Vec<u32>], table: &[u32], times: u32) {
+    let proved: Call = |n, t, a, w| engine::screen::screen(n, t, 1, 0, a, w).number;
+    compare_calls(what, names, table, times, proved, |n, t, a, w| number(plain::screen(n, t, 1, 0, a, w)));
+}
+
+fn compare_calls(what: &str, names: &[Vec<u32>], table: &[u32], times: u32, proved: Call, plain: Call) {
     let (mut answer, mut work) = (vec![0; ROOM], vec![0; WORK]);
-    let per = names.len() as f64;
-    let proved = seconds(times, || {
-        for n in names {
-            black_box(engine::name(n, table, 0, &mut answer, &mut work));
-        }
-    }) / per;
-    let plain = seconds(times, || {
-        for n in names {
-            let _ = black_box(plain::name(n, table, &mut answer, &mut work));
-        }
-    }) / per;
+    let mut each = |call: Call| {
+        let all = seconds(times, || {
+            for n in names {
+                black_box(call(n, table, &mut answer, &mut work));
+            }
+        });
+        all / names.len() as f64
+    };
+    let (proved, plain) = (each(proved), each(plain));
     println!(
         "{what}: proved {:.1} us a name, {:.1} names a second; plain {:.1} us, {:.1} a second; ratio {:.2}",
         proved * 1e6,
@@ -89,6 +105,8 @@ fn compare(what: &str, names: &[Vec<u32>], table: &[u32], times: u32) {
 fn times(full: &[u32], small: &[u32], names: &[Vec<u32>], worst: &[(&str, Vec<u32>)]) {
     compare("twelve real-looking names, full-size table", names, full, 20);
     compare("twelve real-looking names, names.tab", names, small, 100);
+    compare_screens("their screen forms, full-size table", names, full, 20);
+    compare_screens("their screen forms, names.tab", names, small, 100);
     for (what, name) in worst {
         let refusal = engine::name(name, full, 0, &mut [0; ROOM], &mut [0; WORK]).number;
         let what = format!("{what} (refusal {refusal}), full-size table");
@@ -140,6 +158,7 @@ fn stacks(full: &[u32], names: &[Vec<u32>], worst: &[(&str, Vec<u32>)]) {
     texts.push((&confused, &wide));
     println!("stack, an empty job: {} bytes", stack(|| ()));
     lent("name", |n, t, a, w| engine::name(n, t, 0, a, w), &texts);
+    lent("screen form", |n, t, a, w| engine::screen::screen(n, t, 1, 0, a, w), &texts);
     lent("label", |n, t, a, w| engine::label(n, t, 0, a, w), &texts);
     lent("nfd", nfd, &texts);
     lent("nfc", nfc, &texts);

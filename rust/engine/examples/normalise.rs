@@ -40,6 +40,10 @@ impl Calls for Proved {
         engine::namehash::namehash(input, lent.table, lent.setting, lent.answer, lent.work).answer()
     }
 
+    fn screen(&self, input: &[u32], greek: u32, lent: Lent) -> Result<answers::Name, Refusal> {
+        engine::screen::screen(input, lent.table, greek, lent.setting, lent.answer, lent.work).answer()
+    }
+
     fn respelled(&self, label: &[u32], table: &[u32], list: &mut [u32], work: &mut [u32]) -> Result<usize, Refusal> {
         engine::lists::respelled(label, table, list, work).answer()
     }

@@ -1,5 +1,5 @@
-//! Times the calls on the worst tables: the name call, NFD and NFC on longer
-//! and longer texts, then the soundness check on tables in order and in random
+//! Times the calls on the worst tables: the name call, the screen form, NFD and
+//! NFC on longer and longer texts, then the soundness check on tables in order and in random
 //! order. Not a test. docs/BOUNDS.md has the walks that they are made for.
 //! `cargo run --release --offline -p engine --example worst [SECONDS [WORDS]]`
 //!
@@ -11,10 +11,11 @@
 //! last, in proportion, which is too little only for the ordering of NFD.
 
 use engine::normal_forms::{nfc, nfd};
+use engine::screen::screen;
 use engine::Soundness;
 use gen::worst::texts::{Call, Long, TEXTS};
 use gen::worst::{in_random_order, Hard, DEEP, LONG};
-use plain::limits::{WORKED, WORK_WORDS};
+use plain::limits::{SCREEN_ANY, WORKED, WORK_WORDS};
 use plain::TableBuilder;
 use std::io::Read;
 use std::process::{Command, Stdio};
@@ -69,6 +70,7 @@ fn timed<R>(job: impl FnOnce() -> R) -> (R, f64) {
 fn call(long: &Long, text: &[u32], table: &[u32], answer: &mut [u32], work: &mut [u32]) -> u32 {
     match long.call {
         Call::Name => engine::name(text, table, 0, answer, work).number,
+        Call::Screen => screen(text, table, 0, 0, answer, work).number,
         Call::Nfd => nfd(text, table, answer, work).number,
         Call::Nfc => nfc(text, table, answer, work).number,
     }
@@ -80,7 +82,11 @@ fn texts(long: &Long, limit: f64) {
     let mut count = long.first;
     loop {
         let text = (long.text)(count);
-        let room = if long.call == Call::Name { WORKED } else { 256 * count };
+        let room = match long.call {
+            Call::Name => WORKED,
+            Call::Screen => SCREEN_ANY,
+            Call::Nfd | Call::Nfc => 256 * count,
+        };
         let (mut answer, mut work) = (vec![0; room], vec![0; room.max(WORK_WORDS)]);
         let (number, time) = timed(|| call(long, &text, &table, &mut answer, &mut work));
         if count == long.first {

@@ -13,6 +13,7 @@ pub mod namehash;
 pub mod normal_forms;
 mod raw;
 pub mod report;
+pub mod screen;
 pub mod utf8;
 
 pub use answers::{Kind, Refusal, Soundness};
@@ -56,8 +57,8 @@ pub fn layout_fault(words: &[u32]) -> bool {
     raw::layout_fault(words) != 0
 }
 
-/// What the name call answers. `number` is 0, or the number of the refusal;
-/// beside a refusal `length` and `labels` are 0.
+/// What the name call and the screen form answer. `number` is 0, or the number
+/// of the refusal; beside a refusal `length` and `labels` are 0.
 #[repr(C)]
 #[derive(Clone, Copy, Debug, PartialEq, Eq)]
 pub struct Name {
@@ -65,7 +66,7 @@ pub struct Name {
     pub number: u32,
     /// The place that the refusal names, else 0.
     pub place: usize,
-    /// Codepoints of the normal form.
+    /// Codepoints of the normal form, or of the screen form.
     pub length: usize,
     /// The number of labels.
     pub labels: usize,

@@ -97,6 +97,41 @@ fn the_report() {
     assert!(status == Some(1) && !refused.contains("text"), "{refused}");
 }
 
+/// Below the normal form, the screen form where it is another: ENSIP-15's own
+/// example, and 3BE in Greek and other labels.
+#[test]
+fn the_screen_form() {
+    let shown = |form: &str, numbers: &str, screen: &str, more: &str, labels: &str| {
+        format!("ok {form}\n   {numbers}\n   screen form {screen}\n   {more}\n{labels}")
+    };
+    let latin = group("full", "Latin");
+    let label = format!("   label 0: -ξ1\u{20E3}, {latin})\n");
+    let due = shown("-ξ1\u{20E3}", "2D 3BE 31 20E3", "-Ξ1\u{FE0F}\u{20E3}", "2D 39E 31 FE0F 20E3", &label);
+    both(&["--", "-ξ1\u{20E3}"], 0, &due);
+    both(&["\u{2010}Ξ1\u{FE0F}\u{20E3}"], 0, &due);
+    let labels = format!("   label 0: ξδ, {})\n   label 1: aξ, {latin})\n", group("full", "Greek"));
+    both(&["ξδ.aξ"], 0, &shown("ξδ.aξ", "3BE 3B4 2E 61 3BE", "ξδ.aΞ", "3BE 3B4 2E 61 39E", &labels));
+    // No more where it is the same.
+    both(&["ξδ"], 0, &format!("ok ξδ\n   3BE 3B4\n   label 0: ξδ, {})\n", group("full", "Greek")));
+    let (status, json) = normalise(&["--json", "ξ\u{2764}"]);
+    let due = ",\"screen\":\"Ξ\u{2764}\u{FE0F}\",\"screen_codepoints\":[926,10084,65039],\"labels\":";
+    assert!(status == Some(0) && json.contains(due), "{json}");
+    // By a table whose groups have no names none is Greek; and where it is not
+    // sound, a screen form far longer than the worked length is shown.
+    let table = Path::new(env!("CARGO_TARGET_TMPDIR")).join("screen.tab");
+    let path = table.to_str().expect("text");
+    let (long, names) = gen::screens::long_screens();
+    std::fs::write(&table, plain::pack(&long.to_words())).expect("a file");
+    let told = normalise(&["--table", path, "αξ"]).1;
+    assert!(told.contains("\n   screen form αΞ\n   3B1 39E\n"), "{told}");
+    let (name, length) = &names[0];
+    let hex: String = name.iter().map(|c| format!("{c:X} ")).collect();
+    let (status, told) = normalise_with(&["--json", "--table", path, "--hex", "--file", "-"], hex.as_bytes());
+    let object = told.lines().find(|line| line.starts_with('{')).expect("an object");
+    let screen = object.split("\"screen_codepoints\":[").nth(1).and_then(|rest| rest.split(']').next());
+    assert_eq!((status, screen.map(|numbers| numbers.split(',').count())), (Some(0), Some(*length)));
+}
+
 /// Behind a 14, the groups in which the label could be respelled.
 #[test]
 fn groups_behind_a_14() {
@@ -214,7 +249,8 @@ fn many_names() {
 #[test]
 fn for_programs() {
     let latin = group("full", "Latin").replace("Latin (group ", "");
-    let due = "{\"input\":\"Ñ.a\",\"blanks\":[0,0],\"accepted\":true,\"form\":\"ñ.a\",\"codepoints\":[241,46,97],\"labels\":[\
+    let due = "{\"input\":\"Ñ.a\",\"blanks\":[0,0],\"accepted\":true,\"form\":\"ñ.a\",\"codepoints\":[241,46,97],\
+         \"screen\":\"ñ.a\",\"screen_codepoints\":[241,46,97],\"labels\":[\
          {\"form\":\"ñ\",\"codepoints\":[241],\"kind\":\"group\",\"group\":0,\"script\":\"Latin\",\"restricted\":false},\
          {\"form\":\"a\",\"codepoints\":[97],\"kind\":\"ascii\"}]}\n";
     both(&["--json", "Ñ.a"], 0, &due.replace("\"group\":0", &format!("\"group\":{latin}")));

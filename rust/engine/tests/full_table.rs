@@ -4,8 +4,12 @@
 
 mod proved;
 
+use compare::screens::Asked;
+use engine::Refusal;
+use plain::limits::{WORKED, WORK_WORDS};
 use proved::Proved;
 use standin::bulk::{codepoints, random_names};
+use standin::screens::{coming_back, run_examples, Calls, EXAMPLES};
 
 #[test]
 fn every_codepoint() {
@@ -32,6 +36,28 @@ fn random_names_of_real_characters() {
         assert!(counts.refusals(number) >= 50, "refusal {number}: {counts:?}");
     }
     assert!(counts.emoji > 1_000 && counts.ascii > 1_000 && counts.groups.len() > 120);
+}
+
+fn screen(asked: &Asked, answer: &mut [u32], work: &mut [u32]) -> Result<answers::Name, Refusal> {
+    engine::screen::screen(asked.name, asked.table, asked.greek, asked.setting, answer, work).answer()
+}
+
+fn normal(name: &[u32], table: &[u32], setting: u32) -> Result<Vec<u32>, Refusal> {
+    let (mut answer, mut work) = (vec![7; WORKED], vec![7; WORK_WORDS]);
+    let given = engine::name(name, table, setting, &mut answer, &mut work).answer()?;
+    answer.truncate(given.length);
+    Ok(answer)
+}
+
+/// The screen form: the examples, and 100,000 accepted names whose screen forms,
+/// normalised, give their normal forms.
+#[test]
+fn screen_forms() {
+    let made = standin::full();
+    run_examples(&screen, &made, &EXAMPLES);
+    let counts = coming_back(&made, Some(Calls { screen: &screen, normal: &normal }), 32, 100_000);
+    println!("{counts:?}");
+    assert!(counts.accepted == 100_000 && counts.styled > 5_000 && counts.capital > 5_000, "{counts:?}");
 }
 
 #[test]

@@ -234,6 +234,29 @@ static int reports(void) {
     return 0;
 }
 
+/* The screen form, by a table of two groups that both have 3BE, with 61 and with 3B1, and the emoji 2764 FE0F. */
+static int screens(void) {
+    const uint32_t table[] = {6, 0x61, 0x61, 0x3B1, 0x3B1, 0x3BE, 0x3BE, 0, 0, 0, 0, 3, 0x39E, 1, 0x3BE, 0, 3, 2, 0x2764, 0xFE0F, 1, 0, 0,
+                              12, 0, 4, 0x61, 0x61, 0x3BE, 0x3BE, 1, 4, 0x3B1, 0x3B1, 0x3BE, 0x3BE, 0, 0};
+    const size_t words = sizeof table / sizeof table[0];
+    const uint32_t name[] = {0x61, 0x3BE, 0x2764, 0x2E, 0x3B1, 0x39E}, latin[] = {0x61, 0x39E, 0x2764, 0xFE0F, 0x2E, 0x3B1, 0x3BE};
+    uint32_t answer[9], work[WANLOPHENG_WORK_WORDS] = {7};
+    for (size_t i = 0; i < 9; i++) answer[i] = 7;
+    struct wanlopheng_name r = wanlopheng_screen(name, 6, table, words, 1, 0, answer, 9, work, WANLOPHENG_WORK_WORDS);
+    if (r.number != 0 || r.place != 0 || r.length != 7 || r.labels != 2 || work[0]) return 121;
+    for (size_t i = 0; i < 9; i++) if (answer[i] != (i < 7 ? latin[i] : 0)) return 122;
+    r = wanlopheng_screen(name, 6, table, words, 0, 0, answer, 7, work, WANLOPHENG_WORK_WORDS);
+    if (r.number != 0 || r.length != 7 || answer[1] != 0x3BE || answer[6] != 0x39E) return 123;
+    r = wanlopheng_screen(name, 6, table, words, 0xFFFFFFFFu, 0, answer, 7, work, WANLOPHENG_WORK_WORDS);
+    if (r.number != 0 || r.length != 7 || answer[1] != 0x39E || answer[6] != 0x39E) return 124;
+    r = wanlopheng_screen(name, 6, table, words, 1, 0, answer, 6, work, WANLOPHENG_WORK_WORDS);
+    if (r.number != WANLOPHENG_ANSWER_TOO_SMALL || r.place || r.length || r.labels || answer[0] || answer[5] || answer[6] != 0x39E) return 125;
+    r = wanlopheng_screen(name, 6, table, words, 0, 1, answer, 7, work, WANLOPHENG_WORK_WORDS);
+    if (r.number != WANLOPHENG_RESTRICTED || r.place != 1 || r.length || r.labels || answer[6]) return 126;
+    r = wanlopheng_screen(name, 6, table, words - 1, 0, 0, answer, 7, work, WANLOPHENG_WORK_WORDS);
+    return r.number != WANLOPHENG_TABLE_LAYOUT ? 127 : 0;
+}
+
 int main(void) {
     uint8_t file[] = {2, 0, 0, 0, 2, 1, 2, 3, 4, 0, 0, 0, 9};
     uint32_t answer[3] = {7, 7, 7};
@@ -261,5 +284,6 @@ int main(void) {
     if (failed == 0) failed = book();
     if (failed == 0) failed = lists();
     if (failed == 0) failed = reports();
+    if (failed == 0) failed = screens();
     return failed != 0 ? failed : trimmed();
 }

@@ -8,6 +8,7 @@ mod painted;
 use engine::book::{Account, Book, Desk, AREA};
 use engine::namehash::namehash;
 use engine::normal_forms::{nfc, nfd};
+use engine::screen::screen;
 use gen::worst;
 use painted::{run, traces, Left, Traces};
 use plain::limits::{WORKED, WORK_WORDS};
@@ -75,6 +76,14 @@ const NAMEHASH: Call = Call {
     what: "name hash",
     number: |l| namehash(l.name, l.table, l.setting, l.answer, l.work).name.number,
     limits: within(48 * KB),
+};
+
+/// It judges each label as the name call does and walks it again, with a bit for
+/// each record of the table and the classes of a text beside.
+const SCREEN: Call = Call {
+    what: "screen form",
+    number: |l| screen(l.name, l.table, 1, l.setting, l.answer, l.work).number,
+    limits: within(56 * KB),
 };
 
 /// The codepoints take an array beside what the name call uses.
@@ -227,7 +236,7 @@ fn keeps(call: &Call) {
     let (mut over, mut most) = (Vec::new(), 0);
     for case in cases() {
         let (number, used, Traces { words, in_order }) = left_by(call, &case, &full, &mut vec![0; AREA]);
-        if [NAME.what, NAMEHASH.what].contains(&call.what) {
+        if [NAME.what, NAMEHASH.what, SCREEN.what].contains(&call.what) {
             assert_eq!(number, case.number, "{}", case.what);
         }
         println!("{}, {} ({number}): {words} words, {in_order} in order, {used} bytes", call.what, case.what);
@@ -296,6 +305,11 @@ fn name() {
 #[test]
 fn name_hash() {
     keeps(&NAMEHASH);
+}
+
+#[test]
+fn screen_form() {
+    keeps(&SCREEN);
 }
 
 #[test]

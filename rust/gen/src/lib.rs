@@ -7,6 +7,7 @@ pub mod files;
 pub mod names;
 mod pools;
 pub mod rng;
+pub mod screens;
 pub mod small;
 pub mod tables;
 mod unsound;

@@ -19,6 +19,7 @@
 //! * `lists`: slots that a new table would file differently, groups behind 14.
 //! * `namehash`: the name hash of EIP-137.
 //! * `report`: the report of what was typed.
+//! * `screen`: the screen form of a name.
 //! * `trim`: an input without the blanks at its ends.
 //! * `utf8`: bytes to codepoints and back, and the byte form of the name call.
 
@@ -34,6 +35,7 @@ pub mod lookup;
 pub mod namehash;
 pub mod ranges;
 pub mod report;
+pub mod screen;
 pub mod soundness;
 pub mod table;
 pub mod text;
@@ -50,6 +52,7 @@ pub use label::LabelForm;
 pub use lookup::{Index, Lookup};
 pub use ranges::Ranges;
 pub use report::report;
+pub use screen::screen;
 pub use soundness::{soundness, soundness_report};
 pub use table::{layout, parse, Group, LayoutFault, Pairs, Record, Table, TableBuilder, Triples, Whole};
 pub use text::{nfc, nfd};
@@ -73,6 +76,15 @@ pub mod limits {
     /// two places of at most five digits, and for each of the worked length a
     /// blank, two braces and eight digits.
     pub const REPORT: usize = 17 * INPUT + 11 * WORKED;
+    /// Codepoints of an emoji sequence.
+    pub const SEQUENCE: usize = 32;
+    /// Codepoints that hold every screen form by a sound table, whose emoji
+    /// sequences have no FE0F first and no two together.
+    pub const SCREEN: usize = 2 * WORKED;
+    /// Codepoints that hold every screen form by any table: what an emoji takes
+    /// of the input it gives at most so many times, and a text is no longer than
+    /// the worked length.
+    pub const SCREEN_ANY: usize = SEQUENCE * INPUT + WORKED;
     /// Non-spacing marks in one run.
     pub const NSM_RUN: usize = 4;
 }

@@ -13,6 +13,7 @@ pub mod cases;
 pub mod desk;
 pub mod forms;
 pub mod prepared;
+pub mod screens;
 pub mod shards;
 pub mod validation;
 

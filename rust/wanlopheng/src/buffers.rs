@@ -55,6 +55,23 @@ impl Buffers {
         Ok((Form { codepoints: &self.answer[..given.length], labels: given.labels }, node))
     }
 
+    /// The screen form of a name, written into `answer`; by a sound table
+    /// `limits::SCREEN_WORDS` words hold it. `greek` is the number of the Greek
+    /// group.
+    pub fn screen<'a>(
+        &mut self,
+        table: Table,
+        greek: u32,
+        name: &str,
+        answer: &'a mut [u32],
+    ) -> Result<Form<'a>, Refusal> {
+        let length = self.read(name);
+        let given = table.screen_with(greek, 0, &self.input[..length], answer, &mut self.work);
+        self.input[..length].fill(0);
+        let given = given?;
+        Ok(Form { codepoints: &answer[..given.length], labels: given.labels })
+    }
+
     /// The normal form of one label, and its kind.
     pub fn label(&mut self, table: Table, label: &str) -> Result<(Form<'_>, Kind), Refusal> {
         let length = self.read(label);
@@ -76,7 +93,7 @@ impl Buffers {
     }
 }
 
-/// A normal form. `Display` writes it as text.
+/// A normal form, or a screen form. `Display` writes it as text.
 #[derive(Clone, Copy, Debug, PartialEq, Eq)]
 pub struct Form<'a> {
     codepoints: &'a [u32],

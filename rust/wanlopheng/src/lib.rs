@@ -53,6 +53,8 @@ pub mod limits {
     pub const INPUT: usize = 16_384;
     /// Words of an answer buffer that holds every normal form.
     pub const ANSWER_WORDS: usize = 4_096;
+    /// Words of an answer buffer that holds every screen form by a sound table.
+    pub const SCREEN_WORDS: usize = 8_192;
     /// Words that a work area needs.
     pub const WORK_WORDS: usize = 8_192;
     /// Words of the largest table.

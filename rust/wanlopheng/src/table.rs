@@ -69,6 +69,21 @@ impl<'w> Table<'w> {
         Ok((given.name.answer()?, given.answer()?))
     }
 
+    /// The screen form of a name: emoji with every FE0F of their sequence, and
+    /// 39E for 3BE in text of labels that are not Greek. `greek` is the number
+    /// of the Greek group, or one that the table does not have. Refusals and
+    /// buffers as for a name with this setting; 15 is judged on the screen form.
+    pub fn screen_with(
+        &self,
+        greek: u32,
+        setting: u32,
+        input: &[u32],
+        answer: &mut [u32],
+        work: &mut [u32],
+    ) -> Result<Name, Refusal> {
+        engine::screen::screen(input, self.0, greek, setting, answer, work).answer()
+    }
+
     /// The label call on codepoints, the buffers as for a name. A full stop is
     /// refused with 5.
     pub fn label(&self, input: &[u32], answer: &mut [u32], work: &mut [u32]) -> Result<Label, Refusal> {
@@ -98,6 +113,17 @@ impl<'w> Table<'w> {
     pub fn namehash(&self, name: &str) -> Result<[u8; 32], Refusal> {
         let mut buffers = alloc::boxed::Box::new(crate::Buffers::new());
         Ok(buffers.namehash(*self, name)?.1)
+    }
+
+    /// The screen form of a name, for a screen alone; `greek` is the number of
+    /// the Greek group.
+    #[cfg(feature = "alloc")]
+    pub fn screen(&self, greek: u32, name: &str) -> Result<alloc::string::String, Refusal> {
+        let mut buffers = alloc::boxed::Box::new(crate::Buffers::new());
+        // Enough by a table that is not sound too: an emoji has 32 codepoints.
+        let codepoints = name.chars().count().min(crate::limits::INPUT);
+        let mut answer = alloc::vec![0; 32 * codepoints + crate::limits::ANSWER_WORDS];
+        Ok(buffers.screen(*self, greek, name, &mut answer)?.chars().collect())
     }
 
     /// The kind of a label.

@@ -14,6 +14,7 @@ fn by_small_table<R>(job: impl FnOnce(Table) -> R) -> R {
 fn limits_are_those_of_the_calls() {
     assert_eq!(wanlopheng::limits::INPUT, limits::INPUT);
     assert_eq!(wanlopheng::limits::ANSWER_WORDS, limits::WORKED);
+    assert_eq!(wanlopheng::limits::SCREEN_WORDS, limits::SCREEN);
     assert_eq!(wanlopheng::limits::WORK_WORDS, limits::WORK_WORDS);
     assert_eq!(wanlopheng::limits::TABLE_WORDS, limits::TABLE_WORDS);
 }
@@ -34,6 +35,29 @@ fn names_and_labels() {
         assert_eq!(table.kind("a.b"), Err(Refusal::new(5, 1)));
     });
     assert_eq!(Table::new(&[]).normalise("a"), Err(Refusal::new(1, 0)));
+}
+
+#[test]
+fn screen_forms() {
+    let words = gen::screens::xi_table().to_words();
+    let (table, greek) = (Table::new(&words), gen::small::GREEK as u32);
+    assert_eq!(table.screen(greek, "").as_deref(), Ok(""));
+    assert_eq!(table.screen(greek, "\u{2010}\u{39E}1\u{FE0F}\u{20E3}").as_deref(), Ok("-\u{39E}1\u{FE0F}\u{20E3}"));
+    assert_eq!(table.screen(greek, "αξ.aξ").as_deref(), Ok("αξ.aΞ"));
+    assert_eq!(table.screen(u32::MAX, "αξ.aξ").as_deref(), Ok("αΞ.aΞ"));
+    assert_eq!(table.screen(greek, "a..b"), Err(Refusal::new(6, 1)));
+    let (mut buffers, mut answer) = (Buffers::new(), [7; 4]);
+    let form = buffers.screen(table, greek, "A\u{2764}", &mut answer).expect("accepted");
+    assert_eq!((form.codepoints(), form.labels()), (&[0x61, 0x2764, 0xFE0F][..], 1));
+    assert_eq!(answer, [0x61, 0x2764, 0xFE0F, 0]);
+    assert_eq!(buffers.screen(table, greek, "A\u{2764}", &mut answer[..2]), Err(Refusal::new(15, 0)));
+    // By any table there is room.
+    let (long, names) = gen::screens::long_screens();
+    let words = long.to_words();
+    for (name, length) in names {
+        let form = Table::new(&words).screen(greek, &text(&name).expect("text"));
+        assert_eq!(form.map(|form| form.chars().count()), Ok(length));
+    }
 }
 
 #[test]

@@ -10,6 +10,7 @@ use plain::TableBuilder;
 #[derive(Clone, Copy, Debug, PartialEq, Eq)]
 pub enum Call {
     Name,
+    Screen,
     Nfd,
     Nfc,
 }
@@ -47,7 +48,7 @@ const fn long(
 }
 
 /// Where a row says "in random order", each comparison's branch is a guess.
-pub const TEXTS: [Long; 45] = [
+pub const TEXTS: [Long; 48] = [
     long("scan: emoji of one codepoint", Call::Name, emoji_beside, letter_a, [16, INPUT], 0),
     long("scan: long emoji that start alike", Call::Name, emoji_alike, letter_a, [16, INPUT], 0),
     long("scan: emoji that start with FE0F", Call::Name, emoji_of_selectors, letter_a, [16, INPUT], 0),
@@ -86,6 +87,9 @@ pub const TEXTS: [Long; 45] = [
     long("14: 64 wholes in turn", Call::Name, wholes_in_turn::<64>, labels_in_turn::<64>, [127, WORKED], 0),
     long("14: a whole for each codepoint", Call::Name, whole_each, in_turn::<WORKED>, [16, WORKED], 0),
     long("14: a codepoint of many confused lists", Call::Name, wholes_alike, own, [16, WORKED], 0),
+    long("screen form: emoji behind others", Call::Screen, emoji_last, letter_a, [16, WORKED], 0),
+    long("screen form: an empty emoji behind others", Call::Screen, selectors_last, selectors_parted, [16, INPUT], 0),
+    long("screen form: long emoji that start alike", Call::Screen, emoji_alike, letter_a, [16, WORKED], 0),
     long("NFD: a codepoint that becomes 256", Call::Nfd, valid_deep, deep, [1, DEEP], 0),
     long("NFD: a codepoint that becomes another four times", Call::Nfd, valid_chain, deep, [16, WORKED], 0),
     long("NFD: classes, in random order", Call::Nfd, classes_random, letter_a, [16, WORKED], 0),
@@ -112,6 +116,11 @@ fn letters_ab(count: usize) -> Vec<u32> {
 /// 61 and ignored codepoints behind it.
 fn joiners(count: usize) -> Vec<u32> {
     std::iter::once(0x61).chain(vec![0x34F; count - 1]).collect()
+}
+
+/// FE0F, each with an ignored codepoint behind it.
+fn selectors_parted(count: usize) -> Vec<u32> {
+    [0xFE0F, 0x34F].into_iter().cycle().take(count).collect()
 }
 
 /// The first of those that decompose deeply.
@@ -185,6 +194,20 @@ fn classes_around(c: u32, count: u32) -> Vec<(u32, u32, u32)> {
 fn emoji_beside() -> TableBuilder {
     let emoji = (0..fit(2, 4)).map(|i| vec![FIRST + i]).collect();
     TableBuilder { emoji, ..ascii() }
+}
+
+/// Emoji of one codepoint, and this one behind them.
+fn emoji_before(last: Vec<u32>, other: usize) -> Vec<Vec<u32>> {
+    let count = fit(2, last.len() + 1 + other);
+    (0..count).map(|i| vec![FIRST + i]).chain([last]).collect()
+}
+
+fn emoji_last() -> TableBuilder {
+    TableBuilder { emoji: emoji_before(vec![0x61, 0xFE0F], 4), ..ascii() }
+}
+
+fn selectors_last() -> TableBuilder {
+    TableBuilder { emoji: emoji_before(vec![0xFE0F; 32], 6), ignored: vec![one(0x34F)], ..ascii() }
 }
 
 fn emoji_alike() -> TableBuilder {

@@ -1,0 +1,4 @@
+pub mod Named
+pub mod Rendered
+pub mod Restored
+pub mod Instances
