@@ -16,7 +16,7 @@ use Rattle.answers.specs.Restriction.{barred}
 use Rattle.ending.specs.Ending.{then15, resultOf}
 use Rattle.table.specs.Table.{Table, Group}
 use Rattle.table.specs.Layout.{parse}
-use Rattle.text.specs.Scalar.{isScalar}
+use Rattle.scalar.specs.Scalar.{isScalar}
 use Rattle.limits.specs.Limits.{mostInput, leastWork}
 use Rattle.tokens.specs.Scan.{steps, firstDisallowed}
 use Rattle.tokens.specs.Tokens.{tokensOf, normal, joinedText}

@@ -13,7 +13,7 @@ use name::part::put_label;
 use refiling::Change;
 use refiling::refile;
 use table::Sections;
-use text::compose::PAIR_WORDS;
+use unpaired::PAIR_WORDS;
 ghost use Prim.Native.Nat.{_≤_, _*_};
 ghost use mathlib.Core.Path.{_≡_};
 ghost use mathlib.Core.Bool.{false};

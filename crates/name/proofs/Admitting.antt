@@ -18,7 +18,7 @@ use Rattle.table.specs.declared.Sections.{Sections}
 use Rattle.table.specs.declared.Layout.the-variants.{Fault, Found}
 use Rattle.table.proofs.Lookups.{drop-next}
 use Rattle.table.proofs.SectionLaws.{laid-parse}
-use Rattle.text.specs.Scalar.{isScalar}
+use Rattle.scalar.specs.Scalar.{isScalar}
 use Rattle.name.specs.Label.{admitted}
 use Rattle.name.specs.Admission.{Admits}
 

@@ -2,13 +2,13 @@
 use answers::Refusal;
 use limits::LEAST_WORK;
 use limits::MOST_INPUT;
+use scalar::is_scalar;
 use table::Layout;
 use table::Sections;
-use text::scalar::is_scalar;
 ghost use mathlib.Core.Path.{_≡_};
 ghost use mathlib.Core.Bool.{not};
 ghost use Rattle.lists.specs.Lists.{placeWith};
-ghost use Rattle.text.specs.Scalar.{isScalar};
+ghost use Rattle.scalar.specs.Scalar.{isScalar};
 ghost use Rattle.name.specs.Admission.{placeIs, AdmissionIs};
 
 // Where a codepoint that is no scalar value stands.

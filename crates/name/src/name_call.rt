@@ -12,7 +12,7 @@ use answers::name_length;
 use ending::finish;
 use lookalike::memo::MEMO;
 use table::Sections;
-use text::compose::PAIR_WORDS;
+use unpaired::PAIR_WORDS;
 ghost use Prim.Native.Nat.{_≤_};
 ghost use lib.ListN.{length};
 ghost use Rattle.limits.specs.Limits.{mostInput, leastWork};

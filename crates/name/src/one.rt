@@ -13,7 +13,7 @@ ghost use Prim.Native.Nat.{_+_, _≤_};
 ghost use lib.ListN.{length};
 ghost use Rattle.limits.specs.Limits.{leastWork, mostInput, mostWorked};
 ghost use Rattle.table.specs.Laid.{Laid, theTable};
-ghost use Rattle.text.specs.Unpaired.{Unpaired};
+ghost use Rattle.unpaired.specs.Unpaired.{Unpaired};
 ghost use Rattle.lookalike.specs.Memo.{Memo};
 ghost use Rattle.name.specs.Judged.{Judges, TokensJudged};
 

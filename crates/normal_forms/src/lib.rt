@@ -1,14 +1,14 @@
 // NFD and NFC of a text, by a table. specs/Forms.antt states what they answer.
 pub mod export;
 
+use composition::compose::compose;
+use composition::nfc::put_classes;
+use decomposition::append_decomposed;
 use ending::finish;
 use limits::MOST_WORKED;
 use table::Layout;
 use table::Sections;
-use text::compose::PAIR_WORDS;
-use text::compose::compose;
-use text::decompose::append_decomposed;
-use text::nfc::put_classes;
+use unpaired::PAIR_WORDS;
 ghost use mathlib.Core.Path.{_≡_};
 ghost use lib.ListN.{length};
 ghost use Rattle.table.specs.Laid.{Laid, theTable};
@@ -51,7 +51,7 @@ fn arrange(words: &[u32], ix: Sections, text: &mut [u32], classes: &mut [u32])
     ensures { λ _. ⌜ Arranged (theTable (now (words .entry))) (now (text .entry)) (now (text .exit)) (now (classes .exit)) ⌝ }
 {
     put_classes(words, ix, text, classes);
-    text::order::order(text, classes);
+    ordering::order(text, classes);
 }
 
 // NFD at the front of `answer`, with its classes at the front of `work`.

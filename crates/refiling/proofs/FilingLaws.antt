@@ -18,7 +18,7 @@ use Rattle.answers.specs.declared.Refusal.{Refusal}
 use Rattle.table.specs.Table.{Table}
 use Rattle.table.specs.Laid.{Laid, theTable}
 use Rattle.table.specs.declared.Sections.{Sections}
-use Rattle.text.specs.Scalar.{isScalar}
+use Rattle.scalar.specs.Scalar.{isScalar}
 use Rattle.name.specs.declared.one.Judgement.{Judgement}
 use Rattle.name.specs.declared.one.Judgement.the-variants as judgement
 use Rattle.name.specs.Label.{Label, stop, answer, admitted, labelVerdict, labelBy}

@@ -12,7 +12,7 @@ use Rattle.answers.specs.Verdict.{Verdict, accepted, refused}
 use Rattle.table.specs.Table.{Table}
 use Rattle.table.specs.Laid.{Laid, theTable}
 use Rattle.table.specs.declared.Sections.{Sections}
-use Rattle.text.specs.Unpaired.{Unpaired}
+use Rattle.unpaired.specs.Unpaired.{Unpaired}
 use Rattle.lookalike.specs.Memo.{Memo}
 use Rattle.name.specs.Label.{Label, answer, labelVerdict}
 use Rattle.book_slots.specs.Book.{formRoom}

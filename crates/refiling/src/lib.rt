@@ -14,7 +14,7 @@ ghost use mathlib.Core.Bool.{true};
 ghost use lib.ListN.{length};
 ghost use Rattle.limits.specs.Limits.{leastWork, mostInput};
 ghost use Rattle.table.specs.Laid.{Laid, theTable};
-ghost use Rattle.text.specs.Unpaired.{Unpaired};
+ghost use Rattle.unpaired.specs.Unpaired.{Unpaired};
 ghost use Rattle.lookalike.specs.Memo.{Memo};
 ghost use Rattle.name.specs.Name.{labelsOf};
 ghost use Rattle.refiling.specs.Refiled.{changed};

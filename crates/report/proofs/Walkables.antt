@@ -16,7 +16,7 @@ use Rattle.ending.specs.Numbers.{next-accepted}
 use Rattle.table.specs.Table.{Table}
 use Rattle.table.specs.Layout.{parse}
 use Rattle.table.specs.Laid.{theTable}
-use Rattle.text.specs.Scalar.{isScalar}
+use Rattle.scalar.specs.Scalar.{isScalar}
 use Rattle.tokens.specs.Scan.{steps, firstDisallowed}
 use Rattle.tokens.specs.Tokens.{Token, tokensOf, worked, normal}
 use Rattle.label.specs.Judge.{judge}

@@ -16,7 +16,7 @@ use Rattle.table.specs.Table.{Headed, Table}
 use Rattle.table.specs.Lookup.{itemsOf}
 use Rattle.table.specs.Laid.{Laid, within, theTable}
 use Rattle.table.proofs.SectionLaws.{laid-small}
-use Rattle.text.specs.Scalar.{isSurrogate, isScalar}
+use Rattle.scalar.specs.Scalar.{isSurrogate, isScalar}
 use Rattle.text.specs.Hangul.{firstSyllable, syllableCount, isSyllable, jamoOf}
 use Rattle.text.specs.Decomposition.{single, round, fourRounds}
 use Rattle.soundness.specs.Scalars.{scalarHeaded, rule1}

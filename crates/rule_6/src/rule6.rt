@@ -1,5 +1,7 @@
 // Rule 6, on the heads of decompositions and on classes.
 use bit_sets::has;
+use decomposition::is_alone;
+use decomposition::replaced;
 use sound_choices::choices::find_first;
 use sound_rounds::rounds::choose_rounds;
 use sound_rounds::rounds::reach;
@@ -8,8 +10,6 @@ use table::Sections;
 use table::Span;
 use table::lookup::counted;
 use table::lookup::head_in;
-use text::decompose::is_alone;
-use text::decompose::replaced;
 use text::hangul::is_jamo;
 use text::hangul::is_syllable;
 ghost use mathlib.Core.Path.{_≡_};

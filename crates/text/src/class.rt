@@ -2,7 +2,7 @@
 use crate::hangul;
 use table::Sections;
 ghost use Rattle.table.specs.Laid.{Laid, theTable};
-ghost use Rattle.text.specs.Work.{ClassOf};
+ghost use Rattle.text.specs.Classes.{ClassOf};
 
 // The combining class of c: 0 for syllables and jamo, before any entry of the table.
 pub fn class_of(words: &[u32], ix: Sections, c: u32) -> u32

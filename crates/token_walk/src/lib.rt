@@ -12,7 +12,7 @@ ghost use Prim.Native.Nat.{_≤_};
 ghost use lib.ListN.{length};
 ghost use Rattle.limits.specs.Limits.{mostInput, leastWork};
 ghost use Rattle.table.specs.Laid.{Laid, theTable};
-ghost use Rattle.text.specs.Unpaired.{Unpaired};
+ghost use Rattle.unpaired.specs.Unpaired.{Unpaired};
 ghost use Rattle.tokens.specs.Scan.{codepointStep, steps};
 ghost use Rattle.tokens.specs.Scanning.{firstStep};
 ghost use Rattle.tokens.specs.Tokens.{tokensOf};

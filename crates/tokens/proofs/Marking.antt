@@ -6,8 +6,8 @@ use mathlib.Core.List.{List, [], _∷_, _++_}
 use lib.ListN.{length, take, drop, set, length-append, length-set, length-drop, length-replicate}
 use lib.Seq.{sets-eq, length-sets, take-at, drop-at, take-take, take-set-le, drop-set-add, length-take-le}
 use Rattle.limits.specs.Limits.{mostWorked, leastWork}
-use Rattle.text.specs.Rounds.{placed, Appended}
-use Rattle.text.proofs.Rounds.{placed-join}
+use Rattle.decomposition.specs.Rounds.{placed, Appended}
+use Rattle.decomposition.proofs.Rounds.{placed-join}
 use Rattle.tokens.specs.Laying.{runMarks, PutAt, MarksPut}
 use Rattle.tokens.proofs.Putting.{markAt, marks-snoc}
 

@@ -11,8 +11,8 @@ use Rattle.table.specs.Table.{Table}
 use Rattle.table.proofs.Lookups.{drop-take, drop-next}
 use Rattle.text.specs.Decomposition.{classOf}
 use Rattle.text.specs.Ordering.{order}
-use Rattle.text.specs.Work.{ComposedInto}
-use Rattle.text.proofs.Sorting.{length-sort, order-sort}
+use Rattle.composition.specs.Work.{ComposedInto}
+use Rattle.ordering.proofs.Sorting.{length-sort, order-sort}
 use Rattle.tokens.specs.Laying.{runMarks, PutAt}
 use Rattle.tokens.specs.Normal.{composedText, MovedDown, Kept, TextKept, EmojiKept}
 use Rattle.tokens.proofs.Putting.{Putting, put-start, put-more, put-stop}

@@ -17,8 +17,8 @@ use Rattle.table.specs.Laid.{within}
 use Rattle.tokens.specs.declared.cells.Run.{Run}
 use Rattle.finder.specs.Emoji.{selector, strip}
 use Rattle.finder.specs.Match.{SequenceFits}
-use Rattle.text.specs.Rounds.{placed, Appended}
-use Rattle.text.proofs.Rounds.{placed-join}
+use Rattle.decomposition.specs.Rounds.{placed, Appended}
+use Rattle.decomposition.proofs.Rounds.{placed-join}
 use Rattle.tokens.specs.Laying.{MarksPut, EmojiPut}
 use Rattle.tokens.proofs.Marking.{put-both}
 use Rattle.tokens.proofs.Laying.{laying-emoji, laying-emoji-over}

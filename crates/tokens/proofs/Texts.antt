@@ -11,7 +11,7 @@ use Rattle.table.specs.declared.Span.{Span}
 use Rattle.table.specs.Table.{Table}
 use Rattle.table.specs.Laid.{within}
 use Rattle.text.specs.Decomposition.{fourRounds}
-use Rattle.text.specs.Rounds.{Decomposed}
+use Rattle.decomposition.specs.Rounds.{Decomposed}
 use Rattle.tokens.specs.declared.cells.Run.{Run}
 use Rattle.tokens.specs.Scan.{Step, text}
 use Rattle.tokens.specs.Laying.{nextMark, Laying, MarksPut, TextPut, ItemsPut}

@@ -10,7 +10,7 @@ use Rattle.table.specs.Table.{Table}
 use Rattle.table.specs.declared.Span.{Span}
 use Rattle.table.specs.Laid.{within}
 use Rattle.text.specs.Decomposition.{fourRounds}
-use Rattle.text.specs.Rounds.{placed}
+use Rattle.decomposition.specs.Rounds.{placed}
 use Rattle.tokens.specs.declared.cells.Run.{Run}
 use Rattle.finder.specs.Emoji.{Found, strip}
 use Rattle.tokens.specs.Scan.{Step, emoji, text, ignored, disallowed}

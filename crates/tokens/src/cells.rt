@@ -1,17 +1,17 @@
 // Laying tokens down in the work area: codepoints in its first MOST_WORKED words, marks beside them in the next MOST_WORKED. Each codepoint is
 // written to its place at once: what is copied stays on the stack.
+use decomposition::append_decomposed;
+use decomposition::put;
 use limits::MOST_WORKED;
 use table::Sections;
 use table::Span;
-use text::decompose::append_decomposed;
-use text::decompose::put;
 ghost use Prim.Native.Nat.{_≤_, _-_};
 ghost use mathlib.Core.Path.{_≡_};
 ghost use lib.ListN.{length};
 ghost use Rattle.limits.specs.Limits.{mostWorked, leastWork};
 ghost use Rattle.table.specs.Layout.{mostItems};
 ghost use Rattle.table.specs.Laid.{Laid, theTable, within};
-ghost use Rattle.text.specs.Rounds.{Appended};
+ghost use Rattle.decomposition.specs.Rounds.{Appended};
 ghost use Rattle.finder.specs.Emoji.{strip};
 ghost use Rattle.finder.specs.Match.{SequenceFits};
 ghost use Rattle.tokens.specs.Single.{ItemsThere};

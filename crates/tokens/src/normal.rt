@@ -1,13 +1,13 @@
 // The tokens in the work area, decomposed, are put into normal form: each text is ordered and composed, and what follows moves down.
+use composition::nfc::ordered_composed;
 use limits::MOST_WORKED;
 use table::Sections;
-use text::nfc::ordered_composed;
 ghost use Prim.Native.Nat.{_≤_, _<_, _+_};
 ghost use mathlib.Core.Path.{_≡_};
 ghost use lib.ListN.{length, take, drop};
 ghost use Rattle.limits.specs.Limits.{mostWorked, leastWork};
 ghost use Rattle.table.specs.Laid.{Laid, theTable};
-ghost use Rattle.text.specs.Unpaired.{Unpaired};
+ghost use Rattle.unpaired.specs.Unpaired.{Unpaired};
 ghost use Rattle.tokens.specs.Normal.{MovedDown, TextKept, EmojiKept, twos, NormalCells};
 
 // Moves the n codepoints from `from` on down behind the first `at`, with a mark for the first of them and one for each later one.

@@ -3,7 +3,7 @@ use native.Mathlib.Omega.{arith}
 use mathlib.Core.Path.{sym, _∙_}
 use lib.ListN.{length-take}
 use lib.Seq.{length-take-le}
-use Rattle.text.proofs.Pairs.{unpaired-none}
+use Rattle.unpaired.proofs.Noting.{unpaired-none}
 use Rattle.name.proofs.Passing.{judged-room, judged-count, judged-short, one-disallowed, one-barred, one-refused, one-accepted}
 use borrow.Author.Needs.{needs}
 use Rattle.name.proofs.label_call.judge_one.Statement.{statement}

@@ -5,8 +5,8 @@ use mathlib.Core.Path.{sym, _∙_}
 use mathlib.Core.Logic.{⊎-elim}
 use lib.ListN.{length}
 use Rattle.table.specs.Laid.{theTable}
-use Rattle.text.specs.Unpaired.{Unpaired}
-use Rattle.text.proofs.Pairs.{unpaired-none}
+use Rattle.unpaired.specs.Unpaired.{Unpaired}
+use Rattle.unpaired.proofs.Noting.{unpaired-none}
 use Rattle.lookalike.specs.Memo.{Memo}
 use Rattle.name.proofs.Parting.{label-length}
 use Rattle.name.proofs.Passing.{judged-room, judged-count, judged-short, judged-worked, Passed, pass-start, pass-empty, pass-done, pass-refused, pass-barred, pass-more}

@@ -6,7 +6,7 @@ use lib.ListN.{length}
 use lib.Seq.{length-take-le}
 use borrow.Author.Needs.{needs}
 use Rattle.table.specs.Laid.{theTable}
-use Rattle.text.specs.Unpaired.{Unpaired}
+use Rattle.unpaired.specs.Unpaired.{Unpaired}
 use Rattle.report.proofs.Reporting.{Reporting, reporting-start, reporting-walks, reporting-short, reporting-place, reporting-more, reporting-end}
 use Rattle.report.proofs.labels.report_label.Statement.{statement}
 use Rattle.report.proofs.labels.report_label.Tie as tie

@@ -5,8 +5,8 @@ use mathlib.Core.Path.{_≡_, refl, sym, _∙_}
 use lib.ListN.{length}
 use borrow.Author.Needs.{needs}
 use Rattle.table.specs.Laid.{theTable}
-use Rattle.text.specs.Unpaired.{Unpaired}
-use Rattle.text.proofs.Pairs.{unpaired-none}
+use Rattle.unpaired.specs.Unpaired.{Unpaired}
+use Rattle.unpaired.proofs.Noting.{unpaired-none}
 use Rattle.name.proofs.Parting.{label-length}
 use Rattle.report.proofs.Reporting.{Labelled, labelled-start, labelled-walks, labelled-more, labelled-end}
 use Rattle.report.proofs.labels.report_labels.Statement.{statement}

@@ -5,7 +5,7 @@ use mathlib.Core.List.{List}
 use borrow.Author.Tests.{not-true, not-false}
 use Rattle.lists.specs.Lists.{all}
 use Rattle.table.specs.Table.{Headed}
-use Rattle.text.specs.Scalar.{isScalar}
+use Rattle.scalar.specs.Scalar.{isScalar}
 use Rattle.soundness.specs.Scalars.{scalarHeaded}
 use Rattle.sound_parts.specs.Parts.{recordsScalar}
 use Rattle.table.proofs.SectionLaws.{laid-fits}

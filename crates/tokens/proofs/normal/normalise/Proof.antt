@@ -4,7 +4,7 @@ use native.Mathlib.Omega.{arith}
 use mathlib.Core.Path.{sym, _∙_}
 use borrow.Author.Needs.{needs}
 use Rattle.table.specs.Laid.{theTable}
-use Rattle.text.specs.Unpaired.{Unpaired}
+use Rattle.unpaired.specs.Unpaired.{Unpaired}
 use Rattle.tokens.proofs.Compacting.{Compacting, compact-start, compact-emoji, end-inside, end-behind, compact-text, compact-stop}
 use Rattle.tokens.proofs.normal.normalise.Statement.{statement}
 use Rattle.tokens.proofs.normal.normalise.Tie as tie
