@@ -25,7 +25,7 @@ pub fn cross_name(
 ) -> WanlophengName
     ensures { λ r. ⌜ NameCrosses setting (now (words .entry)) (now (input .entry)) (now (answer .entry)) (now (answer .exit)) (now (work .entry)) (now (work .exit)) r ⌝ }
 {
-    let found = name::name_call::name(input, words, setting, answer, work);
+    let found = name_call::name(input, words, setting, answer, work);
     name_fields(found)
 }
 
@@ -39,7 +39,7 @@ pub fn cross_label(
 ) -> WanlophengLabel
     ensures { λ r. ⌜ LabelCrosses setting (now (words .entry)) (now (input .entry)) (now (answer .entry)) (now (answer .exit)) (now (work .entry)) (now (work .exit)) r ⌝ }
 {
-    let found = name::label_call::label(input, words, setting, answer, work);
+    let found = label_call::label(input, words, setting, answer, work);
     label_fields(found)
 }
 

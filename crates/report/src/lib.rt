@@ -4,7 +4,7 @@ mod labels;
 use crate::labels::write_report;
 use answers::NameAnswer;
 use answers::Refusal;
-use name::name_call::judge_name;
+use name_call::judge_name;
 ghost use Rattle.report.specs.Promise.{ReportCalls};
 
 // The length of the report; a refusal of the name call; or too little room.

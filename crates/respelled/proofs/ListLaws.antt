@@ -27,11 +27,11 @@ use Rattle.table.proofs.Lookups.{drop-next}
 use Rattle.tokens.specs.Scan.{steps, firstDisallowed}
 use Rattle.tokens.specs.Tokens.{Token, tokensOf, worked, normal, joinedTokens, joinedText}
 use Rattle.tokens.specs.Cells.{Cells}
-use Rattle.tokens.specs.Normal.{NormalCells}
-use Rattle.tokens.specs.Scanning.{Tallied, ScanIs, Scans}
-use Rattle.tokens.specs.declared.scan.Tally.{Tally}
-use Rattle.tokens.specs.declared.scan.Scanned.{Scanned}
-use Rattle.tokens.specs.declared.scan.Scanned.the-variants as scanned
+use Rattle.normal_cells.specs.Normal.{NormalCells}
+use Rattle.scanning.specs.Scanning.{Tallied, ScanIs, Scans}
+use Rattle.scanning.specs.declared.Tally.{Tally}
+use Rattle.scanning.specs.declared.Scanned.{Scanned}
+use Rattle.scanning.specs.declared.Scanned.the-variants as scanned
 use Rattle.components.specs.Components.{noGroup}
 use Rattle.lookalike.specs.Confusable.{isConfused, respells}
 use Rattle.lookalike.specs.Flags.{bit, slots, flagsFor, Respellings}

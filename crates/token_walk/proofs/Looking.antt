@@ -18,7 +18,7 @@ use Rattle.finder.specs.Match.{FoundBy}
 use Rattle.tokens.specs.Single.{ItemsThere, SingleFound}
 use Rattle.tokens.specs.Scan as scan
 use Rattle.tokens.specs.Scan.{Step, codepointStep, stepAt}
-use Rattle.tokens.specs.Scanning.{firstStep}
+use Rattle.scanning.specs.Scanning.{firstStep}
 use Rattle.token_walk.specs.declared.Stands.{Stands}
 use Rattle.token_walk.specs.declared.Stands.the-variants.{Emoji, Text, Nothing}
 use Rattle.token_walk.specs.Walk.{TextStands, Gives, ignored, disallowed, StandsIs}
