@@ -15,7 +15,7 @@ use Rattle.table.specs.Table as table
 use Rattle.table.specs.Table.{Table, Whole}
 use Rattle.table.specs.Laid.{theTable}
 use Rattle.table.specs.Lookup.{holds, wholeOf}
-use Rattle.lookalike.specs.Confusable.{isConfused, members, shareGroup, extent, confusable}
+use Rattle.confusable.specs.Confusable.{isConfused, members, shareGroup, extent, confusable}
 use Rattle.name.specs.Name.{nameCall, nameVerdict}
 use Rattle.soundness.specs.Soundness.{soundnessOf}
 use Rattle.cases.specs.SmallTable.{section}

@@ -21,7 +21,7 @@ ghost use Prim.Native.Nat.{_≤_};
 ghost use lib.ListN.{length};
 ghost use Rattle.limits.specs.Limits.{leastWork, mostWorked};
 ghost use Rattle.table.specs.Laid.{Laid, theTable};
-ghost use Rattle.lookalike.specs.Memo.{Memo};
+ghost use Rattle.memo.specs.Memo.{Memo};
 ghost use Rattle.spelling.specs.CellMarks.{codesIn, tagsIn};
 ghost use Rattle.label.specs.Judge.{judgeAscii, judgeText};
 ghost use Rattle.label.specs.CellText.{textAt};

@@ -21,7 +21,7 @@ use Rattle.limits.specs.Limits.{mostInput, leastWork}
 use Rattle.tokens.specs.Scan.{steps, firstDisallowed}
 use Rattle.tokens.specs.Tokens.{tokensOf, normal, joinedText}
 use Rattle.groups.specs.Groups.{Numbered, holdsAll, groupFrom, groupOf}
-use Rattle.lookalike.specs.Confusable.{isConfused, respells}
+use Rattle.confusable.specs.Confusable.{isConfused, respells}
 use Rattle.label_laws.specs.OwnGroup.{own-group}
 use Rattle.label.specs.Judge.{onlyEmoji, onlyAscii}
 use Rattle.name.specs.Permitted.{by-off, by-refused}

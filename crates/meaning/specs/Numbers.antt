@@ -26,7 +26,7 @@ use Rattle.spelling.specs.Spelling.{lowLine, hyphens, fenced, leadingMark}
 use Rattle.groups.specs.Groups as groups
 use Rattle.groups.specs.Groups.{groupOf}
 use Rattle.nsm.specs.Marks.{nsmFits}
-use Rattle.lookalike.specs.Confusable.{confusable}
+use Rattle.confusable.specs.Confusable.{confusable}
 use Rattle.label.specs.Judge.{unless, onlyEmoji, onlyAscii, judgeAscii, judgeInGroup, judgeText, judgeMixed, judge}
 use Rattle.name.specs.Label.{Label, stop, judged, permitted, labelVerdict, labelBy, oneLabel, admitted, labelAnswering, labelBefore15, labelResult, labelCallVerdict, labelCall}
 use Rattle.name.specs.Name.{labelsOf, labelsVerdict, nameAnswering, nameBefore15, nameResult, nameVerdict, nameCall}

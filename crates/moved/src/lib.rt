@@ -6,7 +6,7 @@ use book_slots::FRONT;
 use book_slots::SLOT;
 use book_slots::SLOTS;
 use ending::finish;
-use lookalike::memo::MEMO;
+use memo::MEMO;
 use name::admit::Admission;
 use name::admit::admit;
 use name::part::put_label;

@@ -4,7 +4,7 @@ use answers::Refusal;
 use answers::is_barred;
 use answers::name_length;
 use ending::finish;
-use lookalike::memo::MEMO;
+use memo::MEMO;
 use name::admit::Admission;
 use name::admit::admit;
 use name::part::label_end;
@@ -17,7 +17,7 @@ ghost use Prim.Native.Nat.{_≤_};
 ghost use lib.ListN.{length};
 ghost use Rattle.limits.specs.Limits.{mostInput, leastWork};
 ghost use Rattle.table.specs.Laid.{Laid, theTable};
-ghost use Rattle.lookalike.specs.Memo.{Memo};
+ghost use Rattle.memo.specs.Memo.{Memo};
 ghost use Rattle.name.specs.Name.{labelsOf, labelsVerdict, nameBefore15};
 ghost use Rattle.name.specs.Calls.{NameCalls, NameJudged};
 

@@ -14,7 +14,7 @@ ghost use lib.ListN.{length};
 ghost use Rattle.limits.specs.Limits.{leastWork, mostInput, mostWorked};
 ghost use Rattle.table.specs.Laid.{Laid, theTable};
 ghost use Rattle.unpaired.specs.Unpaired.{Unpaired};
-ghost use Rattle.lookalike.specs.Memo.{Memo};
+ghost use Rattle.memo.specs.Memo.{Memo};
 ghost use Rattle.one_label.specs.Judged.{Judges, TokensJudged};
 
 // What is answered for one label: the length of its answer, its kind and its worked length, or a refusal.

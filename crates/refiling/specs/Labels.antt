@@ -13,7 +13,7 @@ use Rattle.table.specs.Table.{Table}
 use Rattle.table.specs.Laid.{Laid, theTable}
 use Rattle.table.specs.declared.Sections.{Sections}
 use Rattle.unpaired.specs.Unpaired.{Unpaired}
-use Rattle.lookalike.specs.Memo.{Memo}
+use Rattle.memo.specs.Memo.{Memo}
 use Rattle.name.specs.Label.{Label, answer, labelVerdict}
 use Rattle.book_slots.specs.Book.{formRoom}
 use Rattle.refiling.specs.declared.Change.{Change}

@@ -32,9 +32,10 @@ use Rattle.scanning.specs.Scanning.{Tallied, ScanIs, Scans}
 use Rattle.scanning.specs.declared.Tally.{Tally}
 use Rattle.scanning.specs.declared.Scanned.{Scanned}
 use Rattle.scanning.specs.declared.Scanned.the-variants as scanned
-use Rattle.components.specs.Components.{noGroup}
-use Rattle.lookalike.specs.Confusable.{isConfused, respells}
-use Rattle.lookalike.specs.Flags.{bit, slots, flagsFor, Respellings}
+use Rattle.group_numbers.specs.Components.{noGroup}
+use Rattle.confusable.specs.Confusable.{isConfused, respells}
+use Rattle.group_flags.specs.Flags.{bit, slots, flagsFor}
+use Rattle.lookalike.specs.Respelling.{Respellings}
 use Rattle.lookalike.proofs.OutsideLaws.{respells-none}
 use Rattle.label.specs.CellText.{textAt, TextAlone}
 use Rattle.label.proofs.CellLaws.{text-tokens}

@@ -1,5 +1,5 @@
 -- `judge_input`: 1 to 4, then the label. Assumes nothing.
-use Rattle.lookalike.proofs.MemoLaws.{memo-new}
+use Rattle.memo.proofs.MemoLaws.{memo-new}
 use Rattle.name.proofs.Answering.{admits, label-admitted, label-not-admitted}
 use borrow.Author.Needs.{needs}
 use Rattle.label_call.proofs.judge_input.Statement.{statement}

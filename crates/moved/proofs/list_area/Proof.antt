@@ -2,7 +2,7 @@
 use denote.Ref.{now}
 use borrow.Author.Needs.{needs}
 use Rattle.unpaired.proofs.Noting.{unpaired-none}
-use Rattle.lookalike.proofs.MemoLaws.{memo-new}
+use Rattle.memo.proofs.MemoLaws.{memo-new}
 use Rattle.moved.proofs.MovedLaws.{area-slots, area-listed}
 use Rattle.moved.proofs.list_area.Statement.{statement}
 use Rattle.moved.proofs.list_area.Tie as tie

@@ -7,7 +7,7 @@ use lib.ListN.{length}
 use Rattle.table.specs.Laid.{theTable}
 use Rattle.unpaired.specs.Unpaired.{Unpaired}
 use Rattle.unpaired.proofs.Noting.{unpaired-none}
-use Rattle.lookalike.specs.Memo.{Memo}
+use Rattle.memo.specs.Memo.{Memo}
 use Rattle.name.proofs.Parting.{label-length}
 use Rattle.one_label.proofs.Said.{judged-room, judged-count, judged-short, judged-worked}
 use Rattle.name_call.proofs.Passing.{Passed, pass-start, pass-empty, pass-done, pass-refused, pass-barred, pass-more}

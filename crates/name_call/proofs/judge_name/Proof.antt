@@ -1,5 +1,5 @@
 -- `judge_name`: 1 to 4, then the labels. Assumes nothing.
-use Rattle.lookalike.proofs.MemoLaws.{memo-new}
+use Rattle.memo.proofs.MemoLaws.{memo-new}
 use Rattle.name.proofs.Answering.{admits, name-admitted, name-not-admitted}
 use borrow.Author.Needs.{needs}
 use Rattle.name_call.proofs.judge_name.Statement.{statement}

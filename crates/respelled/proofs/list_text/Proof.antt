@@ -2,7 +2,7 @@
 use mathlib.Core.Path.{refl}
 use borrow.Author.Tests.{not-true, not-false}
 use Rattle.table.proofs.SectionLaws.{laid-reads}
-use Rattle.lookalike.proofs.MemoLaws.{memo-new}
+use Rattle.memo.proofs.MemoLaws.{memo-new}
 use Rattle.lookalike.proofs.RespellingLaws.{respelt-size}
 use borrow.Author.Needs.{needs}
 use Rattle.respelled.proofs.ListLaws.{text-unseen, text-seen}
