@@ -1,4 +1,4 @@
--- `text::decompose::is_alone` meets its contract. Assumes nothing.
+-- `decomposition::is_alone` meets its contract. Assumes nothing.
 use native.Mathlib.Omega.{arith}
 use borrow.Author.Needs.{needs}
 use Rattle.decomposition.proofs.Rounds.{alone-other, alone-one}

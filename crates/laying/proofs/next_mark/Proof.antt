@@ -1,4 +1,4 @@
--- `tokens::cells::next_mark` meets its contract. Assumes nothing.
+-- `laying::next_mark` meets its contract. Assumes nothing.
 use Prim.Native.Nat.{_-_}
 use native.Mathlib.Omega.{arith}
 use Rattle.laying.proofs.Texts.{next-some, next-none}

@@ -1,4 +1,4 @@
--- `tokens::cells::put_marks` meets its contract: the loop keeps the codepoints that are marked. Assumes nothing.
+-- `laying::put_marks` meets its contract: the loop keeps the codepoints that are marked. Assumes nothing.
 use Prim.Native.Nat.{_-_}
 use borrow.Author.Needs.{needs}
 use Rattle.laying.proofs.Marking.{Marking, mark-start, mark-more, mark-stop, mark-over}

@@ -1,4 +1,4 @@
--- `tokens::cells::put_text` meets its contract: the decomposition is written to its place, and marked. Assumes nothing.
+-- `laying::put_text` meets its contract: the decomposition is written to its place, and marked. Assumes nothing.
 use native.Mathlib.Omega.{arith}
 use lib.ListN.{length-take}
 use Rattle.laying.proofs.Texts.{text-over, text-put}

@@ -1,4 +1,4 @@
--- `tokens::normal::normalise` meets its contract: the loop keeps what is done before, and the tokens that are left where they stood. Assumes nothing.
+-- `normal_cells::normalise` meets its contract: the loop keeps what is done before, and the tokens that are left where they stood. Assumes nothing.
 use Prim.Native.Nat.{_-_}
 use native.Mathlib.Omega.{arith}
 use mathlib.Core.Path.{sym, _∙_}
