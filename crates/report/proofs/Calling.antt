@@ -15,11 +15,7 @@ use Rattle.answers.specs.declared.NameAnswer.the-variants as answer
 use Rattle.answers.specs.declared.Refusal.{Refusal}
 use Rattle.answers.specs.declared.Refusal.the-variants.{LayoutFault, WorkAreaTooSmall, InputTooLong, NotScalar, Disallowed, NoTokens, WorkedTooLong, LowLine, Hyphens, Fenced, LeadingMark, NoGroup, NsmRun, Confusable, Restricted, BufferTooSmall}
 use Rattle.ending.specs.Ends.{Told}
-use Rattle.lists.specs.Lists.{isSome}
-use Rattle.table.specs.declared.Layout.{Layout}
-use Rattle.table.specs.declared.Layout.the-variants.{Fault, Found}
-use Rattle.table.specs.Layout.{parse}
-use Rattle.table.specs.Laid.{theTable, sectionsOf, layoutOf}
+use Rattle.table.specs.Laid.{theTable}
 use Rattle.name.specs.Label.{Label}
 use Rattle.name.specs.Name.{labelsOf, nameAnswering, nameBefore15}
 use Rattle.name.specs.Calls.{NameJudged}
@@ -27,8 +23,9 @@ use Rattle.byte_sink.specs.declared.Sink.{Sink}
 use Rattle.byte_sink.specs.Sinks.{Holds, Adds}
 use Rattle.byte_sink.proofs.Adding.{holds-none}
 use Rattle.report.specs.declared.ReportAnswer.the-variants.{Written, Refused, TooLittleRoom}
-use Rattle.report.specs.Report.{lines, report}
-use Rattle.report.specs.Calls.{Values, nothing, reportCall, Reportable}
+use Rattle.report_walk.specs.Report.{lines, report}
+use Rattle.report.specs.Calls.{reportCall}
+use Rattle.report_walk.specs.Reportable.{nothing, Reportable}
 use Rattle.report.specs.Promise.{ReportCalls}
 use Rattle.report.proofs.Walkables.{reportable}
 
@@ -147,12 +144,3 @@ module _ (setting : ℕ) (words input front front′ before work mid : List ℕ)
 -- where what was written ends
 pub written-place : (before full text : List ℕ) (r : Sink) → Adds before full text nothing r → r .full ≡ false → r .at ≤ length full
 written-place before full text r a o = a .holds [] (holds-none before) .fits o .room
-
--- words that are a table have no layout fault
-pub never-fault : (words : List ℕ) (l : Layout) → isSome (parse words) ≡ true → l ≡ layoutOf words → l ≡ Fault → ⊥
-unfolding layoutOf
-never-fault words l h e f =
-    let found : layoutOf words ≡ Found (sectionsOf words) = rw h in
-    let both : Found (sectionsOf words) ≡ Fault = sym found ∙ sym e ∙ f in
-    let z : _≡_ {A = ℕ} 0 1 = cc in
-    omega arith

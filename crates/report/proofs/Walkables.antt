@@ -25,7 +25,7 @@ use Rattle.name.specs.Permitted.{accepted-by}
 use Rattle.name.specs.Name.{labelsOf, labelsVerdict, nameBefore15}
 use Rattle.token_walk.specs.Walk.{Walkable}
 use Rattle.token_walk.proofs.Nexting.{allowed-moved}
-use Rattle.report.specs.Calls.{Reportable}
+use Rattle.report_walk.specs.Reportable.{Reportable}
 
 never : {A : Type 0} {B : Type 0} (n p : ℕ) (a : A) → refused n p ≡ accepted a → B
 never n p a e = absurd (let z : _≡_ {A = ℕ} 0 1 = cc in omega arith)

@@ -5,7 +5,8 @@ use mathlib.Core.Path.{_≡_, refl, sym, ap, _∙_}
 use mathlib.Core.List.{List, [], _∷_, _++_, append-assoc, append-nil}
 use lib.ListN.{length, take, drop, length-drop, drop-of-length-le}
 use lib.Seq.{take-all, drop-drop}
-use Rattle.lists.specs.Lists.{joinedMap}
+use mathlib.Core.Bool.{true}
+use Rattle.lists.specs.Lists.{joinedMap, isSome}
 use Rattle.lists.specs.Laws.{Every}
 use Rattle.table.specs.Table.{Table}
 use Rattle.tokens.specs.Scan.{steps}
@@ -21,8 +22,12 @@ use Rattle.byte_sink.specs.declared.Sink.{Sink}
 use Rattle.byte_sink.specs.Sinks.{Adds}
 use Rattle.byte_sink.proofs.Adding.{adds-none, adds-then}
 use Rattle.report_lines.specs.Lines.{lineOf}
-use Rattle.report.specs.Report.{line, labelLines, lines, report}
-use Rattle.report.specs.Calls.{nothing}
+use Rattle.report_walk.specs.Report.{line, labelLines, lines, report}
+use Rattle.report_walk.specs.Reportable.{nothing}
+use Rattle.table.specs.declared.Layout.{Layout}
+use Rattle.table.specs.declared.Layout.the-variants.{Fault, Found}
+use Rattle.table.specs.Layout.{parse}
+use Rattle.table.specs.Laid.{sectionsOf, layoutOf}
 
 -- the lines of the tokens before the place i of a label are written
 pub record Reporting (t : Table) (label : List ℕ) (start : ℕ) (before now : List ℕ) (s r : Sink) (i : ℕ) : Type 0 where
@@ -149,3 +154,12 @@ module _ (t : Table) (name before : List ℕ) where
     labelled-end h =
         let none : partsFrom name from ≡ [] = parts-none name from h in
         rw (p .left, none, append-nil) (p .put)
+
+-- words that are a table have no layout fault
+pub never-fault : (words : List ℕ) (l : Layout) → isSome (parse words) ≡ true → l ≡ layoutOf words → l ≡ Fault → ⊥
+unfolding layoutOf
+never-fault words l h e f =
+    let found : layoutOf words ≡ Found (sectionsOf words) = rw h in
+    let both : Found (sectionsOf words) ≡ Fault = sym found ∙ sym e ∙ f in
+    let z : _≡_ {A = ℕ} 0 1 = cc in
+    omega arith

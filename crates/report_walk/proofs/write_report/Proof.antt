@@ -1,9 +1,9 @@
 -- `write_report`: the words are a table, and its sections are found. Assumes nothing.
 use mathlib.Core.Path.{sym, _∙_}
-use Rattle.report.proofs.Calling.{never-fault}
+use Rattle.report_walk.proofs.Reporting.{never-fault}
 use borrow.Author.Needs.{needs}
-use Rattle.report.proofs.labels.write_report.Statement.{statement}
-use Rattle.report.proofs.labels.write_report.Tie as tie
+use Rattle.report_walk.proofs.write_report.Statement.{statement}
+use Rattle.report_walk.proofs.write_report.Tie as tie
 
 layout-requires : tie.Need-layout-requires
 layout-requires c κs = search needs

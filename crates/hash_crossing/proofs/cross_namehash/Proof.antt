@@ -1,8 +1,8 @@
 -- `cross_namehash`: the promise of the call, with its values in the fields. Assumes nothing.
 use mathlib.Core.Path.{_∙_}
 use borrow.Author.Needs.{needs}
-use Rattle.name_crossing.proofs.cross_namehash.Statement.{statement}
-use Rattle.name_crossing.proofs.cross_namehash.Tie as tie
+use Rattle.hash_crossing.proofs.cross_namehash.Statement.{statement}
+use Rattle.hash_crossing.proofs.cross_namehash.Tie as tie
 
 namehash-requires : tie.Need-namehash-requires
 namehash-requires c κs = search needs

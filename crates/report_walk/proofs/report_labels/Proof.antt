@@ -8,9 +8,9 @@ use Rattle.table.specs.Laid.{theTable}
 use Rattle.unpaired.specs.Unpaired.{Unpaired}
 use Rattle.unpaired.proofs.Noting.{unpaired-none}
 use Rattle.name.proofs.Parting.{label-length}
-use Rattle.report.proofs.Reporting.{Labelled, labelled-start, labelled-walks, labelled-more, labelled-end}
-use Rattle.report.proofs.labels.report_labels.Statement.{statement}
-use Rattle.report.proofs.labels.report_labels.Tie as tie
+use Rattle.report_walk.proofs.Reporting.{Labelled, labelled-start, labelled-walks, labelled-more, labelled-end}
+use Rattle.report_walk.proofs.report_labels.Statement.{statement}
+use Rattle.report_walk.proofs.report_labels.Tie as tie
 
 abbrev Inv-loop : tie.InvT-loop
 Inv-loop words ix name out₀ w₀ unpaired₀ sink₀ at₀ out w unpaired sink at =

@@ -1,8 +1,8 @@
 -- `cross_name_bytes`: the fields are the values of the byte form's answer. Assumes nothing.
 use mathlib.Core.Path.{_∙_}
 use borrow.Author.Needs.{needs}
-use Rattle.name_crossing.proofs.cross_name_bytes.Statement.{statement}
-use Rattle.name_crossing.proofs.cross_name_bytes.Tie as tie
+use Rattle.bytes_crossing.proofs.cross_name_bytes.Statement.{statement}
+use Rattle.bytes_crossing.proofs.cross_name_bytes.Tie as tie
 
 name-bytes-requires : tie.Need-name-bytes-requires
 name-bytes-requires c κs = search needs

@@ -7,9 +7,9 @@ use lib.Seq.{length-take-le}
 use borrow.Author.Needs.{needs}
 use Rattle.table.specs.Laid.{theTable}
 use Rattle.unpaired.specs.Unpaired.{Unpaired}
-use Rattle.report.proofs.Reporting.{Reporting, reporting-start, reporting-walks, reporting-short, reporting-place, reporting-more, reporting-end}
-use Rattle.report.proofs.labels.report_label.Statement.{statement}
-use Rattle.report.proofs.labels.report_label.Tie as tie
+use Rattle.report_walk.proofs.Reporting.{Reporting, reporting-start, reporting-walks, reporting-short, reporting-place, reporting-more, reporting-end}
+use Rattle.report_walk.proofs.report_label.Statement.{statement}
+use Rattle.report_walk.proofs.report_label.Tie as tie
 
 abbrev Inv-loop : tie.InvT-loop
 Inv-loop words ix label start unpaired₀ out₀ w₀ r₀ i₀ unpaired out w r i =
