@@ -13,7 +13,7 @@ use Rattle.answers.specs.Values.{NameValues, nameValues, numberOf, placeOf}
 use Rattle.answers.specs.declared.NameAnswer.{NameAnswer}
 use Rattle.answers.specs.declared.NameAnswer.the-variants as answer
 use Rattle.answers.specs.declared.Refusal.{Refusal}
-use Rattle.answers.specs.declared.Refusal.the-variants.{LayoutFault, WorkAreaTooSmall, InputTooLong, NotScalar, Disallowed, NoTokens, WorkedTooLong, LowLine, Hyphens, Fenced, LeadingMark, NoGroup, NsmRun, Confusable, Restricted, BufferTooSmall}
+use Rattle.answers.proofs.Numbers.{some-number}
 use Rattle.ending.specs.Ends.{Told}
 use Rattle.table.specs.Laid.{theTable}
 use Rattle.name.specs.Label.{Label}
@@ -28,25 +28,6 @@ use Rattle.report.specs.Calls.{reportCall}
 use Rattle.report_walk.specs.Reportable.{nothing, Reportable}
 use Rattle.report.specs.Promise.{ReportCalls}
 use Rattle.report.proofs.Walkables.{reportable}
-
--- no refusal has the number 0
-some-number : (f : Refusal) → 1 ≤ numberOf f
-some-number LayoutFault = omega arith
-some-number WorkAreaTooSmall = omega arith
-some-number InputTooLong = omega arith
-some-number (NotScalar i) = omega arith
-some-number (Disallowed i) = omega arith
-some-number (NoTokens l) = omega arith
-some-number (WorkedTooLong l) = omega arith
-some-number (LowLine l) = omega arith
-some-number (Hyphens l) = omega arith
-some-number (Fenced l) = omega arith
-some-number (LeadingMark l) = omega arith
-some-number (NoGroup l) = omega arith
-some-number (NsmRun l) = omega arith
-some-number (Confusable l) = omega arith
-some-number (Restricted l) = omega arith
-some-number BufferTooSmall = omega arith
 
 module _ (input front : List ℕ) where
   -- the name was refused
