@@ -12,7 +12,7 @@ use borrow.Author.Tests.{ltb-true, ltb-false, le-leb, lt-leb, eq-eqb, ne-eqb}
 use Rattle.lists.specs.Laws.{both-right, decided}
 use Rattle.table.specs.declared.GroupRecord.{GroupRecord}
 use Rattle.table.specs.Table.{Group}
-use Rattle.table.specs.Laid.{within}
+use Rattle.table.specs.Spans.{within}
 use Rattle.table.specs.Lookup.{holds}
 use Rattle.table.specs.Part.{inPairs}
 use Rattle.table.specs.GroupPart.{groupsIn, GroupsPart, groupAt}

@@ -9,7 +9,7 @@ ghost use mathlib.Core.Bool.{true, _&&_};
 ghost use Prim.Native.Nat.{_≤_, _<_};
 ghost use lib.ListN.{length};
 ghost use lib.Dec.{leb, eqb};
-ghost use Rattle.table.specs.Laid.{Fits, within};
+ghost use Rattle.table.specs.Spans.{Fits, within};
 ghost use Rattle.table.specs.Layout.{mostGroups};
 ghost use Rattle.table.specs.Lookup.{holds};
 ghost use Rattle.table.specs.Part.{inPairs};

@@ -13,8 +13,8 @@ use borrow.Rule.Slice.PartMut.{putMid, postOf, mid-len, same-len-mid, take-put, 
 use Rattle.lists.specs.Laws.{both-left, both-right, decided}
 use Rattle.table.specs.declared.Span.{Span}
 use Rattle.table.specs.Table.{Group}
-use Rattle.table.specs.Layout.{mostGroups}
-use Rattle.table.specs.Laid.{within, theTable}
+use Rattle.table.specs.Layout.{mostGroups, theTable}
+use Rattle.table.specs.Spans.{within}
 use Rattle.components.specs.Components.{Components}
 use Rattle.components.proofs.NumberLaws.{same-or-not, strict}
 use Rattle.lookalike.specs.Memo.{slotCount, keyed, slotSize, memoSize, slotAt, validIn, confusedIn, sameSpans, isMember, ComponentsOf, Slot, Keyed, SlotFor, Memo, Sought, Recalled}

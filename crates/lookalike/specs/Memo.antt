@@ -7,7 +7,8 @@ use lib.ListN.{length, getD, take, drop}
 use lib.Dec.{eqb}
 use Rattle.lists.specs.Lists.{mem}
 use Rattle.table.specs.declared.Span.{Span}
-use Rattle.table.specs.Laid.{within, theTable}
+use Rattle.table.specs.Spans.{within}
+use Rattle.table.specs.Layout.{theTable}
 use Rattle.components.specs.Components.{Components}
 
 -- so many slots

@@ -1,11 +1,11 @@
 // A flag for each group.
-use table::Sections;
+use sections::Sections;
 use table::lookup::group_at;
 use table::lookup::in_pairs_of;
 ghost use mathlib.Core.Path.{_≡_};
 ghost use lib.ListN.{length};
-ghost use Rattle.table.specs.Layout.{mostGroups};
-ghost use Rattle.table.specs.Laid.{Laid, theTable};
+ghost use Rattle.table.specs.Layout.{mostGroups, theTable};
+ghost use Rattle.sections.specs.Laid.{Laid};
 ghost use Rattle.table.specs.GroupPart.{GroupsPart, groupsIn};
 ghost use Rattle.lookalike.specs.Flags.{marked, kept, apart, anySet, OwnNumber, KeepsOutside};
 

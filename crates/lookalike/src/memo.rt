@@ -2,14 +2,15 @@
 // for the labels of a name. SLOTS slots, each with the places of a whole's two lists and a number for each group; then the slot that is written
 // next. A slot of zeros is for a whole without members, so that zeros are a memo.
 use components::components;
-use table::Sections;
+use sections::Sections;
 use table::Span;
 ghost use mathlib.Core.Path.{_≡_};
 ghost use mathlib.Core.Bool.{_&&_};
 ghost use Prim.Native.Nat.{_≤_};
 ghost use lib.ListN.{length};
 ghost use lib.Dec.{eqb};
-ghost use Rattle.table.specs.Laid.{Laid, Fits};
+ghost use Rattle.sections.specs.Laid.{Laid};
+ghost use Rattle.table.specs.Spans.{Fits};
 ghost use Rattle.table.specs.Layout.{mostWords};
 ghost use Rattle.lookalike.specs.Memo.{slotSize, validIn, confusedIn, sameSpans, Keyed, SlotFor, Memo, Sought, Recalled};
 

@@ -3,15 +3,16 @@ pub mod export;
 
 use ending::finish;
 use limits::MOST_WORKED;
-use table::Layout;
-use table::Sections;
+use sections::Layout;
+use sections::Sections;
 use text::compose::PAIR_WORDS;
 use text::compose::compose;
 use text::decompose::append_decomposed;
 use text::nfc::put_classes;
 ghost use mathlib.Core.Path.{_≡_};
 ghost use lib.ListN.{length};
-ghost use Rattle.table.specs.Laid.{Laid, theTable};
+ghost use Rattle.sections.specs.Laid.{Laid};
+ghost use Rattle.table.specs.Layout.{theTable};
 ghost use Rattle.text.specs.Ordering.{nfd};
 ghost use Rattle.text.specs.Composition.{nfc};
 ghost use Rattle.normal_forms.specs.Forms.{formValues, lengthOf, nfdCall, nfcCall};
@@ -83,7 +84,7 @@ fn decomposed(
 fn nfd_front(text: &[u32], words: &[u32], answer: &mut [u32], work: &mut [u32]) -> FormAnswer
     ensures { λ r. ⌜ Stands nfd (now (text .entry)) (now (words .entry)) (now (answer .entry)) (now (answer .exit)) (length (now (work .entry))) r ⌝ }
 {
-    let found = table::laid::layout(words);
+    let found = layout::layout(words);
     match found {
         Layout::Fault => FormAnswer::LayoutFault,
         Layout::Found(ix) => decomposed(words, ix, text, answer, work),
@@ -94,7 +95,7 @@ fn nfd_front(text: &[u32], words: &[u32], answer: &mut [u32], work: &mut [u32]) 
 fn nfc_front(text: &[u32], words: &[u32], answer: &mut [u32], work: &mut [u32]) -> FormAnswer
     ensures { λ r. ⌜ Stands nfc (now (text .entry)) (now (words .entry)) (now (answer .entry)) (now (answer .exit)) (length (now (work .entry))) r ⌝ }
 {
-    let found = table::laid::layout(words);
+    let found = layout::layout(words);
     let Layout::Found(ix) = found else {
         return FormAnswer::LayoutFault;
     };

@@ -16,8 +16,9 @@ use Rattle.answers.specs.Values.{numberOf, placeOf}
 use Rattle.answers.specs.declared.Kind.{Kind}
 use Rattle.answers.specs.declared.Refusal.{Refusal}
 use Rattle.table.specs.Table.{Table}
-use Rattle.table.specs.Laid.{Laid, theTable}
-use Rattle.table.specs.declared.Sections.{Sections}
+use Rattle.sections.specs.Laid.{Laid}
+use Rattle.table.specs.Layout.{theTable}
+use Rattle.sections.specs.declared.Sections.{Sections}
 use Rattle.text.specs.Scalar.{isScalar}
 use Rattle.name.specs.declared.one.Judgement.{Judgement}
 use Rattle.name.specs.declared.one.Judgement.the-variants as judgement

@@ -16,10 +16,10 @@ use Rattle.answers.specs.declared.Refusal.{Refusal}
 use Rattle.answers.specs.declared.Refusal.the-variants.{LayoutFault, WorkAreaTooSmall, InputTooLong, NotScalar, Disallowed, NoTokens, WorkedTooLong, LowLine, Hyphens, Fenced, LeadingMark, NoGroup, NsmRun, Confusable, Restricted, BufferTooSmall}
 use Rattle.ending.specs.Ends.{Told}
 use Rattle.lists.specs.Lists.{isSome}
-use Rattle.table.specs.declared.Layout.{Layout}
-use Rattle.table.specs.declared.Layout.the-variants.{Fault, Found}
-use Rattle.table.specs.Layout.{parse}
-use Rattle.table.specs.Laid.{theTable, sectionsOf, layoutOf}
+use Rattle.sections.specs.declared.Layout.{Layout}
+use Rattle.sections.specs.declared.Layout.the-variants.{Fault, Found}
+use Rattle.table.specs.Layout.{parse, theTable}
+use Rattle.sections.specs.Laid.{sectionsOf, layoutOf}
 use Rattle.name.specs.Label.{Label}
 use Rattle.name.specs.Name.{labelsOf, nameAnswering, nameBefore15}
 use Rattle.name.specs.Calls.{NameJudged}

@@ -14,8 +14,7 @@ use Rattle.limits.specs.Limits.{mostInput, mostWorked, leastWork}
 use Rattle.answers.specs.Verdict.{accepted, refused, next}
 use Rattle.ending.specs.Numbers.{next-accepted}
 use Rattle.table.specs.Table.{Table}
-use Rattle.table.specs.Layout.{parse}
-use Rattle.table.specs.Laid.{theTable}
+use Rattle.table.specs.Layout.{parse, theTable}
 use Rattle.text.specs.Scalar.{isScalar}
 use Rattle.tokens.specs.Scan.{steps, firstDisallowed}
 use Rattle.tokens.specs.Tokens.{Token, tokensOf, worked, normal}

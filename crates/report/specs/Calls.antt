@@ -10,8 +10,7 @@ use Rattle.lists.specs.Filled.{filled}
 use Rattle.lists.specs.Laws.{Every}
 use Rattle.limits.specs.Limits.{mostInput, leastWork}
 use Rattle.answers.specs.Verdict.{Verdict, accepted, refused, next}
-use Rattle.table.specs.Layout.{parse}
-use Rattle.table.specs.Laid.{theTable}
+use Rattle.table.specs.Layout.{parse, theTable}
 use Rattle.name.specs.Name.{labelsOf, nameBefore15}
 use Rattle.byte_sink.specs.declared.Sink.{Sink}
 use Rattle.token_walk.specs.Walk.{Walkable}

@@ -1,17 +1,18 @@
 // The lines of an accepted name, label by label and token by token.
 use byte_sink::Sink;
+use layout::layout;
 use name::part::label_end;
 use report_lines::put_line;
-use table::Layout;
-use table::Sections;
-use table::laid::layout;
+use sections::Layout;
+use sections::Sections;
 use text::compose::PAIR_WORDS;
 use token_walk::next_token;
 ghost use Prim.Native.Nat.{_≤_};
 ghost use lib.ListN.{length};
 ghost use Rattle.lists.specs.Laws.{Every};
 ghost use Rattle.limits.specs.Limits.{mostInput, leastWork};
-ghost use Rattle.table.specs.Laid.{Laid, theTable};
+ghost use Rattle.sections.specs.Laid.{Laid};
+ghost use Rattle.table.specs.Layout.{theTable};
 ghost use Rattle.text.specs.Unpaired.{Unpaired};
 ghost use Rattle.name.specs.Name.{labelsOf};
 ghost use Rattle.byte_sink.specs.Sinks.{Adds};

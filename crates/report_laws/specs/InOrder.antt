@@ -9,7 +9,7 @@ use Rattle.lists.specs.Lists.{joinedMap}
 use Rattle.lists.specs.Laws.{Every, joined-append}
 use Rattle.answers.specs.Verdict.{accepted}
 use Rattle.table.specs.Table.{Table}
-use Rattle.table.specs.Laid.{theTable}
+use Rattle.table.specs.Layout.{theTable}
 use Rattle.places.specs.Places.{Placed, placed}
 use Rattle.places.specs.Laws.{Covers}
 use Rattle.places.specs.Parts.{placed-covers}

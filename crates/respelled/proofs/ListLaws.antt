@@ -20,9 +20,8 @@ use Rattle.answers.specs.declared.LabelAnswer.the-variants as answered
 use Rattle.ending.specs.Ends.{Told, Judged}
 use Rattle.ending.specs.Finish.{Finishes}
 use Rattle.table.specs.Table.{Table, Group}
-use Rattle.table.specs.Layout.{mostGroups}
-use Rattle.table.specs.Laid.{theTable}
-use Rattle.table.specs.declared.Sections.{Sections}
+use Rattle.table.specs.Layout.{mostGroups, theTable}
+use Rattle.sections.specs.declared.Sections.{Sections}
 use Rattle.table.proofs.Lookups.{drop-next}
 use Rattle.tokens.specs.Scan.{steps, firstDisallowed}
 use Rattle.tokens.specs.Tokens.{Token, tokensOf, worked, normal, joinedTokens, joinedText}

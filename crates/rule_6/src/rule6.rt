@@ -1,10 +1,10 @@
 // Rule 6, on the heads of decompositions and on classes.
 use bit_sets::has;
+use sections::Sections;
 use sound_choices::choices::find_first;
 use sound_rounds::rounds::choose_rounds;
 use sound_rounds::rounds::reach;
 use table::Items;
-use table::Sections;
 use table::Span;
 use table::lookup::counted;
 use table::lookup::head_in;
@@ -18,7 +18,9 @@ ghost use Prim.Native.Nat.{_+_, _<_};
 ghost use lib.ListN.{length, drop};
 ghost use lib.Dec.{leb};
 ghost use Rattle.lists.specs.Lists.{all, mem};
-ghost use Rattle.table.specs.Laid.{Laid, Fits, within, theTable};
+ghost use Rattle.sections.specs.Laid.{Laid};
+ghost use Rattle.table.specs.Spans.{Fits, within};
+ghost use Rattle.table.specs.Layout.{theTable};
 ghost use Rattle.text.specs.Hangul.{isSyllable};
 ghost use Rattle.soundness.specs.Scalars.{rule1};
 ghost use Rattle.soundness.specs.Pairs.{decomposesFully, heads, plainHead, rule6};

@@ -1,11 +1,12 @@
 // Rule 1: every codepoint named is a Unicode scalar value.
-use table::Sections;
+use sections::Sections;
 use table::Span;
 use table::lookup::counted;
 ghost use mathlib.Core.Path.{_≡_};
 ghost use Rattle.lists.specs.Lists.{all};
-ghost use Rattle.table.specs.Layout.{sequences, groups, wholes};
-ghost use Rattle.table.specs.Laid.{Laid, Fits, within, theTable};
+ghost use Rattle.table.specs.Layout.{sequences, groups, wholes, theTable};
+ghost use Rattle.sections.specs.Laid.{Laid};
+ghost use Rattle.table.specs.Spans.{Fits, within};
 ghost use Rattle.text.specs.Scalar.{isScalar};
 ghost use Rattle.soundness.specs.Scalars.{scalarsBetween, scalarHeaded, rule1};
 ghost use Rattle.table.specs.Part.{recordsIn};

@@ -11,13 +11,14 @@ use lib.Dec.{eqb}
 use borrow.Author.Tests.{eq-eqb, ne-eqb, eqb-true}
 use Rattle.lists.specs.Lists.{firstWith, keep, mem, sameList}
 use Rattle.table.specs.Table.{Table, Headed}
-use Rattle.table.specs.Layout.{mostParts, mostWords}
-use Rattle.table.specs.Laid.{Laid, theTable, within}
+use Rattle.table.specs.Layout.{mostParts, mostWords, theTable}
+use Rattle.sections.specs.Laid.{Laid}
+use Rattle.table.specs.Spans.{within}
 use Rattle.table.specs.Part.{HeadedAt, HeadedHere}
 use Rattle.table.proofs.Lookups.{drop-two}
 use Rattle.table.proofs.Records.{records-start, headed-step, headed-end}
-use Rattle.table.proofs.SectionLaws.{laid-reads, laid-small}
-use Rattle.table.specs.declared.Sections.{Sections}
+use Rattle.sections.proofs.SectionLaws.{laid-reads, laid-small}
+use Rattle.sections.specs.declared.Sections.{Sections}
 use Rattle.bit_sets.specs.Sets.{has, Put}
 use Rattle.bit_sets.proofs.PutLaws.{empty-has}
 use Rattle.text.specs.declared.compose.Composed.the-variants.{To, Nothing}

@@ -15,7 +15,7 @@ use Rattle.table.specs.declared.Items.the-variants as items
 use Rattle.table.specs.Table.{Table}
 use Rattle.table.specs.Layout.{mostParts}
 use Rattle.table.specs.Lookup.{itemsOf}
-use Rattle.table.specs.Laid.{within}
+use Rattle.table.specs.Spans.{within}
 use Rattle.table.specs.Part.{ItemsFound}
 use Rattle.text.specs.declared.decompose.Replacement.{Replacement}
 use Rattle.text.specs.declared.decompose.Replacement.the-variants.{Itself, Jamo}

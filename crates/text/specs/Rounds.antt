@@ -5,7 +5,7 @@ use mathlib.Core.List.{List, [], _∷_}
 use lib.ListN.{length, take}
 use lib.Seq.{sets}
 use Rattle.table.specs.Table.{Table}
-use Rattle.table.specs.Laid.{within, Fits}
+use Rattle.table.specs.Spans.{within, Fits}
 use Rattle.text.specs.declared.decompose.Parts.{Parts}
 use Rattle.text.specs.declared.decompose.Replacement.{Replacement}
 use Rattle.text.specs.declared.decompose.Replacement.the-variants.{Itself, Items, Jamo}

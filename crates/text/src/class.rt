@@ -1,7 +1,8 @@
 // Combining classes.
 use crate::hangul;
-use table::Sections;
-ghost use Rattle.table.specs.Laid.{Laid, theTable};
+use sections::Sections;
+ghost use Rattle.sections.specs.Laid.{Laid};
+ghost use Rattle.table.specs.Layout.{theTable};
 ghost use Rattle.text.specs.Work.{ClassOf};
 
 // The combining class of c: 0 for syllables and jamo, before any entry of the table.
@@ -15,5 +16,5 @@ pub fn class_of(words: &[u32], ix: Sections, c: u32) -> u32
     if hangul::is_jamo(c) {
         return 0;
     }
-    table::lookup::class_entry(words, ix, c)
+    sections::lookup::class_entry(words, ix, c)
 }

@@ -4,7 +4,7 @@ use crate::class;
 use crate::hangul;
 use bit_sets::has;
 use bit_sets::put;
-use table::Sections;
+use sections::Sections;
 
 // The words of that set: 131,072 words hold at most 43,690 records.
 pub const PAIR_WORDS: usize = 1366;
@@ -14,7 +14,9 @@ ghost use mathlib.Core.Bool.{cond};
 ghost use mathlib.Core.Option.{none};
 ghost use Prim.Native.Nat.{_≤_, _<_, _+_};
 ghost use lib.ListN.{length, getD};
-ghost use Rattle.table.specs.Laid.{Laid, theTable, within};
+ghost use Rattle.sections.specs.Laid.{Laid};
+ghost use Rattle.table.specs.Layout.{theTable};
+ghost use Rattle.table.specs.Spans.{within};
 ghost use Rattle.text.specs.Hangul.{hangulPair};
 ghost use Rattle.text.specs.Composition.{isPair, pair, tablePair};
 ghost use Rattle.text.specs.Work.{composedTo, free, leading, Ready, ComposedInto, mayCompose, headedAt, pairAt};
@@ -44,7 +46,7 @@ fn may_compose(words: &[u32], ix: Sections, head: u32, a: u32) -> bool
     requires { ⌜ Laid (now words) ix ⌝ }
     ensures { λ r. ⌜ r ≡ mayCompose (theTable (now (words .entry))) head a ⌝ }
 {
-    if table::lookup::is_excluded(words, ix, head) {
+    if sections::lookup::is_excluded(words, ix, head) {
         return false;
     }
     if class::class_of(words, ix, head) != 0 {

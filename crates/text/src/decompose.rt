@@ -1,14 +1,15 @@
 // Single replacement, and rounds of it into a lent slice.
 use crate::hangul;
+use sections::Sections;
 use table::Items;
-use table::Sections;
 use table::Span;
 ghost use Prim.Native.Nat.{_≤_, _<_, _+_, _^_};
 ghost use mathlib.Core.Path.{_≡_};
 ghost use mathlib.Core.List.{[], _∷_};
 ghost use lib.ListN.{length, getD, take};
 ghost use Rattle.lists.specs.Lists.{sameList};
-ghost use Rattle.table.specs.Laid.{Laid, theTable};
+ghost use Rattle.sections.specs.Laid.{Laid};
+ghost use Rattle.table.specs.Layout.{theTable};
 ghost use Rattle.text.specs.Hangul.{syllableCount, jamoOf};
 ghost use Rattle.text.specs.Decomposition.{single};
 ghost use Rattle.text.specs.Rounds.{mostFrom, itemsBy, ByFits, ReplacedBy, PartsAre, Expanded, Appended, Decomposed};
@@ -35,7 +36,7 @@ pub fn single(words: &[u32], ix: Sections, c: u32) -> Replacement
     if hangul::is_syllable(c) {
         return Replacement::Jamo(c - 0xAC00);
     }
-    match table::lookup::decomposition_items(words, ix, c) {
+    match sections::lookup::decomposition_items(words, ix, c) {
         Items::At(s) => Replacement::Items(s),
         Items::Nothing => Replacement::Itself,
     }

@@ -2,11 +2,12 @@
 use crate::class;
 use crate::compose;
 use crate::order;
-use table::Sections;
+use sections::Sections;
 ghost use mathlib.Core.Path.{_≡_};
 ghost use mathlib.Core.List.{map};
 ghost use lib.ListN.{length};
-ghost use Rattle.table.specs.Laid.{Laid, theTable};
+ghost use Rattle.sections.specs.Laid.{Laid};
+ghost use Rattle.table.specs.Layout.{theTable};
 ghost use Rattle.text.specs.Decomposition.{classOf};
 ghost use Rattle.text.specs.Ordering.{order};
 ghost use Rattle.text.specs.Work.{ComposedInto};

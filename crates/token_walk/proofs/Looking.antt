@@ -8,7 +8,7 @@ use lib.ListN.{length, getD, drop, length-drop}
 use lib.Seq.{length-take-le}
 use Rattle.table.specs.declared.Span.{Span}
 use Rattle.table.specs.Table.{Table}
-use Rattle.table.specs.Laid.{within}
+use Rattle.table.specs.Spans.{within}
 use Rattle.tokens.specs.declared.single.Single.{Single}
 use Rattle.tokens.specs.declared.single.Single.the-variants as single
 use Rattle.finder.specs.declared.emoji.Match.{Match}

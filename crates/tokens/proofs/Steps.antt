@@ -11,7 +11,7 @@ use lib.Seq.{drop-drop, take-all}
 use Rattle.table.specs.declared.Span.{Span}
 use Rattle.table.specs.Table.{Table}
 use Rattle.table.specs.Lookup.{inRanges, itemsOf}
-use Rattle.table.specs.Laid.{within}
+use Rattle.table.specs.Spans.{within}
 use Rattle.tokens.specs.declared.cells.Run.{Run}
 use Rattle.finder.specs.declared.emoji.Match as match
 use Rattle.finder.specs.declared.emoji.Match.{Match}

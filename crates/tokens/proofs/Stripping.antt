@@ -13,7 +13,7 @@ use Rattle.lists.specs.Lists.{keep}
 use Rattle.limits.specs.Limits.{mostWorked, leastWork}
 use Rattle.table.specs.declared.Span.{Span}
 use Rattle.table.specs.Layout.{mostItems}
-use Rattle.table.specs.Laid.{within}
+use Rattle.table.specs.Spans.{within}
 use Rattle.tokens.specs.declared.cells.Run.{Run}
 use Rattle.finder.specs.Emoji.{selector, strip}
 use Rattle.finder.specs.Match.{SequenceFits}

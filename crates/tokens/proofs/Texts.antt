@@ -9,7 +9,7 @@ use lib.Seq.{take-suc, getD-drop}
 use Rattle.limits.specs.Limits.{mostWorked, leastWork}
 use Rattle.table.specs.declared.Span.{Span}
 use Rattle.table.specs.Table.{Table}
-use Rattle.table.specs.Laid.{within}
+use Rattle.table.specs.Spans.{within}
 use Rattle.text.specs.Decomposition.{fourRounds}
 use Rattle.text.specs.Rounds.{Decomposed}
 use Rattle.tokens.specs.declared.cells.Run.{Run}

@@ -8,7 +8,7 @@ use Rattle.lists.specs.Lists.{any, joinedMap, isEmpty}
 use Rattle.limits.specs.Limits.{mostWorked}
 use Rattle.table.specs.Table.{Table}
 use Rattle.table.specs.declared.Span.{Span}
-use Rattle.table.specs.Laid.{within}
+use Rattle.table.specs.Spans.{within}
 use Rattle.text.specs.Decomposition.{fourRounds}
 use Rattle.text.specs.Rounds.{placed}
 use Rattle.tokens.specs.declared.cells.Run.{Run}

@@ -1,7 +1,7 @@
 // Laying tokens down in the work area: codepoints in its first MOST_WORKED words, marks beside them in the next MOST_WORKED. Each codepoint is
 // written to its place at once: what is copied stays on the stack.
 use limits::MOST_WORKED;
-use table::Sections;
+use sections::Sections;
 use table::Span;
 use text::decompose::append_decomposed;
 use text::decompose::put;
@@ -9,8 +9,9 @@ ghost use Prim.Native.Nat.{_≤_, _-_};
 ghost use mathlib.Core.Path.{_≡_};
 ghost use lib.ListN.{length};
 ghost use Rattle.limits.specs.Limits.{mostWorked, leastWork};
-ghost use Rattle.table.specs.Layout.{mostItems};
-ghost use Rattle.table.specs.Laid.{Laid, theTable, within};
+ghost use Rattle.table.specs.Layout.{mostItems, theTable};
+ghost use Rattle.sections.specs.Laid.{Laid};
+ghost use Rattle.table.specs.Spans.{within};
 ghost use Rattle.text.specs.Rounds.{Appended};
 ghost use Rattle.finder.specs.Emoji.{strip};
 ghost use Rattle.finder.specs.Match.{SequenceFits};

@@ -1,12 +1,13 @@
 // The tokens in the work area, decomposed, are put into normal form: each text is ordered and composed, and what follows moves down.
 use limits::MOST_WORKED;
-use table::Sections;
+use sections::Sections;
 use text::nfc::ordered_composed;
 ghost use Prim.Native.Nat.{_≤_, _<_, _+_};
 ghost use mathlib.Core.Path.{_≡_};
 ghost use lib.ListN.{length, take, drop};
 ghost use Rattle.limits.specs.Limits.{mostWorked, leastWork};
-ghost use Rattle.table.specs.Laid.{Laid, theTable};
+ghost use Rattle.sections.specs.Laid.{Laid};
+ghost use Rattle.table.specs.Layout.{theTable};
 ghost use Rattle.text.specs.Unpaired.{Unpaired};
 ghost use Rattle.tokens.specs.Normal.{MovedDown, TextKept, EmojiKept, twos, NormalCells};
 

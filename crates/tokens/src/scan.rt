@@ -7,11 +7,12 @@ use crate::single::Single;
 use crate::single::alone;
 use finder::emoji::Match;
 use finder::emoji::find;
-use table::Sections;
+use sections::Sections;
 ghost use Prim.Native.Nat.{_≤_};
 ghost use lib.ListN.{length};
 ghost use Rattle.limits.specs.Limits.{mostInput, leastWork};
-ghost use Rattle.table.specs.Laid.{Laid, theTable};
+ghost use Rattle.sections.specs.Laid.{Laid};
+ghost use Rattle.table.specs.Layout.{theTable};
 ghost use Rattle.tokens.specs.Scan.{codepointStep};
 ghost use Rattle.tokens.specs.Scanning.{StepPut, firstStep, Scans};
 

@@ -5,7 +5,7 @@ use mathlib.Core.Path.{refl}
 use lib.ListN.{length}
 use borrow.Author.Needs.{needs}
 use Rattle.limits.specs.Limits.{mostWorked}
-use Rattle.table.specs.Laid.{theTable}
+use Rattle.table.specs.Layout.{theTable}
 use Rattle.text.proofs.Rounds.{Expanding, expand-start}
 use Rattle.normal_forms.proofs.Loops.{reads-more, reads-all, reads-over}
 use Rattle.normal_forms.proofs.decompose_into.Statement.{statement}

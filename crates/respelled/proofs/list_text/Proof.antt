@@ -1,7 +1,7 @@
 -- `list_text`: the groups whose flags the look-alike test left, or none. Assumes nothing.
 use mathlib.Core.Path.{refl}
 use borrow.Author.Tests.{not-true, not-false}
-use Rattle.table.proofs.SectionLaws.{laid-reads}
+use Rattle.sections.proofs.SectionLaws.{laid-reads}
 use Rattle.lookalike.proofs.MemoLaws.{memo-new}
 use Rattle.lookalike.proofs.RespellingLaws.{respelt-size}
 use borrow.Author.Needs.{needs}

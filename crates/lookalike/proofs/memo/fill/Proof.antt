@@ -1,8 +1,8 @@
 -- `lookalike::memo::fill` meets its contract: the components stand behind the key. Assumes nothing.
 use native.Mathlib.Omega.{arith}
 use lib.ListN.{length-take, length-drop}
-use Rattle.table.proofs.SectionLaws.{laid-fits, laid-small}
-use Rattle.table.proofs.GroupWalks.{laid-part, laid-same}
+use Rattle.sections.proofs.SectionLaws.{laid-fits, laid-small}
+use Rattle.sections.proofs.LaidParts.{laid-part, laid-same}
 use Rattle.lookalike.proofs.MemoLaws.{filled-from}
 use borrow.Author.Needs.{needs}
 use Rattle.lookalike.proofs.memo.fill.Statement.{statement}

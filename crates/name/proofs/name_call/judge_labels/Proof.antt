@@ -4,7 +4,7 @@ use native.Mathlib.Omega.{arith}
 use mathlib.Core.Path.{sym, _∙_}
 use mathlib.Core.Logic.{⊎-elim}
 use lib.ListN.{length}
-use Rattle.table.specs.Laid.{theTable}
+use Rattle.table.specs.Layout.{theTable}
 use Rattle.text.specs.Unpaired.{Unpaired}
 use Rattle.text.proofs.Pairs.{unpaired-none}
 use Rattle.lookalike.specs.Memo.{Memo}

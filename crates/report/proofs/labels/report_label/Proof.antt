@@ -5,7 +5,7 @@ use mathlib.Core.Path.{_≡_, refl, sym, _∙_}
 use lib.ListN.{length}
 use lib.Seq.{length-take-le}
 use borrow.Author.Needs.{needs}
-use Rattle.table.specs.Laid.{theTable}
+use Rattle.table.specs.Layout.{theTable}
 use Rattle.text.specs.Unpaired.{Unpaired}
 use Rattle.report.proofs.Reporting.{Reporting, reporting-start, reporting-walks, reporting-short, reporting-place, reporting-more, reporting-end}
 use Rattle.report.proofs.labels.report_label.Statement.{statement}

@@ -4,7 +4,7 @@ use native.Mathlib.Omega.{arith}
 use mathlib.Core.Path.{_≡_, refl, sym, _∙_}
 use lib.ListN.{length}
 use borrow.Author.Needs.{needs}
-use Rattle.table.specs.Laid.{theTable}
+use Rattle.table.specs.Layout.{theTable}
 use Rattle.text.specs.Unpaired.{Unpaired}
 use Rattle.text.proofs.Pairs.{unpaired-none}
 use Rattle.name.proofs.Parting.{label-length}

@@ -4,7 +4,7 @@ use mathlib.Core.Path.{sym, ap, _∙_}
 use native.Mathlib.Omega.{arith}
 use borrow.Author.Needs.{needs}
 use lib.ListN.{length}
-use Rattle.table.specs.Laid.{theTable}
+use Rattle.table.specs.Layout.{theTable}
 use Rattle.text.specs.Work.{composedTo}
 use Rattle.text.specs.Unpaired.{Unpaired}
 use Rattle.text.proofs.Composing.{Composing, composing-start, taken, next-starter, mark-stays, composing-stop}

@@ -1,6 +1,6 @@
 -- `compose::may_compose` meets its contract. Assumes nothing.
 use denote.Ref.{now}
-use Rattle.table.specs.Laid.{theTable}
+use Rattle.table.specs.Layout.{theTable}
 use Rattle.text.proofs.Pairs.{may-excluded, may-head, may-first}
 use borrow.Author.Needs.{needs}
 use Rattle.text.proofs.compose.may_compose.Statement.{statement}

@@ -4,7 +4,7 @@ use mathlib.Core.Path.{sym, _∙_}
 use native.Mathlib.Omega.{arith}
 use lib.ListN.{length}
 use borrow.Author.Needs.{needs}
-use Rattle.table.specs.Laid.{theTable}
+use Rattle.table.specs.Layout.{theTable}
 use Rattle.text.proofs.Pairs.{PairWalk, pair-start, pair-fits, pair-number, pair-numbered, pair-hit, pair-on, pair-stop}
 use Rattle.text.proofs.compose.pair_in.Statement.{statement}
 use Rattle.text.proofs.compose.pair_in.Tie as tie

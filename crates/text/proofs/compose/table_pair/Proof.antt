@@ -1,6 +1,6 @@
 -- `compose::table_pair` meets its contract: the section lies within the words. Assumes nothing.
 use native.Mathlib.Omega.{arith}
-use Rattle.table.proofs.SectionLaws.{laid-fits}
+use Rattle.sections.proofs.SectionLaws.{laid-fits}
 use borrow.Author.Needs.{needs}
 use Rattle.text.proofs.compose.table_pair.Statement.{statement}
 use Rattle.text.proofs.compose.table_pair.Tie as tie

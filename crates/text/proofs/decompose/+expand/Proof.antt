@@ -3,7 +3,7 @@
 use native.Mathlib.Omega.{arith}
 use borrow.Author.Needs.{needs}
 use denote.Ref.{now}
-use Rattle.table.specs.Laid.{theTable}
+use Rattle.table.specs.Layout.{theTable}
 use Rattle.text.specs.Rounds.{itemsBy}
 use Rattle.text.proofs.Rounds.{Expanding, expand-start, expand-next, expanded-more, expanded-none, expanded-same, most-fits, most-pos}
 use Rattle.text.proofs.Replacing.{by-none, by-all}

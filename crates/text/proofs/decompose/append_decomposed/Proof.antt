@@ -1,6 +1,6 @@
 -- `decompose::append_decomposed` meets its contract. Assumes nothing.
 use denote.Ref.{now}
-use Rattle.table.specs.Laid.{theTable}
+use Rattle.table.specs.Layout.{theTable}
 use Rattle.text.specs.Rounds.{mostFrom}
 use Rattle.text.proofs.Rounds.{expanded-four}
 use borrow.Author.Needs.{needs}

@@ -1,5 +1,5 @@
 -- `nfc::ordered_composed` meets its contract: what the ordering leaves is ready for composition. Assumes nothing.
-use Rattle.table.specs.Laid.{theTable}
+use Rattle.table.specs.Layout.{theTable}
 use Rattle.text.proofs.Texts.{ready, ordered}
 use borrow.Author.Needs.{needs}
 use Rattle.text.proofs.nfc.ordered_composed.Statement.{statement}

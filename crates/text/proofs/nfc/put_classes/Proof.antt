@@ -4,7 +4,7 @@ use mathlib.Core.Path.{refl, sym, _∙_}
 use native.Mathlib.Omega.{arith}
 use denote.Ref.{now}
 use lib.ListN.{length}
-use Rattle.table.specs.Laid.{theTable}
+use Rattle.table.specs.Layout.{theTable}
 use Rattle.text.proofs.Texts.{Beside, beside-more, beside-all}
 use Rattle.text.proofs.nfc.put_classes.Statement.{statement}
 use Rattle.text.proofs.nfc.put_classes.Tie as tie

@@ -1,7 +1,7 @@
 -- `tokens::cells::put_items` meets its contract: the loop keeps the items that are laid down. Assumes nothing.
 use Prim.Native.Nat.{_-_}
 use borrow.Author.Needs.{needs}
-use Rattle.table.specs.Laid.{theTable}
+use Rattle.table.specs.Layout.{theTable}
 use Rattle.tokens.proofs.Texts.{Itemed, items-start, items-more, items-stop}
 use Rattle.tokens.proofs.cells.put_items.Statement.{statement}
 use Rattle.tokens.proofs.cells.put_items.Tie as tie

@@ -3,7 +3,7 @@ use Prim.Native.Nat.{_-_}
 use native.Mathlib.Omega.{arith}
 use mathlib.Core.Path.{sym, _∙_}
 use borrow.Author.Needs.{needs}
-use Rattle.table.specs.Laid.{theTable}
+use Rattle.table.specs.Layout.{theTable}
 use Rattle.text.specs.Unpaired.{Unpaired}
 use Rattle.tokens.proofs.Compacting.{Compacting, compact-start, compact-emoji, end-inside, end-behind, compact-text, compact-stop}
 use Rattle.tokens.proofs.normal.normalise.Statement.{statement}

@@ -4,7 +4,7 @@ use native.Mathlib.Omega.{arith}
 use mathlib.Core.Path.{_∙_}
 use lib.ListN.{length}
 use borrow.Author.Needs.{needs}
-use Rattle.table.specs.Laid.{theTable}
+use Rattle.table.specs.Layout.{theTable}
 use Rattle.tokens.proofs.Steps.{Scanning, scan-start, scan-left, scan-taken, scan-more, scan-disallowed, scan-stop}
 use Rattle.tokens.proofs.scan.scan.Tie as tie
 use Rattle.tokens.proofs.scan.scan.Statement.{statement}
