@@ -61,7 +61,7 @@ fn named_form(
 ) -> Filing
     ensures { λ r. ⌜ Formed (formFor setting (now (words .entry)) (now (name .entry)) (length (now (answer .entry))) (length (now (work .entry)))) (now (answer .entry)) (now (answer .exit)) (now (work .entry)) (now (work .exit)) r ⌝ }
 {
-    let named = name::name_call::name(name, words, setting, answer, work);
+    let named = name_call::name(name, words, setting, answer, work);
     match named {
         NameAnswer::Accepted { length, labels: _ } => file_form(answer, length),
         NameAnswer::Refused(f) => Filing::Refused(BookAnswer::Refused(f)),

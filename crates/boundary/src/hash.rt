@@ -1,12 +1,12 @@
 // Keccak-256 and the name hash (02, Item 10): the sponge, its state by value, the digest of a slice, and the hash of a name.
+use hash_crossing::WanlophengNamehash;
+use hash_crossing::cross_namehash;
 use keccak::sponge::Digest;
 use keccak::sponge::Keccak256;
-use name_crossing::WanlophengNamehash;
-use name_crossing::cross_namehash;
 ghost use mathlib.Core.Path.{_≡_};
 ghost use Rattle.keccak.specs.Sponge.{keccak256};
 ghost use Rattle.keccak.specs.State.{fresh, absorbed, digested};
-ghost use Rattle.name_crossing.specs.NameCrossing.{NamehashCrosses};
+ghost use Rattle.hash_crossing.specs.HashCrossing.{NamehashCrosses};
 
 // A sponge that has taken nothing.
 #[no_mangle]

@@ -1,10 +1,10 @@
 // The UTF-8 reader and writer, and the byte form of the name call (02, Item 2), for C and Rust.
+use bytes_crossing::cross_name_bytes;
 use call_fields::WanlophengUtf8;
 use call_fields::read_fields;
 use call_fields::write_fields;
 use fields::WanlophengName;
-use name_crossing::cross_name_bytes;
-ghost use Rattle.name_crossing.specs.NameCrossing.{NameBytesCrosses};
+ghost use Rattle.bytes_crossing.specs.BytesCrossing.{NameBytesCrosses};
 ghost use Rattle.boundary.specs.Utf8Crossing.{ReadCrosses, WriteCrosses};
 
 // Reads bytes into codepoints.

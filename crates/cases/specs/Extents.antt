@@ -13,9 +13,9 @@ use Rattle.answers.specs.declared.Kind.{Kind}
 use Rattle.answers.specs.declared.Kind.the-variants.{Group}
 use Rattle.table.specs.Table as table
 use Rattle.table.specs.Table.{Table, Whole}
-use Rattle.table.specs.Laid.{theTable}
+use Rattle.table.specs.Layout.{theTable}
 use Rattle.table.specs.Lookup.{holds, wholeOf}
-use Rattle.lookalike.specs.Confusable.{isConfused, members, shareGroup, extent, confusable}
+use Rattle.confusable.specs.Confusable.{isConfused, members, shareGroup, extent, confusable}
 use Rattle.name.specs.Name.{nameCall, nameVerdict}
 use Rattle.soundness.specs.Soundness.{soundnessOf}
 use Rattle.cases.specs.SmallTable.{section}

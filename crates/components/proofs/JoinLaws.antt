@@ -17,9 +17,9 @@ use Rattle.table.specs.Table.{Group}
 use Rattle.table.specs.Layout.{mostGroups}
 use Rattle.table.specs.Lookup.{holds}
 use Rattle.sorting.specs.Order.{inOrder, Gathered}
-use Rattle.components.specs.Components.{nth, Linked, Components}
-use Rattle.components.specs.Batch.{batch, Numbers, Founded, Marks, Held, Shared, marked, Takes, Swept, JoinsMore, Least}
-use Rattle.components.proofs.NumberLaws.{kept-same, founded-same, kept-on, founded-on, founded-by}
+use Rattle.group_numbers.specs.Components.{nth, Linked, Components}
+use Rattle.group_numbers.specs.Batch.{batch, Numbers, Founded, Marks, Held, Shared, marked, Takes, Swept, JoinsMore, Least}
+use Rattle.group_numbers.proofs.NumberLaws.{kept-same, founded-same, kept-on, founded-on, founded-by}
 
 -- no marks at first
 zero-at : (n i : ℕ) → _≡_ {A = ℕ} (getD (replicate n 0) i 0) 0

@@ -1,10 +1,10 @@
 // The components that the members of a whole make of the groups: groups that hold one member are joined. The members are put in order, BATCH at
 // a time, and a pair of a group is looked up among them by halves, so that the steps are in proportion to the members and, for each batch, to the
 // pairs, whatever the table.
-use crate::marks::BATCH;
-use crate::marks::sweep;
-use crate::marks::take_groups;
 use buffers::clear;
+use group_marks::take_groups;
+use group_numbers::BATCH;
+use mark_sweep::sweep;
 use sorting::gather;
 ghost use mathlib.Core.Path.{_≡_};
 ghost use mathlib.Core.Bool.{true, _||_};
@@ -14,11 +14,8 @@ ghost use Rattle.lists.specs.Lists.{mem};
 ghost use Rattle.table.specs.Layout.{mostGroups};
 ghost use Rattle.table.specs.GroupPart.{GroupsPart, groupsIn};
 ghost use Rattle.sorting.specs.Order.{inOrder};
-ghost use Rattle.components.specs.Components.{Components};
-ghost use Rattle.components.specs.Batch.{batch, Numbers, JoinsMore, Least};
-
-mod marks;
-mod numbers;
+ghost use Rattle.group_numbers.specs.Components.{Components};
+ghost use Rattle.group_numbers.specs.Batch.{batch, Numbers, JoinsMore, Least};
 
 // Joins the groups that hold one of the members, which are in order, at most BATCH.
 fn join_sorted(part: &[u32], k: &mut [u32], xs: &[u32])

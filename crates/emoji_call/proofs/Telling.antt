@@ -5,12 +5,12 @@ use mathlib.Core.Path.{_≡_, refl, sym, ap, _∙_}
 use mathlib.Core.List.{List}
 use mathlib.Core.Option.{Option, none, some}
 use Rattle.table.specs.Table.{Table}
-use Rattle.table.specs.Layout.{parse}
-use Rattle.table.specs.Laid.{layoutOf, theTable}
-use Rattle.table.specs.declared.Sections.{Sections}
+use Rattle.table.specs.Layout.{parse, theTable}
+use Rattle.sections.specs.Laid.{layoutOf}
+use Rattle.sections.specs.declared.Sections.{Sections}
 use Rattle.table.specs.declared.Span.{Span}
-use Rattle.table.specs.declared.Layout.the-variants.{Fault, Found}
-use Rattle.table.proofs.SectionLaws.{found-laid, laid-parse}
+use Rattle.sections.specs.declared.Layout.the-variants.{Fault, Found}
+use Rattle.sections.proofs.SectionLaws.{found-laid, laid-parse}
 use Rattle.finder.specs.declared.emoji.Match as match
 use Rattle.finder.specs.declared.emoji.Match.{Match}
 use Rattle.finder.specs.Emoji.{find}

@@ -1,7 +1,7 @@
 // Which emoji stands at the start of a part of a label, as a call of its own. specs/EmojiCall.antt states what it answers.
 use finder::emoji::Match;
 use finder::emoji::find;
-use table::Layout;
+use sections::Layout;
 ghost use mathlib.Core.Path.{_≡_};
 ghost use Rattle.emoji_call.specs.EmojiCall.{emojiValues, emojiCall};
 
@@ -20,7 +20,7 @@ pub enum EmojiAnswer {
 pub fn which_emoji(part: &[u32], words: &[u32]) -> EmojiAnswer
     ensures { λ r. ⌜ emojiValues r ≡ emojiCall (now (words .entry)) (now (part .entry)) ⌝ }
 {
-    let laid = table::laid::layout(words);
+    let laid = layout::layout(words);
     let Layout::Found(ix) = laid else {
         return EmojiAnswer::LayoutFault;
     };

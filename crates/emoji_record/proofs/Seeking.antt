@@ -5,10 +5,12 @@ use mathlib.Core.Path.{_≡_, refl, sym, ap, _∙_}
 use mathlib.Core.List.{List, [], _∷_}
 use lib.ListN.{length, getD}
 use Rattle.table.specs.declared.Span.{Span}
-use Rattle.table.specs.declared.Sections.{Sections}
-use Rattle.table.specs.Laid.{within, Fits, Laid, theTable}
+use Rattle.sections.specs.declared.Sections.{Sections}
+use Rattle.table.specs.Spans.{within, Fits}
+use Rattle.sections.specs.Laid.{Laid}
+use Rattle.table.specs.Layout.{theTable}
 use Rattle.table.specs.Part.{SequencesAt, SequenceHere, countedAt}
-use Rattle.table.proofs.SectionLaws.{laid-fits}
+use Rattle.sections.proofs.SectionLaws.{laid-fits}
 use Rattle.table.proofs.Lookups.{behind, within-within, behind-fits}
 use Rattle.table.proofs.Records.{sequences-step, sequences-end, records-start, sequence-items}
 use Rattle.finder.specs.Match.{SequenceFits, Sequences, sequencesOf}

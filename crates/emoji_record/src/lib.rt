@@ -1,10 +1,11 @@
 // The sequence of an emoji record, by the number that the finder named. specs/Record.antt states what is answered.
-use table::Sections;
+use sections::Sections;
 use table::Span;
 use table::lookup::counted;
 ghost use mathlib.Core.List.{[]};
 ghost use lib.ListN.{getD};
-ghost use Rattle.table.specs.Laid.{Laid, theTable};
+ghost use Rattle.sections.specs.Laid.{Laid};
+ghost use Rattle.table.specs.Layout.{theTable};
 ghost use Rattle.finder.specs.Match.{Sequences, sequencesOf};
 ghost use Rattle.emoji_record.specs.Record.{SequenceIs};
 

@@ -12,11 +12,12 @@ use lib.Dec.{eqb, ltb}
 use borrow.Author.Tests.{eqb-true, eqb-false, le-leb, lt-leb}
 use Rattle.lists.specs.Lists.{onSome}
 use Rattle.table.specs.declared.Span.{Span}
-use Rattle.table.specs.declared.Sections.{Sections}
-use Rattle.table.specs.Layout.{sequences}
-use Rattle.table.specs.Laid.{within, Fits, Laid, theTable}
+use Rattle.sections.specs.declared.Sections.{Sections}
+use Rattle.table.specs.Layout.{sequences, theTable}
+use Rattle.table.specs.Spans.{within, Fits}
+use Rattle.sections.specs.Laid.{Laid}
 use Rattle.table.specs.Part.{SequencesAt, SequenceHere, countedAt}
-use Rattle.table.proofs.SectionLaws.{laid-fits, laid-reads}
+use Rattle.sections.proofs.SectionLaws.{laid-fits, laid-reads}
 use Rattle.table.proofs.Lookups.{behind, within-within, behind-fits}
 use Rattle.table.proofs.Records.{sequences-step, sequences-end, records-start, sequence-items}
 use Rattle.finder.specs.declared.emoji.Taking as taking

@@ -8,7 +8,7 @@ use lib.ListN.{length}
 use lib.Dec.{eqb, ltb}
 use Rattle.table.specs.declared.Span.{Span}
 use Rattle.table.specs.Layout.{mostItems, sequences}
-use Rattle.table.specs.Laid.{within}
+use Rattle.table.specs.Spans.{within}
 use Rattle.finder.specs.declared.emoji.Taking as taking
 use Rattle.finder.specs.declared.emoji.Taking.{Taking}
 use Rattle.finder.specs.declared.emoji.Match as match

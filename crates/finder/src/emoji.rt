@@ -1,12 +1,13 @@
 // Finding an emoji sequence at the start of an input.
-use table::Sections;
+use sections::Sections;
 use table::Span;
 use table::lookup::counted;
 ghost use mathlib.Core.Path.{_≡_};
 ghost use mathlib.Core.Bool.{not};
 ghost use mathlib.Core.List.{[], _∷_};
 ghost use Rattle.lists.specs.Lists.{isSome};
-ghost use Rattle.table.specs.Laid.{Laid, theTable};
+ghost use Rattle.sections.specs.Laid.{Laid};
+ghost use Rattle.table.specs.Layout.{theTable};
 ghost use Rattle.finder.specs.Emoji.{takes, find};
 ghost use Rattle.finder.specs.Match.{takenOf, matchOf, betterOf, FoundBy, Sequences, sequencesOf};
 

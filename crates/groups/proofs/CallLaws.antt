@@ -8,11 +8,11 @@ use lib.ListN.{length}
 use borrow.Author.Tests.{lt-ltb, le-ltb}
 use Rattle.limits.specs.Limits.{mostInput}
 use Rattle.table.specs.Table.{Table}
-use Rattle.table.specs.Layout.{parse}
-use Rattle.table.specs.Laid.{Laid, layoutOf, theTable}
-use Rattle.table.specs.declared.Sections.{Sections}
-use Rattle.table.specs.declared.Layout.the-variants.{Fault}
-use Rattle.table.proofs.SectionLaws.{laid-parse}
+use Rattle.table.specs.Layout.{parse, theTable}
+use Rattle.sections.specs.Laid.{Laid, layoutOf}
+use Rattle.sections.specs.declared.Sections.{Sections}
+use Rattle.sections.specs.declared.Layout.the-variants.{Fault}
+use Rattle.sections.proofs.SectionLaws.{laid-parse}
 use Rattle.groups.specs.declared.GroupSearch.{GroupSearch}
 use Rattle.groups.specs.declared.GroupAnswer.the-variants.{Searched}
 use Rattle.groups.specs.Groups.{searchOf}

@@ -10,7 +10,7 @@ use Rattle.limits.specs.Limits.{mostInput}
 use Rattle.lists.specs.Lists.{all, total}
 use Rattle.table.specs.declared.GroupRecord.{GroupRecord}
 use Rattle.table.specs.Table.{Group}
-use Rattle.table.specs.Laid.{within}
+use Rattle.table.specs.Spans.{within}
 use Rattle.table.specs.Lookup.{holds}
 use Rattle.table.specs.Part.{inPairs}
 use Rattle.table.specs.GroupPart.{groupsIn, GroupsPart, groupAt}

@@ -1,16 +1,17 @@
 // Refusal 12: the first group that holds every character of a text, and how often the search for it asked.
 use answers::Refusal;
+use layout::layout;
 use limits::MOST_INPUT;
-use table::Layout;
-use table::Sections;
-use table::laid::layout;
+use sections::Layout;
+use sections::Sections;
 use table::lookup::group_at;
 use table::lookup::in_pairs_of;
 ghost use mathlib.Core.Path.{_≡_};
 ghost use Prim.Native.Nat.{_≤_};
 ghost use lib.ListN.{length};
 ghost use Rattle.limits.specs.Limits.{mostInput};
-ghost use Rattle.table.specs.Laid.{Laid, theTable};
+ghost use Rattle.sections.specs.Laid.{Laid};
+ghost use Rattle.table.specs.Layout.{theTable};
 ghost use Rattle.table.specs.GroupPart.{GroupsPart, groupsIn};
 ghost use Rattle.groups.specs.Groups.{searchOf};
 ghost use Rattle.groups.specs.Call.{groupValues, groupCall};

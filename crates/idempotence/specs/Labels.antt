@@ -4,8 +4,7 @@ use Prim.Native.Nat.{ℕ, suc, _+_, _≤_}
 use native.Mathlib.Omega.{arith}
 use mathlib.Core.Path.{_≡_, refl, sym, ap, _∙_}
 use mathlib.Core.Bool.{true, false, false≢true}
-use mathlib.Core.List.{List, [], _∷_, map}
-use mathlib.Core.List.{List·Memᴰ}
+use mathlib.Core.List.{List, [], _∷_, map, List·Memᴰ}
 use lib.ListN.{length, length-append}
 use lib.Dec.{eqb}
 use borrow.Author.Tests.{ne-eqb}
@@ -13,7 +12,7 @@ use Rattle.lists.specs.Lists.{isEmpty}
 use Rattle.lists.specs.Laws.{Every, every-append, every-imp, every-of-all, mem-of}
 use Rattle.answers.specs.Verdict.{accepted}
 use Rattle.table.specs.Table.{Table}
-use Rattle.text.specs.Scalar.{isScalar}
+use Rattle.scalar.specs.Scalar.{isScalar}
 use Rattle.tokens.specs.Scan.{steps}
 use Rattle.tokens.specs.Tokens.{Token, emoji, text, tokensOf, workedToken, worked, normalToken, normal, joinedTokens}
 use Rattle.name.specs.Label.{Label, stop, answer, labelVerdict}

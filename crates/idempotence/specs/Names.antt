@@ -14,7 +14,7 @@ use Rattle.lists.specs.Elements.{every-map, none-place}
 use Rattle.lists.specs.Splits.{split-joinWith, every-joinWith, joinWith-some}
 use Rattle.answers.specs.Verdict.{accepted}
 use Rattle.table.specs.Table.{Table}
-use Rattle.text.specs.Scalar.{isScalar}
+use Rattle.scalar.specs.Scalar.{isScalar}
 use Rattle.name.specs.Label.{Label, stop, answer, labelVerdict}
 use Rattle.name.specs.Name.{labelsOf, labelsVerdict, nameAnswer}
 use Rattle.idempotence.specs.Rules.{Sound, Valid}

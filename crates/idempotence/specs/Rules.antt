@@ -3,8 +3,7 @@ use Prim.Native.Nat.{ℕ, zero, suc, _+_, _-_, _≤_, _<_}
 use native.Mathlib.Omega.{arith}
 use mathlib.Core.Path.{_≡_, refl, sym}
 use mathlib.Core.Bool.{Bool, true, false, not, _&&_, _||_}
-use mathlib.Core.List.{List, [], _∷_, _++_, Memᴰ·append-left, List·Memᴰ·append-cases}
-use mathlib.Core.List.{List·Memᴰ, List·Memᴰ·head, List·Memᴰ·tail, List·Memᴰ·not-nil, List·Memᴰ·cases-cons}
+use mathlib.Core.List.{List, [], _∷_, _++_, Memᴰ·append-left, List·Memᴰ·append-cases, List·Memᴰ, List·Memᴰ·head, List·Memᴰ·tail, List·Memᴰ·not-nil, List·Memᴰ·cases-cons}
 use mathlib.Core.Logic.{⊎-elim}
 use mathlib.Core.Option.{Option, none, some, Option·map, Option·none-ne-some, Option·some-injective}
 use lib.Dec.{leb, ltb, eqb}
@@ -16,7 +15,7 @@ use Rattle.lists.specs.Elements.{place-none, joined-member}
 use Rattle.table.specs.Table.{Table, Range, ClassRange, Headed, Group, Whole}
 use Rattle.table.specs.Layout.{parse}
 use Rattle.table.specs.Lookup.{inRange, inRanges, itemsOf, holds}
-use Rattle.text.specs.Scalar.{isSurrogate, isScalar}
+use Rattle.scalar.specs.Scalar.{isSurrogate, isScalar}
 use Rattle.text.specs.Decomposition.{fourRounds}
 use Rattle.finder.specs.Emoji.{selector}
 use Rattle.soundness.specs.Scalars.{scalarsBetween, scalarRanges, scalarHeaded, rule1}

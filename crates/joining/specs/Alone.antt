@@ -13,7 +13,7 @@ use Rattle.lists.specs.Lists.{ontoFirst, placeWith, split}
 use Rattle.answers.specs.Verdict.{accepted}
 use Rattle.table.specs.Table.{Table}
 use Rattle.table.specs.Layout.{parse}
-use Rattle.text.specs.Scalar.{isScalar}
+use Rattle.scalar.specs.Scalar.{isScalar}
 use Rattle.limits.specs.Limits.{mostInput, leastWork}
 use Rattle.name.specs.Label.{Label, stop, answer, admitted, labelVerdict, oneLabel, labelCallVerdict, labelResult, labelCall}
 use Rattle.answers.specs.Restriction.{barred}

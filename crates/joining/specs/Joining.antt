@@ -16,7 +16,7 @@ use Rattle.answers.specs.Verdict.{Verdict, accepted, refused, next}
 use Rattle.answers.specs.declared.Kind.{Kind}
 use Rattle.table.specs.Table.{Table}
 use Rattle.table.specs.Layout.{parse}
-use Rattle.text.specs.Scalar.{isScalar}
+use Rattle.scalar.specs.Scalar.{isScalar}
 use Rattle.limits.specs.Limits.{mostInput, mostWorked, leastWork}
 use Rattle.lists.specs.Filled.{filled}
 use Rattle.ending.specs.Ending.{fitting}

@@ -17,7 +17,7 @@ use Rattle.tokens.specs.Tokens.{Token, tokensOf, worked, normal, joinedTokens, 
 use Rattle.answers.specs.declared.Kind.the-variants.{Emoji, Ascii, Group}
 use Rattle.spelling.specs.Spelling.{lowLine, hyphens, fenced, leadingMark}
 use Rattle.nsm.specs.Marks.{nsmFits}
-use Rattle.lookalike.specs.Confusable.{confusable}
+use Rattle.confusable.specs.Confusable.{confusable}
 use Rattle.groups.specs.Groups.{Numbered, groupOf}
 use Rattle.label.specs.Judge.{judge, judgeAscii, judgeMixed, judgeText, judgeInGroup, unless, onlyEmoji, onlyAscii}
 use Rattle.limits.specs.Limits.{mostWorked}

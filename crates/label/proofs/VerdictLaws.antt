@@ -18,7 +18,7 @@ use Rattle.nsm.specs.Marks.{nsmFits}
 use Rattle.spelling.specs.Spelling.{lowLine, hyphens, fenced, allAscii}
 use Rattle.spelling.specs.CellMarks.{leadingAt, codesIn, tagsIn}
 use Rattle.spelling.proofs.LeadingLaws.{leading-tokens}
-use Rattle.lookalike.specs.Confusable.{confusable}
+use Rattle.confusable.specs.Confusable.{confusable}
 use Rattle.groups.specs.Groups.{Numbered, groupOf, groupFound}
 use Rattle.label.specs.Judge.{onlyEmoji, onlyAscii, unless, judgeAscii, judgeInGroup, judgeText, judgeMixed, judge}
 use Rattle.label.specs.CellText.{textAt}

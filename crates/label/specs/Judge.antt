@@ -11,7 +11,7 @@ use Rattle.table.specs.Table.{Table}
 use Rattle.tokens.specs.Tokens.{Token, emoji, text, isEmoji, joinedTokens, joinedText}
 use Rattle.nsm.specs.Marks.{nsmFits}
 use Rattle.spelling.specs.Spelling.{lowLine, hyphens, fenced, leadingMark, allAscii}
-use Rattle.lookalike.specs.Confusable.{confusable}
+use Rattle.confusable.specs.Confusable.{confusable}
 use Rattle.groups.specs.Groups.{Numbered, groupOf}
 
 -- "Only emoji tokens"

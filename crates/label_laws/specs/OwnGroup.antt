@@ -11,8 +11,8 @@ use Rattle.lists.specs.Members.{any-passing, passing-any, all-at}
 use Rattle.table.specs.Table.{Table, Group, Whole}
 use Rattle.table.specs.Lookup.{holds, wholeOf}
 use Rattle.groups.specs.Groups.{holdsAll}
-use Rattle.lookalike.specs.Confusable.{isConfused, members, shareGroup, extent, outside, respells}
-use Rattle.lookalike.specs.Extent.{extent-shared}
+use Rattle.confusable.specs.Confusable.{isConfused, members, shareGroup, extent, outside, respells}
+use Rattle.confusable.specs.Extent.{extent-shared}
 
 -- two characters of one group share a group
 pub shares : (t : Table) (g : Group) (a b : ℕ) → List·Memᴰ g (t .groups) → holds g a ≡ true → holds g b ≡ true → shareGroup t a b ≡ true

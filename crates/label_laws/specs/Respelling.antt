@@ -19,7 +19,7 @@ use Rattle.table.specs.Table.{Table, Whole}
 use Rattle.table.specs.Lookup.{holds, wholeOf}
 use Rattle.groups.specs.Groups.{Numbered}
 use Rattle.nsm.specs.Marks.{nsmFits}
-use Rattle.lookalike.specs.Confusable.{isConfused, members, extent, outside, respells, confusable}
+use Rattle.confusable.specs.Confusable.{isConfused, members, extent, outside, respells, confusable}
 use Rattle.label.specs.Judge.{judgeInGroup, unless}
 
 -- a look-alike of c in g: a member of its whole outside its extent that the group holds

@@ -15,7 +15,7 @@ use Rattle.lists.specs.Members.{any-passing, any-same, any-keep, passing-any, a
 use Rattle.table.specs.Table.{Table, Group, Whole}
 use Rattle.table.specs.Lookup.{holds, wholeOf}
 use Rattle.groups.specs.Groups.{Numbered, holdsAll, groupOf, groupFrom}
-use Rattle.lookalike.specs.Confusable.{isConfused, outside, respells, confusable}
+use Rattle.confusable.specs.Confusable.{isConfused, outside, respells, confusable}
 use Rattle.label_laws.specs.OwnGroup.{not-respelled, own-group}
 
 -- the different characters of a text: "each unique character in the label"

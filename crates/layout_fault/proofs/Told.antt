@@ -5,10 +5,10 @@ use mathlib.Core.Path.{_≡_, refl}
 use mathlib.Core.Bool.{Bool, true, false}
 use mathlib.Core.List.{List}
 use Rattle.lists.specs.Lists.{isSome}
-use Rattle.table.specs.declared.Sections.{Sections}
-use Rattle.table.specs.declared.Layout.the-variants.{Fault, Found}
+use Rattle.sections.specs.declared.Sections.{Sections}
+use Rattle.sections.specs.declared.Layout.the-variants.{Fault, Found}
 use Rattle.table.specs.Layout.{parse}
-use Rattle.table.specs.Laid.{layoutOf}
+use Rattle.sections.specs.Laid.{layoutOf}
 use Rattle.layout_fault.specs.Fault.{layoutFault}
 
 pub fault-told : (ws : List ℕ) → layoutOf ws ≡ Fault → 1 ≡ layoutFault ws

@@ -1,5 +1,5 @@
 // Whether the words of a table have a layout fault, as a number. specs/Fault.antt states it.
-use table::Layout;
+use sections::Layout;
 ghost use mathlib.Core.Path.{_≡_};
 ghost use Rattle.layout_fault.specs.Fault.{layoutFault};
 
@@ -7,7 +7,7 @@ ghost use Rattle.layout_fault.specs.Fault.{layoutFault};
 pub fn layout_fault(words: &[u32]) -> u32
     ensures { λ r. ⌜ r ≡ layoutFault (now (words .entry)) ⌝ }
 {
-    let found = table::laid::layout(words);
+    let found = layout::layout(words);
     match found {
         Layout::Fault => 1,
         Layout::Found(_) => 0,

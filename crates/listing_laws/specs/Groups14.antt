@@ -16,12 +16,12 @@ use Rattle.answers.specs.Restriction.{barred}
 use Rattle.ending.specs.Ending.{then15, resultOf}
 use Rattle.table.specs.Table.{Table, Group}
 use Rattle.table.specs.Layout.{parse}
-use Rattle.text.specs.Scalar.{isScalar}
+use Rattle.scalar.specs.Scalar.{isScalar}
 use Rattle.limits.specs.Limits.{mostInput, leastWork}
 use Rattle.tokens.specs.Scan.{steps, firstDisallowed}
 use Rattle.tokens.specs.Tokens.{tokensOf, normal, joinedText}
 use Rattle.groups.specs.Groups.{Numbered, holdsAll, groupFrom, groupOf}
-use Rattle.lookalike.specs.Confusable.{isConfused, respells}
+use Rattle.confusable.specs.Confusable.{isConfused, respells}
 use Rattle.label_laws.specs.OwnGroup.{own-group}
 use Rattle.label.specs.Judge.{onlyEmoji, onlyAscii}
 use Rattle.name.specs.Permitted.{by-off, by-refused}

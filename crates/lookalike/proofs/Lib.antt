@@ -1,4 +1,3 @@
 pub mod OutsideLaws
 pub mod FlagLaws
 pub mod RespellingLaws
-pub mod MemoLaws

@@ -1,4 +1,1 @@
-pub mod Confusable
-pub mod Extent
-pub mod Flags
-pub mod Memo
+pub mod Respelling

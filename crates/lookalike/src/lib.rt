@@ -1,22 +1,19 @@
 // Refusal 14, the look-alike test: whether a text is confusable.
-use crate::flags::any_set;
-use crate::flags::keep_both;
-use crate::flags::keep_outside;
-use crate::flags::mark_holders;
-use crate::memo::recall;
-use table::Sections;
+use group_flags::any_set;
+use group_flags::keep_both;
+use group_flags::keep_outside;
+use group_flags::mark_holders;
+use memo::recall;
+use sections::Sections;
+use sections::lookup::whole_of;
 use table::WholeAt;
-use table::lookup::whole_of;
 ghost use mathlib.Core.Path.{_≡_};
 ghost use lib.ListN.{length, replicate};
-ghost use Rattle.table.specs.Laid.{Laid, theTable};
-ghost use Rattle.table.specs.Layout.{mostGroups};
-ghost use Rattle.lookalike.specs.Confusable as definition;
-ghost use Rattle.lookalike.specs.Flags.{Narrowed, Respellings};
-ghost use Rattle.lookalike.specs.Memo.{Memo};
-
-mod flags;
-pub mod memo;
+ghost use Rattle.sections.specs.Laid.{Laid};
+ghost use Rattle.table.specs.Layout.{theTable, mostGroups};
+ghost use Rattle.confusable.specs.Confusable as definition;
+ghost use Rattle.lookalike.specs.Respelling.{Narrowed, Respellings};
+ghost use Rattle.memo.specs.Memo.{Memo};
 
 // Keeps the flags of the groups that can spell c otherwise: hold it, or, where it is confused, hold a member of its whole
 // outside its extent. Answers whether c is confused.

@@ -19,18 +19,16 @@ use Rattle.ending.specs.Ending.{then15}
 use Rattle.ending.specs.Numbers.{Between, Refuses, refuses-imp, refuses-some, refuses-next, Accepted, zero-accepted, never-number}
 use Rattle.table.specs.Table.{Table}
 use Rattle.table.specs.Layout.{parse}
-use Rattle.text.specs.Scalar.{isScalar}
+use Rattle.scalar.specs.Scalar.{isScalar}
 use Rattle.tokens.specs.Scan.{steps, firstDisallowed}
 use Rattle.tokens.specs.Tokens.{Token, tokensOf, worked, normal, joinedTokens, joinedText}
 use Rattle.spelling.specs.Spelling.{lowLine, hyphens, fenced, leadingMark}
 use Rattle.groups.specs.Groups as groups
 use Rattle.groups.specs.Groups.{groupOf}
 use Rattle.nsm.specs.Marks.{nsmFits}
-use Rattle.lookalike.specs.Confusable.{confusable}
+use Rattle.confusable.specs.Confusable.{confusable}
 use Rattle.label.specs.Judge.{unless, onlyEmoji, onlyAscii, judgeAscii, judgeInGroup, judgeText, judgeMixed, judge}
-use Rattle.name.specs.Label.{Label, stop, judged, permitted, labelVerdict, labelBy, oneLabel, admitted, labelAnswering, labelBefore15}
-use Rattle.name.specs.Label.{labelResult}
-use Rattle.name.specs.Label.{labelCallVerdict, labelCall}
+use Rattle.name.specs.Label.{Label, stop, judged, permitted, labelVerdict, labelBy, oneLabel, admitted, labelAnswering, labelBefore15, labelResult, labelCallVerdict, labelCall}
 use Rattle.name.specs.Name.{labelsOf, labelsVerdict, nameAnswering, nameBefore15, nameResult, nameVerdict, nameCall}
 
 -- a refusal from 8 to 14, or what follows

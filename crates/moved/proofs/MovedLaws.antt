@@ -17,7 +17,7 @@ use Rattle.answers.specs.Values.{numberOf, placeOf}
 use Rattle.answers.specs.declared.Refusal.{Refusal}
 use Rattle.ending.specs.Ends.{Ends, Judged}
 use Rattle.ending.specs.Finish.{Finishes}
-use Rattle.table.specs.Laid.{theTable}
+use Rattle.table.specs.Layout.{theTable}
 use Rattle.name.specs.Label.{admitted}
 use Rattle.name.specs.Admission.{AdmissionIs}
 use Rattle.name.specs.declared.admit.Admission.{Admission}

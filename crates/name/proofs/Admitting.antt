@@ -13,12 +13,12 @@ use Rattle.limits.specs.Limits.{mostInput, leastWork}
 use Rattle.answers.specs.Verdict.{refused}
 use Rattle.table.specs.Table.{Table}
 use Rattle.table.specs.Layout.{parse}
-use Rattle.table.specs.Laid.{Laid, layoutOf, sectionsOf}
-use Rattle.table.specs.declared.Sections.{Sections}
-use Rattle.table.specs.declared.Layout.the-variants.{Fault, Found}
+use Rattle.sections.specs.Laid.{Laid, layoutOf, sectionsOf}
+use Rattle.sections.specs.declared.Sections.{Sections}
+use Rattle.sections.specs.declared.Layout.the-variants.{Fault, Found}
 use Rattle.table.proofs.Lookups.{drop-next}
-use Rattle.table.proofs.SectionLaws.{laid-parse}
-use Rattle.text.specs.Scalar.{isScalar}
+use Rattle.sections.proofs.SectionLaws.{laid-parse}
+use Rattle.scalar.specs.Scalar.{isScalar}
 use Rattle.name.specs.Label.{admitted}
 use Rattle.name.specs.Admission.{Admits}
 

@@ -1,5 +1,3 @@
 pub mod Admitting
 pub mod Parting
-pub mod Judging
-pub mod Passing
 pub mod Answering

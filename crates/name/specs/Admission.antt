@@ -7,8 +7,9 @@ use lib.ListN.{length}
 use Rattle.limits.specs.Limits.{mostInput, leastWork}
 use Rattle.answers.specs.Verdict.{accepted, refused}
 use Rattle.answers.specs.Values.{numberOf, placeOf}
-use Rattle.table.specs.Laid.{Laid, theTable}
-use Rattle.table.specs.declared.Sections.{Sections}
+use Rattle.sections.specs.Laid.{Laid}
+use Rattle.table.specs.Layout.{theTable}
+use Rattle.sections.specs.declared.Sections.{Sections}
 use Rattle.name.specs.declared.admit.Place.{Place}
 use Rattle.name.specs.declared.admit.Place.the-variants.{At, Nothing}
 use Rattle.name.specs.declared.admit.Admission.{Admission}

@@ -15,7 +15,7 @@ use Rattle.answers.specs.declared.Kind.{Kind}
 use Rattle.answers.specs.Restriction.{barred}
 use Rattle.table.specs.Table.{Table}
 use Rattle.table.specs.Layout.{parse}
-use Rattle.text.specs.Scalar.{isScalar}
+use Rattle.scalar.specs.Scalar.{isScalar}
 use Rattle.tokens.specs.Scan.{steps, firstDisallowed}
 use Rattle.tokens.specs.Tokens.{Token, tokensOf, worked, normal, joinedTokens}
 use Rattle.label.specs.Judge.{judge}

@@ -3,5 +3,4 @@ pub mod Name
 pub mod Permitted
 pub mod Admission
 pub mod Parts
-pub mod Judged
 pub mod Calls

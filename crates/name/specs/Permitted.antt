@@ -4,7 +4,6 @@ use native.Mathlib.Omega.{arith}
 use mathlib.Core.Path.{_≡_, refl, _∙_}
 use mathlib.Core.Bool.{Bool, true, false, cond}
 use mathlib.Core.List.{List}
-use lib.Dec.{eqb}
 use Rattle.answers.specs.Verdict.{Verdict, accepted, refused, next}
 use Rattle.table.specs.Table.{Table}
 use Rattle.answers.specs.Restriction.{barred}

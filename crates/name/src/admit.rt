@@ -2,13 +2,13 @@
 use answers::Refusal;
 use limits::LEAST_WORK;
 use limits::MOST_INPUT;
-use table::Layout;
-use table::Sections;
-use text::scalar::is_scalar;
+use scalar::is_scalar;
+use sections::Layout;
+use sections::Sections;
 ghost use mathlib.Core.Path.{_≡_};
 ghost use mathlib.Core.Bool.{not};
 ghost use Rattle.lists.specs.Lists.{placeWith};
-ghost use Rattle.text.specs.Scalar.{isScalar};
+ghost use Rattle.scalar.specs.Scalar.{isScalar};
 ghost use Rattle.name.specs.Admission.{placeIs, AdmissionIs};
 
 // Where a codepoint that is no scalar value stands.
@@ -41,7 +41,7 @@ pub fn first_not_scalar(input: &[u32]) -> Place
 pub fn admit(words: &[u32], input: &[u32], work: usize) -> Admission
     ensures { λ r. ⌜ AdmissionIs (now (words .entry)) (now (input .entry)) work r ⌝ }
 {
-    match table::laid::layout(words) {
+    match layout::layout(words) {
         Layout::Fault => Admission::Refused(Refusal::LayoutFault),
         Layout::Found(ix) => {
             if work < LEAST_WORK {

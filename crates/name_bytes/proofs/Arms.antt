@@ -14,7 +14,7 @@ use Rattle.answers.specs.Verdict.{Verdict, accepted, refused}
 use Rattle.answers.specs.declared.NameAnswer.{NameAnswer}
 use Rattle.table.specs.Table.{Table}
 use Rattle.table.specs.Layout.{parse}
-use Rattle.text.specs.Scalar.{isScalar}
+use Rattle.scalar.specs.Scalar.{isScalar}
 use Rattle.name.specs.Label.{admitted}
 use Rattle.name.specs.Name.{nameCall}
 use Rattle.name.specs.Calls.{NameCalls}

@@ -40,11 +40,11 @@ fn judge_read(
     let found = utf8::read(bytes, codepoints);
     match found {
         ReadAnswer::Read(n) => {
-            let named = name::name_call::name(&codepoints[..n], words, setting, answer, work);
+            let named = name_call::name(&codepoints[..n], words, setting, answer, work);
             NameBytesAnswer::Name(named)
         }
         ReadAnswer::TooLittleRoom => {
-            let named = name::name_call::name(codepoints, words, setting, answer, work);
+            let named = name_call::name(codepoints, words, setting, answer, work);
             NameBytesAnswer::Name(named)
         }
         ReadAnswer::IllFormed(at) => {

@@ -7,7 +7,7 @@ use mathlib.Core.Logic.{⊎-elim}
 use mathlib.Core.List.{List, [], _∷_, append-nil}
 use lib.ListN.{length, take, replicate}
 use Rattle.answers.specs.Verdict.{accepted, refused}
-use Rattle.text.specs.Scalar.{isScalar}
+use Rattle.scalar.specs.Scalar.{isScalar}
 use Rattle.utf8_scheme.specs.Scheme.{octets, write}
 use Rattle.utf8_scheme.specs.Reading.{octets-few}
 use Rattle.utf8.specs.Promise.{WriteCalls}

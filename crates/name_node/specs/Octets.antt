@@ -11,7 +11,7 @@ use Rattle.lists.specs.Lists.{placeWith, onSome}
 use Rattle.lists.specs.Laws.{both-left, every-imp, joined-every}
 use Rattle.lists.specs.Elements.{place-none, none-place}
 use Rattle.answers.specs.Verdict.{accepted, refused}
-use Rattle.text.specs.Scalar.{isScalar, isSurrogate}
+use Rattle.scalar.specs.Scalar.{isScalar, isSurrogate}
 use Rattle.utf8_scheme.specs.Scheme.{tail, octets, write}
 use Rattle.keccak.specs.Blocks.{Bytes}
 use Rattle.name_node.specs.Node.{octetsOf}

@@ -6,7 +6,7 @@ ghost use mathlib.Core.Path.{_≡_};
 ghost use mathlib.Core.Bool.{true};
 ghost use mathlib.Core.List.{_++_};
 ghost use lib.ListN.{replicate};
-ghost use Rattle.text.specs.Scalar.{isScalar};
+ghost use Rattle.scalar.specs.Scalar.{isScalar};
 ghost use Rattle.utf8_scheme.specs.Scheme.{octets};
 ghost use Rattle.keccak.specs.Sponge.{keccak256};
 ghost use Rattle.keccak.specs.State.{absorbed};

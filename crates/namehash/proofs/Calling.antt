@@ -7,10 +7,11 @@ use mathlib.Core.List.{List, [], _∷_}
 use lib.ListN.{length, take, replicate}
 use Rattle.lists.specs.Filled.{take-filled}
 use Rattle.answers.specs.Verdict.{Verdict, accepted, refused, next}
-use Rattle.answers.specs.Values.{NameValues, nameValues, numberOf}
+use Rattle.answers.specs.Values.{NameValues, nameValues}
 use Rattle.answers.specs.declared.NameAnswer.{NameAnswer}
 use Rattle.answers.specs.declared.Refusal.{Refusal}
-use Rattle.answers.specs.declared.Refusal.the-variants.{LayoutFault, WorkAreaTooSmall, InputTooLong, NotScalar, Disallowed, NoTokens, WorkedTooLong, LowLine, Hyphens, Fenced, LeadingMark, NoGroup, NsmRun, Confusable, Restricted, BufferTooSmall}
+use Rattle.answers.specs.declared.Refusal.the-variants.{NotScalar}
+use Rattle.answers.proofs.Numbers.{some-number}
 use Rattle.ending.specs.Ends.{Ends, result-fits}
 use Rattle.utf8_scheme.specs.Scheme.{write}
 use Rattle.utf8.specs.Promise.{WriteCalls}
@@ -29,25 +30,6 @@ use Rattle.answers.specs.declared.NameAnswer.the-variants as answer
 use Rattle.answers.proofs.NameAnswer as nameAnswers
 use Rattle.utf8.specs.declared.WriteAnswer.the-variants as writing
 use Rattle.utf8.proofs.WriteAnswer as writeAnswers
-
--- no refusal has the number 0
-some-number : (f : Refusal) → 1 ≤ numberOf f
-some-number LayoutFault = omega arith
-some-number WorkAreaTooSmall = omega arith
-some-number InputTooLong = omega arith
-some-number (NotScalar i) = omega arith
-some-number (Disallowed i) = omega arith
-some-number (NoTokens l) = omega arith
-some-number (WorkedTooLong l) = omega arith
-some-number (LowLine l) = omega arith
-some-number (Hyphens l) = omega arith
-some-number (Fenced l) = omega arith
-some-number (LeadingMark l) = omega arith
-some-number (NoGroup l) = omega arith
-some-number (NsmRun l) = omega arith
-some-number (Confusable l) = omega arith
-some-number (Restricted l) = omega arith
-some-number BufferTooSmall = omega arith
 
 -- what the call has answered where the name call's verdict is v
 record Hashes (v : Verdict (List Label)) (name : List ℕ) (room work : ℕ) (told : NameValues) (after after-work hash : List ℕ) : Type 0 where

@@ -23,7 +23,7 @@ pub fn namehash(
 ) -> HashedName
     ensures { λ r. ⌜ NamehashCalls setting (now (words .entry)) (now (input .entry)) (now (answer .entry)) (now (answer .exit)) (now (work .entry)) (now (work .exit)) r ⌝ }
 {
-    let found = name::name_call::name(input, words, setting, answer, work);
+    let found = name_call::name(input, words, setting, answer, work);
     let NameAnswer::Accepted { length, labels } = found else {
         let none = no_node();
         return HashedName {

@@ -6,7 +6,7 @@ use mathlib.Core.List.{List}
 use mathlib.Core.Option.{none}
 use Rattle.lists.specs.Lists.{placeWith}
 use Rattle.answers.specs.Verdict.{Verdict, accepted, next}
-use Rattle.text.specs.Scalar.{isScalar}
+use Rattle.scalar.specs.Scalar.{isScalar}
 use Rattle.soundness.specs.Soundness.{soundnessOf}
 use Rattle.utf8_scheme.specs.Scheme.{write}
 use Rattle.name.specs.Label.{Label}

@@ -16,19 +16,19 @@ use Rattle.answers.specs.Verdict.{accepted, refused}
 use Rattle.ending.specs.Ending.{resultOf}
 use Rattle.ending.specs.Ends.{Told, ends-fitting}
 use Rattle.ending.specs.Finish.{Finishes}
-use Rattle.table.specs.declared.Sections.{Sections}
-use Rattle.table.specs.declared.Layout.the-variants.{Fault, Found}
+use Rattle.sections.specs.declared.Sections.{Sections}
+use Rattle.sections.specs.declared.Layout.the-variants.{Fault, Found}
 use Rattle.table.specs.Table.{Table}
-use Rattle.table.specs.Layout.{parse}
-use Rattle.table.specs.Laid.{layoutOf, theTable}
+use Rattle.table.specs.Layout.{parse, theTable}
+use Rattle.sections.specs.Laid.{layoutOf}
 use Rattle.text.specs.Decomposition.{classOf, fourRounds}
 use Rattle.text.specs.Ordering.{nfd}
 use Rattle.text.specs.Composition.{compose, nfc}
-use Rattle.text.specs.Sorting.{sortBy}
-use Rattle.text.specs.Rounds.{Appended}
-use Rattle.text.specs.Work.{Ready, ComposedInto}
-use Rattle.table.proofs.SectionLaws.{found-laid, laid-parse}
-use Rattle.text.proofs.Sorting.{length-sort, map-sort, order-sort, sort-in-order}
+use Rattle.ordering.specs.Sorting.{sortBy}
+use Rattle.decomposition.specs.Rounds.{Appended}
+use Rattle.composition.specs.Work.{Ready, ComposedInto}
+use Rattle.sections.proofs.SectionLaws.{found-laid, laid-parse}
+use Rattle.ordering.proofs.Sorting.{length-sort, map-sort, order-sort, sort-in-order}
 use Rattle.normal_forms.specs.declared.FormAnswer.{FormAnswer}
 use Rattle.normal_forms.specs.declared.FormAnswer.the-variants.{Formed, LayoutFault, WorkedTooLong, WorkAreaTooSmall, BufferTooSmall}
 use Rattle.normal_forms.proofs.FormAnswer.{the-type}

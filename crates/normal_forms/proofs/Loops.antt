@@ -8,8 +8,8 @@ use lib.Seq.{take-all}
 use Rattle.limits.specs.Limits.{mostWorked}
 use Rattle.table.specs.Table.{Table}
 use Rattle.text.specs.Decomposition.{fourRounds}
-use Rattle.text.specs.Rounds.{mostFrom, rounds, Appended, Decomposed}
-use Rattle.text.proofs.Rounds.{Expanding, expand-more, rounds-four, rounds-join}
+use Rattle.decomposition.specs.Rounds.{mostFrom, rounds, Appended, Decomposed}
+use Rattle.decomposition.proofs.Rounds.{Expanding, expand-more, rounds-four, rounds-join}
 use Rattle.normal_forms.specs.Promise.{Decomposes}
 
 module _ (t : Table) (text out out′ : List ℕ) (i to : ℕ) (o : Expanding t 4 text out out′ 0 i to) where

@@ -9,8 +9,8 @@ use Rattle.ending.specs.Ends.{Ends, Told}
 use Rattle.table.specs.Table.{Table}
 use Rattle.text.specs.Ordering.{order, nfd}
 use Rattle.text.specs.Decomposition.{fourRounds}
-use Rattle.text.specs.Rounds.{Appended}
-use Rattle.text.specs.Work.{Ready}
+use Rattle.decomposition.specs.Rounds.{Appended}
+use Rattle.composition.specs.Work.{Ready}
 use Rattle.normal_forms.specs.declared.FormAnswer.{FormAnswer}
 use Rattle.normal_forms.specs.declared.FormAnswer.the-variants.{Formed, LayoutFault, WorkedTooLong, WorkAreaTooSmall, BufferTooSmall}
 use Rattle.normal_forms.specs.declared.export.WanlophengForm.{WanlophengForm}

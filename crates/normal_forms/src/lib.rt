@@ -1,17 +1,18 @@
 // NFD and NFC of a text, by a table. specs/Forms.antt states what they answer.
 pub mod export;
 
+use composition::compose::compose;
+use composition::nfc::put_classes;
+use decomposition::append_decomposed;
 use ending::finish;
 use limits::MOST_WORKED;
-use table::Layout;
-use table::Sections;
-use text::compose::PAIR_WORDS;
-use text::compose::compose;
-use text::decompose::append_decomposed;
-use text::nfc::put_classes;
+use sections::Layout;
+use sections::Sections;
+use unpaired::PAIR_WORDS;
 ghost use mathlib.Core.Path.{_≡_};
 ghost use lib.ListN.{length};
-ghost use Rattle.table.specs.Laid.{Laid, theTable};
+ghost use Rattle.sections.specs.Laid.{Laid};
+ghost use Rattle.table.specs.Layout.{theTable};
 ghost use Rattle.text.specs.Ordering.{nfd};
 ghost use Rattle.text.specs.Composition.{nfc};
 ghost use Rattle.normal_forms.specs.Forms.{formValues, lengthOf, nfdCall, nfcCall};
@@ -51,7 +52,7 @@ fn arrange(words: &[u32], ix: Sections, text: &mut [u32], classes: &mut [u32])
     ensures { λ _. ⌜ Arranged (theTable (now (words .entry))) (now (text .entry)) (now (text .exit)) (now (classes .exit)) ⌝ }
 {
     put_classes(words, ix, text, classes);
-    text::order::order(text, classes);
+    ordering::order(text, classes);
 }
 
 // NFD at the front of `answer`, with its classes at the front of `work`.
@@ -83,7 +84,7 @@ fn decomposed(
 fn nfd_front(text: &[u32], words: &[u32], answer: &mut [u32], work: &mut [u32]) -> FormAnswer
     ensures { λ r. ⌜ Stands nfd (now (text .entry)) (now (words .entry)) (now (answer .entry)) (now (answer .exit)) (length (now (work .entry))) r ⌝ }
 {
-    let found = table::laid::layout(words);
+    let found = layout::layout(words);
     match found {
         Layout::Fault => FormAnswer::LayoutFault,
         Layout::Found(ix) => decomposed(words, ix, text, answer, work),
@@ -94,7 +95,7 @@ fn nfd_front(text: &[u32], words: &[u32], answer: &mut [u32], work: &mut [u32]) 
 fn nfc_front(text: &[u32], words: &[u32], answer: &mut [u32], work: &mut [u32]) -> FormAnswer
     ensures { λ r. ⌜ Stands nfc (now (text .entry)) (now (words .entry)) (now (answer .entry)) (now (answer .exit)) (length (now (work .entry))) r ⌝ }
 {
-    let found = table::laid::layout(words);
+    let found = layout::layout(words);
     let Layout::Found(ix) = found else {
         return FormAnswer::LayoutFault;
     };

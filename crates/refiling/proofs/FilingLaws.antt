@@ -16,19 +16,20 @@ use Rattle.answers.specs.Values.{numberOf, placeOf}
 use Rattle.answers.specs.declared.Kind.{Kind}
 use Rattle.answers.specs.declared.Refusal.{Refusal}
 use Rattle.table.specs.Table.{Table}
-use Rattle.table.specs.Laid.{Laid, theTable}
-use Rattle.table.specs.declared.Sections.{Sections}
-use Rattle.text.specs.Scalar.{isScalar}
-use Rattle.name.specs.declared.one.Judgement.{Judgement}
-use Rattle.name.specs.declared.one.Judgement.the-variants as judgement
+use Rattle.sections.specs.Laid.{Laid}
+use Rattle.table.specs.Layout.{theTable}
+use Rattle.sections.specs.declared.Sections.{Sections}
+use Rattle.scalar.specs.Scalar.{isScalar}
+use Rattle.one_label.specs.declared.Judgement.{Judgement}
+use Rattle.one_label.specs.declared.Judgement.the-variants as judgement
 use Rattle.name.specs.Label.{Label, stop, answer, admitted, labelVerdict, labelBy}
 use Rattle.name.specs.Permitted.{by-off}
 use Rattle.name.specs.Name.{labelsOf, labelsVerdict, nameAnswer, nameBefore15}
 use Rattle.name.specs.Parts.{labelAt, LabelEnds, partsFrom, mostLabel}
-use Rattle.name.specs.Judged.{Accepts, Judges}
+use Rattle.one_label.specs.Judged.{Accepts, Judges}
 use Rattle.name.proofs.Admitting.{admitted-scalar, admitted-all}
 use Rattle.name.proofs.Parting.{label-length, parts-next, parts-all, parts-none}
-use Rattle.name.proofs.Passing.{judged-accepted, judged-refused}
+use Rattle.one_label.proofs.Said.{judged-accepted, judged-refused}
 use Rattle.book_slots.specs.Book.{formRoom}
 use Rattle.book_answers.specs.Calls.{fileable}
 use Rattle.refiling.specs.declared.Filed.{Filed}

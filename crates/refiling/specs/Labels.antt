@@ -10,10 +10,11 @@ use Rattle.lists.specs.Lists.{sameList}
 use Rattle.limits.specs.Limits.{leastWork}
 use Rattle.answers.specs.Verdict.{Verdict, accepted, refused}
 use Rattle.table.specs.Table.{Table}
-use Rattle.table.specs.Laid.{Laid, theTable}
-use Rattle.table.specs.declared.Sections.{Sections}
-use Rattle.text.specs.Unpaired.{Unpaired}
-use Rattle.lookalike.specs.Memo.{Memo}
+use Rattle.sections.specs.Laid.{Laid}
+use Rattle.table.specs.Layout.{theTable}
+use Rattle.sections.specs.declared.Sections.{Sections}
+use Rattle.unpaired.specs.Unpaired.{Unpaired}
+use Rattle.memo.specs.Memo.{Memo}
 use Rattle.name.specs.Label.{Label, answer, labelVerdict}
 use Rattle.book_slots.specs.Book.{formRoom}
 use Rattle.refiling.specs.declared.Change.{Change}

@@ -1,6 +1,6 @@
 // The line for one line of input. specs/Lines.antt states what it is. 01, "Names at the counter".
 use line_reading::Line;
-use name::name_call::name;
+use name_call::name;
 ghost use Prim.Native.Nat.{_≤_};
 ghost use lib.ListN.{length};
 ghost use Rattle.replying.specs.Lines.{replyRoom};

@@ -13,13 +13,9 @@ use Rattle.answers.specs.Values.{NameValues, nameValues, numberOf, placeOf}
 use Rattle.answers.specs.declared.NameAnswer.{NameAnswer}
 use Rattle.answers.specs.declared.NameAnswer.the-variants as answer
 use Rattle.answers.specs.declared.Refusal.{Refusal}
-use Rattle.answers.specs.declared.Refusal.the-variants.{LayoutFault, WorkAreaTooSmall, InputTooLong, NotScalar, Disallowed, NoTokens, WorkedTooLong, LowLine, Hyphens, Fenced, LeadingMark, NoGroup, NsmRun, Confusable, Restricted, BufferTooSmall}
+use Rattle.answers.proofs.Numbers.{some-number}
 use Rattle.ending.specs.Ends.{Told}
-use Rattle.lists.specs.Lists.{isSome}
-use Rattle.table.specs.declared.Layout.{Layout}
-use Rattle.table.specs.declared.Layout.the-variants.{Fault, Found}
-use Rattle.table.specs.Layout.{parse}
-use Rattle.table.specs.Laid.{theTable, sectionsOf, layoutOf}
+use Rattle.table.specs.Layout.{theTable}
 use Rattle.name.specs.Label.{Label}
 use Rattle.name.specs.Name.{labelsOf, nameAnswering, nameBefore15}
 use Rattle.name.specs.Calls.{NameJudged}
@@ -27,29 +23,11 @@ use Rattle.byte_sink.specs.declared.Sink.{Sink}
 use Rattle.byte_sink.specs.Sinks.{Holds, Adds}
 use Rattle.byte_sink.proofs.Adding.{holds-none}
 use Rattle.report.specs.declared.ReportAnswer.the-variants.{Written, Refused, TooLittleRoom}
-use Rattle.report.specs.Report.{lines, report}
-use Rattle.report.specs.Calls.{Values, nothing, reportCall, Reportable}
+use Rattle.report_walk.specs.Report.{lines, report}
+use Rattle.report.specs.Calls.{reportCall}
+use Rattle.report_walk.specs.Reportable.{nothing, Reportable}
 use Rattle.report.specs.Promise.{ReportCalls}
 use Rattle.report.proofs.Walkables.{reportable}
-
--- no refusal has the number 0
-some-number : (f : Refusal) → 1 ≤ numberOf f
-some-number LayoutFault = omega arith
-some-number WorkAreaTooSmall = omega arith
-some-number InputTooLong = omega arith
-some-number (NotScalar i) = omega arith
-some-number (Disallowed i) = omega arith
-some-number (NoTokens l) = omega arith
-some-number (WorkedTooLong l) = omega arith
-some-number (LowLine l) = omega arith
-some-number (Hyphens l) = omega arith
-some-number (Fenced l) = omega arith
-some-number (LeadingMark l) = omega arith
-some-number (NoGroup l) = omega arith
-some-number (NsmRun l) = omega arith
-some-number (Confusable l) = omega arith
-some-number (Restricted l) = omega arith
-some-number BufferTooSmall = omega arith
 
 module _ (input front : List ℕ) where
   -- the name was refused
@@ -147,12 +125,3 @@ module _ (setting : ℕ) (words input front front′ before work mid : List ℕ)
 -- where what was written ends
 pub written-place : (before full text : List ℕ) (r : Sink) → Adds before full text nothing r → r .full ≡ false → r .at ≤ length full
 written-place before full text r a o = a .holds [] (holds-none before) .fits o .room
-
--- words that are a table have no layout fault
-pub never-fault : (words : List ℕ) (l : Layout) → isSome (parse words) ≡ true → l ≡ layoutOf words → l ≡ Fault → ⊥
-unfolding layoutOf
-never-fault words l h e f =
-    let found : layoutOf words ≡ Found (sectionsOf words) = rw h in
-    let both : Found (sectionsOf words) ≡ Fault = sym found ∙ sym e ∙ f in
-    let z : _≡_ {A = ℕ} 0 1 = cc in
-    omega arith

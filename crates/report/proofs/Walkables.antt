@@ -14,9 +14,8 @@ use Rattle.limits.specs.Limits.{mostInput, mostWorked, leastWork}
 use Rattle.answers.specs.Verdict.{accepted, refused, next}
 use Rattle.ending.specs.Numbers.{next-accepted}
 use Rattle.table.specs.Table.{Table}
-use Rattle.table.specs.Layout.{parse}
-use Rattle.table.specs.Laid.{theTable}
-use Rattle.text.specs.Scalar.{isScalar}
+use Rattle.table.specs.Layout.{parse, theTable}
+use Rattle.scalar.specs.Scalar.{isScalar}
 use Rattle.tokens.specs.Scan.{steps, firstDisallowed}
 use Rattle.tokens.specs.Tokens.{Token, tokensOf, worked, normal}
 use Rattle.label.specs.Judge.{judge}
@@ -25,7 +24,7 @@ use Rattle.name.specs.Permitted.{accepted-by}
 use Rattle.name.specs.Name.{labelsOf, labelsVerdict, nameBefore15}
 use Rattle.token_walk.specs.Walk.{Walkable}
 use Rattle.token_walk.proofs.Nexting.{allowed-moved}
-use Rattle.report.specs.Calls.{Reportable}
+use Rattle.report_walk.specs.Reportable.{Reportable}
 
 never : {A : Type 0} {B : Type 0} (n p : ℕ) (a : A) → refused n p ≡ accepted a → B
 never n p a e = absurd (let z : _≡_ {A = ℕ} 0 1 = cc in omega arith)

@@ -1,21 +1,14 @@
 -- The call. 02, Item 9: "Refusals are 1 to 14, then 32 for too little room; it answers the length"; Item 13 puts 17 after 14. Assumes nothing.
-use Prim.Native.Nat.{ℕ, _≤_}
-use mathlib.Core.Path.{_≡_}
-use mathlib.Core.Bool.{true, false, cond}
+use Prim.Native.Nat.{ℕ}
+use mathlib.Core.Bool.{cond}
 use mathlib.Core.List.{List}
 use lib.ListN.{length, replicate}
 use lib.Dec.{ltb}
-use Rattle.lists.specs.Lists.{isSome}
 use Rattle.lists.specs.Filled.{filled}
-use Rattle.lists.specs.Laws.{Every}
-use Rattle.limits.specs.Limits.{mostInput, leastWork}
 use Rattle.answers.specs.Verdict.{Verdict, accepted, refused, next}
-use Rattle.table.specs.Layout.{parse}
-use Rattle.table.specs.Laid.{theTable}
-use Rattle.name.specs.Name.{labelsOf, nameBefore15}
-use Rattle.byte_sink.specs.declared.Sink.{Sink}
-use Rattle.token_walk.specs.Walk.{Walkable}
-use Rattle.report.specs.Report.{report}
+use Rattle.table.specs.Layout.{theTable}
+use Rattle.name.specs.Name.{nameBefore15}
+use Rattle.report_walk.specs.Report.{report}
 
 -- what the call answers
 pub record Values : Type 0 where
@@ -56,15 +49,3 @@ resultOf room work (refused n p) = record { values = beside n p; bytes = replica
 unfoldable pub reportCall : ℕ → List ℕ → List ℕ → ℕ → ℕ → Result
 unfolding reportVerdict
 reportCall setting words name room work = resultOf room work (reportVerdict setting words name room work)
-
--- nothing is written yet
-abbrev pub nothing : Sink
-nothing = record { at = 0; full = false }
-
--- what the writer asks: a table, room to work, and labels that 5, 6 and 7 let pass, at least one
-pub record Reportable (words name : List ℕ) (work : ℕ) : Type 0 where
-  pub table : isSome (parse words) ≡ true
-  pub enough : leastWork ≤ work
-  pub short : length name ≤ mostInput
-  pub some-name : 1 ≤ length name
-  pub labels : Every (Walkable (theTable words)) (labelsOf name)

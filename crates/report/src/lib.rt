@@ -1,10 +1,8 @@
-// The report of what was typed (02, Item 9). specs/Report.antt states its bytes, specs/Calls.antt what the call answers.
-mod labels;
-
-use crate::labels::write_report;
+// The report of what was typed (02, Item 9). `report_walk` states its bytes, specs/Calls.antt what the call answers.
 use answers::NameAnswer;
 use answers::Refusal;
-use name::name_call::judge_name;
+use name_call::judge_name;
+use report_walk::write_report;
 ghost use Rattle.report.specs.Promise.{ReportCalls};
 
 // The length of the report; a refusal of the name call; or too little room.

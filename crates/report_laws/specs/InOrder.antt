@@ -9,14 +9,14 @@ use Rattle.lists.specs.Lists.{joinedMap}
 use Rattle.lists.specs.Laws.{Every, joined-append}
 use Rattle.answers.specs.Verdict.{accepted}
 use Rattle.table.specs.Table.{Table}
-use Rattle.table.specs.Laid.{theTable}
+use Rattle.table.specs.Layout.{theTable}
 use Rattle.places.specs.Places.{Placed, placed}
 use Rattle.places.specs.Laws.{Covers}
 use Rattle.places.specs.Parts.{placed-covers}
 use Rattle.token_walk.specs.Walk.{Walkable}
 use Rattle.name.specs.Label.{Label}
 use Rattle.name.specs.Name.{labelsOf, nameBefore15}
-use Rattle.report.specs.Report.{line, labelLines, lines, report}
+use Rattle.report_walk.specs.Report.{line, labelLines, lines, report}
 use Rattle.report.proofs.Walkables.{accepted-labels}
 
 -- the tokens of labels with their places, the first label starting at `start`

@@ -20,21 +20,21 @@ use Rattle.answers.specs.declared.LabelAnswer.the-variants as answered
 use Rattle.ending.specs.Ends.{Told, Judged}
 use Rattle.ending.specs.Finish.{Finishes}
 use Rattle.table.specs.Table.{Table, Group}
-use Rattle.table.specs.Layout.{mostGroups}
-use Rattle.table.specs.Laid.{theTable}
-use Rattle.table.specs.declared.Sections.{Sections}
+use Rattle.table.specs.Layout.{mostGroups, theTable}
+use Rattle.sections.specs.declared.Sections.{Sections}
 use Rattle.table.proofs.Lookups.{drop-next}
 use Rattle.tokens.specs.Scan.{steps, firstDisallowed}
 use Rattle.tokens.specs.Tokens.{Token, tokensOf, worked, normal, joinedTokens, joinedText}
 use Rattle.tokens.specs.Cells.{Cells}
-use Rattle.tokens.specs.Normal.{NormalCells}
-use Rattle.tokens.specs.Scanning.{Tallied, ScanIs, Scans}
-use Rattle.tokens.specs.declared.scan.Tally.{Tally}
-use Rattle.tokens.specs.declared.scan.Scanned.{Scanned}
-use Rattle.tokens.specs.declared.scan.Scanned.the-variants as scanned
-use Rattle.components.specs.Components.{noGroup}
-use Rattle.lookalike.specs.Confusable.{isConfused, respells}
-use Rattle.lookalike.specs.Flags.{bit, slots, flagsFor, Respellings}
+use Rattle.normal_cells.specs.Normal.{NormalCells}
+use Rattle.scanning.specs.Scanning.{Tallied, ScanIs, Scans}
+use Rattle.scanning.specs.declared.Tally.{Tally}
+use Rattle.scanning.specs.declared.Scanned.{Scanned}
+use Rattle.scanning.specs.declared.Scanned.the-variants as scanned
+use Rattle.group_numbers.specs.Components.{noGroup}
+use Rattle.confusable.specs.Confusable.{isConfused, respells}
+use Rattle.group_flags.specs.Flags.{bit, slots, flagsFor}
+use Rattle.lookalike.specs.Respelling.{Respellings}
 use Rattle.lookalike.proofs.OutsideLaws.{respells-none}
 use Rattle.label.specs.CellText.{textAt, TextAlone}
 use Rattle.label.proofs.CellLaws.{text-tokens}

@@ -19,7 +19,7 @@ use Rattle.tokens.specs.Tokens.{Token, tokensOf, worked, normal, joinedTokens, 
 use Rattle.spelling.specs.Spelling.{lowLine, hyphens, fenced, leadingMark}
 use Rattle.groups.specs.Groups.{Numbered, groupOf}
 use Rattle.nsm.specs.Marks.{nsmFits}
-use Rattle.lookalike.specs.Confusable.{isConfused, respells, confusable}
+use Rattle.confusable.specs.Confusable.{isConfused, respells, confusable}
 use Rattle.label.specs.Judge.{unless, onlyEmoji, onlyAscii, judgeAscii, judgeInGroup, judgeText, judgeMixed, judge}
 use Rattle.name.specs.Label.{Label, stop, judged, labelVerdict, labelBy, oneLabel}
 use Rattle.name.specs.Permitted.{by-off}

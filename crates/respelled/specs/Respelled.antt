@@ -11,7 +11,7 @@ use Rattle.ending.specs.Ending.{Answering, Result}
 use Rattle.table.specs.Table.{Table}
 use Rattle.tokens.specs.Scan.{steps}
 use Rattle.tokens.specs.Tokens.{Token, tokensOf, normal, joinedText}
-use Rattle.lookalike.specs.Confusable.{isConfused, respells}
+use Rattle.confusable.specs.Confusable.{isConfused, respells}
 use Rattle.label.specs.Judge.{onlyEmoji, onlyAscii}
 use Rattle.name.specs.Label.{Label, oneLabel, admitted}
 use Rattle.listing.specs.Listing.{ListValues, listing, listResult}

@@ -11,13 +11,14 @@ use borrow.Author.Tests.{le-leb, lt-leb, lt-ltb, leb-true, ltb-true, ltb-false}
 use Rattle.lists.specs.Lists.{all, mem, joinedMap, andThen}
 use Rattle.lists.specs.Laws.{both, both-left, both-right}
 use Rattle.lists.specs.Tests.{agree, not-so, never, untrue, mem-both, all-both, all-members, member-passes}
-use Rattle.table.specs.declared.Sections.{Sections}
+use Rattle.sections.specs.declared.Sections.{Sections}
 use Rattle.table.specs.Table.{Range, ClassRange, Group, Table}
-use Rattle.table.specs.Layout.{mostFlags, inFront, ranges, group, groups}
+use Rattle.table.specs.Layout.{mostFlags, inFront, ranges, group, groups, theTable}
 use Rattle.table.specs.Lookup.{inRanges}
-use Rattle.table.specs.Laid.{Laid, theTable, within}
+use Rattle.sections.specs.Laid.{Laid}
+use Rattle.table.specs.Spans.{within}
 use Rattle.table.specs.Part.{inPairs}
-use Rattle.table.proofs.SectionLaws.{laid-reads}
+use Rattle.sections.proofs.SectionLaws.{laid-reads}
 use Rattle.table.proofs.Lookups.{onlyIf-some, inFront-some, andThen-some, pairs-ranges}
 use Rattle.text.specs.Decomposition.{fourRounds}
 use Rattle.finder.specs.Emoji.{selector}

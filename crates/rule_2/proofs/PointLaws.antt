@@ -11,12 +11,14 @@ use borrow.Author.Tests.{lt-ltb, ltb-true, ltb-false, leb-true, le-ltb}
 use Rattle.lists.specs.Lists.{all, firstWith, mem, joinedMap}
 use Rattle.lists.specs.Laws.{both, both-left, both-right, every-imp, every-all, all-every, every-member, found-member}
 use Rattle.lists.specs.Tests.{all-both, all-members, member-passes, not-so, never}
-use Rattle.table.specs.declared.Sections.{Sections}
+use Rattle.sections.specs.declared.Sections.{Sections}
 use Rattle.table.specs.Table.{Headed, Table}
 use Rattle.table.specs.Lookup.{itemsOf}
-use Rattle.table.specs.Laid.{Laid, within, theTable}
-use Rattle.table.proofs.SectionLaws.{laid-small}
-use Rattle.text.specs.Scalar.{isSurrogate, isScalar}
+use Rattle.sections.specs.Laid.{Laid}
+use Rattle.table.specs.Spans.{within}
+use Rattle.table.specs.Layout.{theTable}
+use Rattle.sections.proofs.SectionLaws.{laid-small}
+use Rattle.scalar.specs.Scalar.{isSurrogate, isScalar}
 use Rattle.text.specs.Hangul.{firstSyllable, syllableCount, isSyllable, jamoOf}
 use Rattle.text.specs.Decomposition.{single, round, fourRounds}
 use Rattle.soundness.specs.Scalars.{scalarHeaded, rule1}

@@ -1,5 +1,5 @@
 // Rule 4, on emoji sequences.
-use table::Sections;
+use sections::Sections;
 use table::Span;
 use table::lookup::counted;
 use table::lookup::mem_in;
@@ -8,8 +8,9 @@ ghost use mathlib.Core.Bool.{_&&_};
 ghost use Prim.Native.Nat.{_≤_};
 ghost use lib.ListN.{length, drop};
 ghost use Rattle.lists.specs.Lists.{all, any};
-ghost use Rattle.table.specs.Layout.{sequences};
-ghost use Rattle.table.specs.Laid.{Laid, Fits, within, theTable};
+ghost use Rattle.table.specs.Layout.{sequences, theTable};
+ghost use Rattle.sections.specs.Laid.{Laid};
+ghost use Rattle.table.specs.Spans.{Fits, within};
 ghost use Rattle.soundness.specs.Sequences.{startsWith, twoSelectors, rule4};
 ghost use Rattle.table.specs.Part.{recordsIn};
 ghost use Rattle.sound_parts.specs.Parts.{Holds};

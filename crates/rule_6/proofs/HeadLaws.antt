@@ -13,15 +13,15 @@ use Rattle.lists.specs.Laws.{Every, every-imp, every-all, all-every, every-memb
 use Rattle.lists.specs.Elements.{list-same}
 use Rattle.lists.specs.Tests.{agree}
 use Rattle.table.specs.declared.Span.{Span}
-use Rattle.table.specs.declared.Sections.{Sections}
+use Rattle.sections.specs.declared.Sections.{Sections}
 use Rattle.table.specs.declared.Items.{Items}
 use Rattle.table.specs.declared.Items.the-variants.{At, Nothing}
 use Rattle.table.specs.Table.{Headed, Table}
-use Rattle.table.specs.Layout.{mostItems, mostParts, inFront, countFits, headed}
+use Rattle.table.specs.Layout.{mostItems, mostParts, inFront, countFits, headed, theTable}
 use Rattle.table.specs.Lookup.{itemsOf}
-use Rattle.table.specs.Laid.{Laid, theTable}
+use Rattle.sections.specs.Laid.{Laid}
 use Rattle.table.specs.Part.{ItemsFound, headsIn}
-use Rattle.table.proofs.SectionLaws.{laid-reads}
+use Rattle.sections.proofs.SectionLaws.{laid-reads}
 use Rattle.table.proofs.Lookups.{onlyIf-some, inFront-some}
 use Rattle.table.proofs.Records.{count-fits}
 use Rattle.table.proofs.Searches.{items-there, items-missing}

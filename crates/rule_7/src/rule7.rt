@@ -1,8 +1,8 @@
 // Rule 7, on composition pairs.
-use table::Sections;
+use sections::Sections;
+use sections::lookup::is_excluded;
 use table::Span;
 use table::lookup::counted;
-use table::lookup::is_excluded;
 use text::class::class_of;
 use text::hangul::makes_closed;
 use text::hangul::makes_open;
@@ -10,7 +10,9 @@ ghost use mathlib.Core.Path.{_≡_};
 ghost use Prim.Native.Nat.{_<_, _+_};
 ghost use lib.ListN.{drop};
 ghost use Rattle.lists.specs.Lists.{any, sameList};
-ghost use Rattle.table.specs.Laid.{Laid, Fits, within, theTable};
+ghost use Rattle.sections.specs.Laid.{Laid};
+ghost use Rattle.table.specs.Spans.{Fits, within};
+ghost use Rattle.table.specs.Layout.{theTable};
 ghost use Rattle.soundness.specs.Pairs.{isHangulPair, rule7};
 ghost use Rattle.table.specs.Part.{recordsIn};
 ghost use Rattle.sound_parts.specs.Parts.{Holds, asHeaded};

@@ -1,16 +1,16 @@
 // Rule 1: every codepoint named is a Unicode scalar value.
-use table::Sections;
+use sections::Sections;
 use table::Span;
 use table::lookup::counted;
 ghost use mathlib.Core.Path.{_≡_};
 ghost use Rattle.lists.specs.Lists.{all};
-ghost use Rattle.table.specs.Layout.{sequences, groups, wholes};
-ghost use Rattle.table.specs.Laid.{Laid, Fits, within, theTable};
-ghost use Rattle.text.specs.Scalar.{isScalar};
+ghost use Rattle.table.specs.Layout.{sequences, groups, wholes, theTable};
+ghost use Rattle.sections.specs.Laid.{Laid};
+ghost use Rattle.table.specs.Spans.{Fits, within};
+ghost use Rattle.scalar.specs.Scalar.{isScalar};
 ghost use Rattle.soundness.specs.Scalars.{scalarsBetween, scalarHeaded, rule1};
 ghost use Rattle.table.specs.Part.{recordsIn};
-ghost use Rattle.sound_parts.specs.Parts.{allPairs, allTriples, Holds, asHeaded, scalarTriple, scalarGroup, scalarWhole};
-ghost use Rattle.sound_parts.specs.Parts.{rangesScalar, recordsScalar, othersScalar, behindCount, ExcludedFits};
+ghost use Rattle.sound_parts.specs.Parts.{allPairs, allTriples, Holds, asHeaded, scalarTriple, scalarGroup, scalarWhole, rangesScalar, recordsScalar, othersScalar, behindCount, ExcludedFits};
 
 // Whether every codepoint from first to last is a scalar value.
 fn scalars_between(first: u32, last: u32) -> bool

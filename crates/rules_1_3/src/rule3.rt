@@ -1,11 +1,13 @@
 // Rules 2 and 3, on valid codepoints.
-use table::Sections;
+use sections::Sections;
+use sections::lookup::is_valid;
 use table::Span;
 use table::lookup::counted;
-use table::lookup::is_valid;
 ghost use mathlib.Core.Path.{_≡_};
 ghost use Rattle.lists.specs.Lists.{all};
-ghost use Rattle.table.specs.Laid.{Laid, Fits, within, theTable};
+ghost use Rattle.sections.specs.Laid.{Laid};
+ghost use Rattle.table.specs.Spans.{Fits, within};
+ghost use Rattle.table.specs.Layout.{theTable};
 ghost use Rattle.soundness.specs.Valid.{rule3};
 ghost use Rattle.table.specs.Part.{recordsIn};
 ghost use Rattle.sound_parts.specs.Parts.{Holds, asHeaded, isValid, mapsToValid};

@@ -11,8 +11,8 @@ use Rattle.answers.specs.declared.Refusal.the-variants.{BufferTooSmall}
 use Rattle.answers.specs.declared.NameAnswer.the-variants as name
 use Rattle.ending.specs.Ends.{Ends, Judged, ends-kept, ends-over}
 use Rattle.ending.specs.Finish.{Finishes}
-use Rattle.table.specs.Laid.{theTable}
-use Rattle.table.specs.declared.Sections.{Sections}
+use Rattle.table.specs.Layout.{theTable}
+use Rattle.sections.specs.declared.Sections.{Sections}
 use Rattle.name.specs.declared.admit.Admission.{Admission}
 use Rattle.name.specs.declared.admit.Admission.the-variants.{Refused, Found}
 use Rattle.name.specs.Admission.{AdmissionIs}

@@ -23,14 +23,14 @@ use Rattle.tokens.specs.Scan.{steps}
 use Rattle.tokens.specs.Tokens.{Token, tokensOf}
 use Rattle.token_walk.specs.Walk.{Walkable}
 use Rattle.token_walk.proofs.Nexting.{allowed-moved}
-use Rattle.name.specs.declared.one.Judgement.{Judgement}
-use Rattle.name.specs.declared.one.Judgement.the-variants.{Accepted, Refused}
+use Rattle.one_label.specs.declared.Judgement.{Judgement}
+use Rattle.one_label.specs.declared.Judgement.the-variants.{Accepted, Refused}
 use Rattle.name.specs.Label.{Label, stop, labelVerdict, labelBy}
 use Rattle.name.specs.Permitted.{by-accepted, by-barred, by-refused}
 use Rattle.name.specs.Name.{labelsOf, labelsVerdict}
 use Rattle.name.specs.Parts.{mostLabel, mostAnswer, labelAt, LabelEnds, partsFrom, between, Put}
-use Rattle.name.specs.Judged.{Accepts, Judges}
-use Rattle.name.proofs.Passing.{judged-accepted, judged-refused}
+use Rattle.one_label.specs.Judged.{Accepts, Judges}
+use Rattle.one_label.proofs.Said.{judged-accepted, judged-refused}
 use Rattle.name.proofs.Parting.{label-length, parts-next, parts-all, parts-empty, parts-none, between-few}
 use Rattle.joining.specs.Places.{label-accepts}
 use Rattle.forms.specs.Forms.{Typed, sourcesOf, typed, isGreek, screenToken, screenForm, labelForm, nameForm}

@@ -9,7 +9,7 @@ use Rattle.answers.specs.declared.NameAnswer.{NameAnswer}
 use Rattle.ending.specs.Ending.{Answering, Result, then15, resultOf}
 use Rattle.ending.specs.Ends.{Ends, Judged}
 use Rattle.table.specs.Table.{Table}
-use Rattle.table.specs.Laid.{theTable}
+use Rattle.table.specs.Layout.{theTable}
 use Rattle.name.specs.Label.{Label}
 use Rattle.name.specs.Name.{labelsOf, labelsVerdict, nameBefore15}
 use Rattle.forms.specs.Forms.{Typed, typed, nameForm, formAnswering, screenForm}

@@ -12,7 +12,7 @@ use borrow.Author.Tests.{ne-eqb, eq-eqb}
 use Rattle.lists.specs.Lists.{joinedMap}
 use Rattle.limits.specs.Limits.{mostWorked, leastWork}
 use Rattle.table.specs.Table.{Table}
-use Rattle.table.specs.Laid.{within}
+use Rattle.table.specs.Spans.{within}
 use Rattle.table.specs.declared.Span.{Span}
 use Rattle.tokens.specs.Tokens.{normalToken, codepoints, isEmoji}
 use Rattle.places.specs.Places.{Source, emoji, text, tokenOf}

@@ -10,7 +10,7 @@ use Rattle.limits.specs.Limits.{leastWork}
 use Rattle.answers.specs.Verdict.{Verdict, accepted, refused, next}
 use Rattle.answers.specs.declared.Kind.the-variants.{Group}
 use Rattle.table.specs.Lookup.{inRanges, itemsOf}
-use Rattle.table.specs.Laid.{theTable}
+use Rattle.table.specs.Layout.{theTable}
 use Rattle.places.specs.Places.{emoji, text}
 use Rattle.soundness.specs.Soundness.{soundnessOf}
 use Rattle.name.specs.Name.{nameAnswer, nameBefore15}

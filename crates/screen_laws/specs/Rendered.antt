@@ -18,7 +18,7 @@ use Rattle.answers.specs.Verdict.{accepted}
 use Rattle.table.specs.Table.{Table}
 use Rattle.table.specs.Lookup.{inRanges, itemsOf}
 use Rattle.text.specs.Composition.{nfc}
-use Rattle.text.specs.Scalar.{isScalar}
+use Rattle.scalar.specs.Scalar.{isScalar}
 use Rattle.finder.specs.Emoji.{selector, strip, Found}
 use Rattle.tokens.specs.Scan.{steps}
 use Rattle.tokens.specs.Tokens as token

@@ -18,9 +18,8 @@ use Rattle.answers.specs.Verdict.{Verdict, accepted, refused, next}
 use Rattle.ending.specs.Ending.{fitting}
 use Rattle.ending.specs.Numbers.{next-accepted}
 use Rattle.table.specs.Table.{Table}
-use Rattle.table.specs.Layout.{parse}
-use Rattle.table.specs.Laid.{theTable}
-use Rattle.text.specs.Scalar.{isScalar}
+use Rattle.table.specs.Layout.{parse, theTable}
+use Rattle.scalar.specs.Scalar.{isScalar}
 use Rattle.soundness.specs.Soundness.{soundnessOf}
 use Rattle.name.specs.Label.{Label, stop, labelVerdict}
 use Rattle.name.specs.Name.{labelsOf, labelsVerdict, workedLength, nameAnswer, nameBefore15, nameVerdict, nameResult, nameCall, EnoughRoom}

@@ -6,7 +6,7 @@ use mathlib.Core.List.{List, [], _∷_, _++_, map}
 use mathlib.Core.Option.{Option, none, some}
 use Rattle.lists.specs.Lists.{joinedMap}
 use Rattle.table.specs.Table.{Table}
-use Rattle.table.specs.Laid.{theTable}
+use Rattle.table.specs.Layout.{theTable}
 use Rattle.soundness.specs.Scalars.{rule1}
 use Rattle.soundness.specs.Valid.{rule2, rule3}
 use Rattle.soundness.specs.Sequences.{rule4, rule5}

@@ -6,13 +6,13 @@ use mathlib.Core.Bool.{Bool, not, cond}
 use mathlib.Core.List.{List, [], _∷_}
 use mathlib.Core.Option.{Option, none, some}
 use Rattle.lists.specs.Lists.{placeWith, isSome}
-use Rattle.table.specs.declared.Sections.{Sections}
-use Rattle.table.specs.declared.Layout.{Layout}
-use Rattle.table.specs.declared.Layout.the-variants.{Fault, Found}
+use Rattle.sections.specs.declared.Sections.{Sections}
+use Rattle.sections.specs.declared.Layout.{Layout}
+use Rattle.sections.specs.declared.Layout.the-variants.{Fault, Found}
 use Rattle.table.specs.Table.{Table}
-use Rattle.table.specs.Layout.{parse}
-use Rattle.table.specs.Laid.{theTable, layoutOf, sectionsOf}
-use Rattle.table.proofs.SectionLaws.{found-laid, laid-parse}
+use Rattle.table.specs.Layout.{parse, theTable}
+use Rattle.sections.specs.Laid.{layoutOf, sectionsOf}
+use Rattle.sections.proofs.SectionLaws.{found-laid, laid-parse}
 use Rattle.soundness.specs.Scalars.{rule1}
 use Rattle.soundness.specs.Valid.{rule2, rule3}
 use Rattle.soundness.specs.Sequences.{rule4, rule5}

@@ -7,12 +7,13 @@ use rule_6::rule6;
 use rule_7::rule7;
 use rules_1_3::rule1;
 use rules_1_3::rule3;
-use table::Layout;
-use table::Sections;
-use table::laid::layout;
+use layout::layout;
+use sections::Layout;
+use sections::Sections;
 ghost use mathlib.Core.Path.{_≡_};
 ghost use Rattle.answers.specs.Values.{brokenRule};
-ghost use Rattle.table.specs.Laid.{Laid, theTable};
+ghost use Rattle.sections.specs.Laid.{Laid};
+ghost use Rattle.table.specs.Layout.{theTable};
 ghost use Rattle.soundness.specs.Soundness.{lowestBroken, soundnessOf};
 
 // The lowest rule that a table breaks.

@@ -15,7 +15,7 @@ use Rattle.lists.specs.Laws.{both, both-left, both-right}
 use Rattle.lists.specs.Tests.{agree, not-so, never, mem-both}
 use Rattle.table.specs.declared.Span.{Span}
 use Rattle.table.specs.Table.{Headed}
-use Rattle.table.specs.Laid.{within}
+use Rattle.table.specs.Spans.{within}
 use Rattle.table.specs.Part.{countedAt}
 use Rattle.text.specs.Hangul.{isSyllable}
 use Rattle.table.specs.Part.{recordsIn}

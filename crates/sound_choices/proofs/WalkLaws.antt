@@ -12,7 +12,7 @@ use Rattle.lists.specs.Lists.{any, mem}
 use Rattle.table.specs.declared.Span.{Span}
 use Rattle.table.specs.Table.{Headed, Group}
 use Rattle.table.specs.Layout.{mostItems, ranges, groups, group}
-use Rattle.table.specs.Laid.{within, Fits}
+use Rattle.table.specs.Spans.{within, Fits}
 use Rattle.table.specs.Part.{RecordsAt, HeadedHere, GroupHere, countedAt, inPairs}
 use Rattle.table.proofs.Lookups.{pairs-ranges}
 use Rattle.table.proofs.Records.{headed-step, headed-end, groups-end}

@@ -13,7 +13,7 @@ ghost use lib.ListN.{length};
 ghost use lib.Dec.{eqb};
 ghost use Rattle.lists.specs.Lists.{all, mem};
 ghost use Rattle.table.specs.Layout.{mostWords};
-ghost use Rattle.table.specs.Laid.{Fits, within};
+ghost use Rattle.table.specs.Spans.{Fits, within};
 ghost use Rattle.table.specs.Part.{recordsIn};
 ghost use Rattle.sound_parts.specs.Parts.{Holds, asHeaded};
 ghost use Rattle.bit_sets.specs.Sets.{has, Put, SetOf, windowWords};

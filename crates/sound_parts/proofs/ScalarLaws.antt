@@ -8,7 +8,7 @@ use borrow.Author.Tests.{ltb-true, ltb-false, le-leb, lt-leb}
 use Rattle.lists.specs.Lists.{all}
 use Rattle.lists.specs.Laws.{both-left}
 use Rattle.table.specs.Table.{ClassRange, Table}
-use Rattle.text.specs.Scalar.{isScalar}
+use Rattle.scalar.specs.Scalar.{isScalar}
 use Rattle.soundness.specs.Scalars.{scalarsBetween, scalarRanges, scalarHeaded, rule1}
 use Rattle.sound_parts.specs.Parts.{rangesScalar, recordsScalar, othersScalar, scalarGroup, scalarWhole}
 

@@ -5,10 +5,11 @@ use mathlib.Core.Path.{_≡_}
 use mathlib.Core.List.{List}
 use mathlib.Core.Option.{some}
 use lib.ListN.{length}
-use Rattle.table.specs.declared.Sections.{Sections}
-use Rattle.table.specs.Layout.{mostItems, mostParts, sequences, groups, wholes}
-use Rattle.table.specs.Laid.{Laid, within, theTable}
-use Rattle.table.proofs.SectionLaws.{laid-reads}
+use Rattle.sections.specs.declared.Sections.{Sections}
+use Rattle.table.specs.Layout.{mostItems, mostParts, sequences, groups, wholes, theTable}
+use Rattle.sections.specs.Laid.{Laid}
+use Rattle.table.specs.Spans.{within}
+use Rattle.sections.proofs.SectionLaws.{laid-reads}
 use Rattle.table.proofs.Searches.{headed-wider}
 use Rattle.table.specs.Part.{recordsIn}
 use Rattle.sound_parts.specs.Parts.{Holds, EmojiPart, GroupsPart, asHeaded}

@@ -12,7 +12,7 @@ use Rattle.lists.specs.Lists.{all, any, isSome}
 use Rattle.table.specs.declared.Span.{Span}
 use Rattle.table.specs.Table.{Range, ClassRange, Headed, Group, Whole}
 use Rattle.table.specs.Layout.{inFront, countFits, headed, ranges, classRanges, sequences, group, groups, wholes, mostClass, mostItems}
-use Rattle.table.specs.Laid.{within, Fits}
+use Rattle.table.specs.Spans.{within, Fits}
 use Rattle.table.specs.Part.{RecordsAt, HeadedAt, SequencesAt, GroupsAt, WholesAt, HeadedHere, SequenceHere, GroupHere, WholeHere, countedAt, confusedAt, recordsIn}
 use Rattle.table.proofs.Lookups.{onlyIf-some, inFront-some, drop-next, drop-two, drop-three, Walk, walk-on}
 use Rattle.table.proofs.Records.{records-start, headed-step, headed-end, sequences-step, sequences-end, groups-step, groups-end, wholes-step, wholes-end, within-count, sequence-fits, sequence-items, group-fits, group-reads, group-next}

@@ -11,7 +11,7 @@ use Rattle.table.specs.Table.{Headed, ClassRange, Group, Whole, Table}
 use Rattle.table.specs.Layout.{mostItems, headed, sequences, groups}
 use Rattle.table.specs.Part.{recordsIn}
 use Rattle.table.specs.Lookup.{inRanges}
-use Rattle.text.specs.Scalar.{isScalar}
+use Rattle.scalar.specs.Scalar.{isScalar}
 use Rattle.soundness.specs.Scalars.{scalarsBetween, scalarRanges, scalarHeaded}
 
 -- every pair first, last passes the test

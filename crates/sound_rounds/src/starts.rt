@@ -10,7 +10,7 @@ ghost use Prim.Native.Nat.{_+_};
 ghost use lib.ListN.{length};
 ghost use Rattle.lists.specs.Lists.{mem};
 ghost use Rattle.table.specs.Layout.{groups};
-ghost use Rattle.table.specs.Laid.{Fits, within};
+ghost use Rattle.table.specs.Spans.{Fits, within};
 ghost use Rattle.table.specs.Part.{inPairs};
 ghost use Rattle.table.specs.Part.{recordsIn};
 ghost use Rattle.sound_parts.specs.Parts.{Holds, asHeaded};

@@ -5,7 +5,7 @@ use mathlib.Core.List.{List, _++_}
 use lib.Dec.{leb, ltb}
 use Rattle.lists.specs.Lists.{all}
 use Rattle.table.specs.Table.{Range, ClassRange, Headed, Group, Whole, Table}
-use Rattle.text.specs.Scalar.{isScalar}
+use Rattle.scalar.specs.Scalar.{isScalar}
 
 -- every codepoint from first to last is a scalar value: none is over 10FFFF, and the surrogates lie outside
 abbrev pub scalarsBetween : ℕ → ℕ → Bool

@@ -1,14 +1,15 @@
 // Refusals 8 to 11: how a label is spelled.
 use limits::MOST_WORKED;
-use table::Sections;
-use table::lookup::is_fenced;
-use table::lookup::is_mark;
+use sections::Sections;
+use sections::lookup::is_fenced;
+use sections::lookup::is_mark;
 use table::lookup::mem_in;
 ghost use mathlib.Core.Path.{_≡_};
 ghost use Prim.Native.Nat.{_≤_};
 ghost use lib.ListN.{length};
 ghost use Rattle.limits.specs.Limits.{leastWork, mostWorked};
-ghost use Rattle.table.specs.Laid.{Laid, theTable};
+ghost use Rattle.sections.specs.Laid.{Laid};
+ghost use Rattle.table.specs.Layout.{theTable};
 ghost use Rattle.spelling.specs.Spelling as spelling;
 ghost use Rattle.spelling.specs.CellMarks.{leadingAt, codesIn, tagsIn};
 

@@ -1,18 +1,16 @@
 -- Laws of a walk over the groups of a part. Assumes nothing.
 use Prim.Native.Nat.{ℕ, _+_, _<_, _≤_}
 use native.Mathlib.Omega.{arith}
-use mathlib.Core.Path.{_≡_, _∙_, ap}
+use mathlib.Core.Path.{_≡_, ap}
 use mathlib.Core.List.{List, [], _∷_}
 use lib.ListN.{length, getD}
 use Rattle.table.specs.declared.GroupRecord.{GroupRecord}
-use Rattle.table.specs.declared.Sections.{Sections}
 use Rattle.table.specs.Table.{Group}
 use Rattle.table.specs.Layout.{mostGroups, groups, group}
-use Rattle.table.specs.Laid.{Laid, Fits, within, theTable}
+use Rattle.table.specs.Spans.{Fits, within}
 use Rattle.table.specs.Lookup.{holds}
-use Rattle.table.specs.Part.{inPairs, recordsIn, GroupsAt, GroupHere}
+use Rattle.table.specs.Part.{inPairs, GroupsAt, GroupHere}
 use Rattle.table.specs.GroupPart.{groupsIn, GroupsPart, groupAt}
-use Rattle.table.proofs.SectionLaws.{laid-reads}
 use Rattle.table.proofs.Records.{records-start, groups-end, groups-step, group-fits, group-holds, group-next}
 
 -- A walk over the groups of a part that has come to `at`, where group n stands: Q holds of the groups that are left.
@@ -78,16 +76,3 @@ module _ (part : List ℕ) (n at : ℕ) (Q : List Group → Type 0) (w : GroupWa
 -- a walk that does not count
 pub group-uncounted : (part : List ℕ) (n at : ℕ) (Q : List Group → Type 0) → GroupWalk part n at Q → GroupWalk part 0 at Q
 group-uncounted part n at Q w = record { left = w .left; walk = w .walk; few = omega (arith, w .few); so = w .so }
-
--- the groups' section of a table that is laid out
-module _ (ws : List ℕ) (ix : Sections) (l : Laid ws ix) where
-  pub laid-same : groupsIn (within (ix .groups) ws) ≡ theTable ws .groups
-  unfolding recordsIn
-  laid-same = rw (laid-reads ws ix l .groups)
-
-  pub laid-part : GroupsPart (within (ix .groups) ws)
-  laid-part =
-      record {
-        parses = laid-reads ws ix l .groups ∙ rw laid-same;
-        few = rw laid-same (laid-reads ws ix l .few);
-      }

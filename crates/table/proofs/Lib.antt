@@ -1,5 +1,4 @@
-pub mod SectionLaws
-pub mod WalkLaws
+pub mod Fuels
 pub mod Lookups
 pub mod Fours
 pub mod Records

@@ -12,9 +12,7 @@ use lib.Dec.{leb, ltb, eqb}
 use borrow.Author.Tests.{ltb-true, ltb-false, leb-true, eq-eqb, ne-eqb}
 use Rattle.lists.specs.Lists.{all, andThen, mem}
 use Rattle.table.specs.declared.Span.{Span}
-use Rattle.table.specs.declared.Sections.{Sections}
-use Rattle.table.specs.Laid.{within, Fits, Laid, theTable}
-use Rattle.table.proofs.SectionLaws.{laid-fits, laid-reads}
+use Rattle.table.specs.Spans.{within, Fits}
 use Rattle.table.specs.Table.{Range, ClassRange}
 use Rattle.table.specs.Layout.{onlyIf, inFront, ranges, classRanges, excluded, mostClass}
 use Rattle.table.specs.Lookup.{inRanges, tableClass}
@@ -244,6 +242,3 @@ excluded-here ws s xs f e = go (ltb (s .from) (s .to)) refl
         let none-left : s .to - s .from ≡ 0 = omega arith in
         let l : excluded [] ≡ some xs = rw none-left at e in
         absurd (none-some xs l)
-
-pub laid-excluded : (ws : List ℕ) (ix : Sections) → Laid ws ix → ExcludedHere ws (ix .exclusions) (theTable ws .exclusions)
-laid-excluded ws ix l = excluded-here ws (ix .exclusions) _ (laid-fits ws ix l .exclusions) (laid-reads ws ix l .exclusions)

@@ -11,10 +11,8 @@ use lib.Dec.{leb}
 use borrow.Author.Tests.{leb-true, leb-false}
 use Rattle.lists.specs.Lists.{andThen}
 use Rattle.table.specs.Table.{Range, Headed, Group, Whole}
-use Rattle.table.specs.Layout.{mostItems, mostParts, mostFlags, inFront, ranges, countFits, headed, sequences, group, groups, Tail, confusedPart, wholes}
-use Rattle.table.specs.declared.Sections.{Sections}
-use Rattle.table.specs.Laid.{within, Fits, Laid, theTable}
-use Rattle.table.proofs.SectionLaws.{laid-reads}
+use Rattle.table.specs.Layout.{mostItems, mostFlags, inFront, ranges, countFits, headed, sequences, group, groups, Tail, confusedPart, wholes}
+use Rattle.table.specs.Spans.{within, Fits}
 use Rattle.table.specs.Lookup.{holds}
 use Rattle.table.specs.Part.{RecordsAt, HeadedAt, SequencesAt, GroupsAt, WholesAt, HeadedHere, SequenceHere, GroupHere, confusedAt, WholeHere, inPairs, countedAt}
 use Rattle.table.proofs.Lookups.{none-some, pairs-ranges, both, onlyIf-some, inFront-some, andThen-some, drop-next, drop-two}
@@ -263,20 +261,3 @@ module _ (part : List ℕ) (at : ℕ) (xs : List Group) (h : GroupHere part at x
   group-next =
       let two : at + 1 + 1 + getD part (at + 1) 0 ≡ at + 2 + getD part (at + 1) 0 = omega arith in
       rw two (h .next)
-
--- A laid-out table's sections of records, at their start.
-module _ (ws : List ℕ) (ix : Sections) (l : Laid ws ix) where
-  pub laid-mapped : HeadedAt mostItems (within (ix .mapped) ws) 0 (theTable ws .mapped)
-  laid-mapped = records-start (λ k. headed k mostItems) (within (ix .mapped) ws) _ (laid-reads ws ix l .mapped)
-
-  pub laid-decompositions : HeadedAt mostParts (within (ix .decompositions) ws) 0 (theTable ws .decompositions)
-  laid-decompositions = records-start (λ k. headed k mostParts) (within (ix .decompositions) ws) _ (laid-reads ws ix l .decompositions)
-
-  pub laid-emoji : SequencesAt (within (ix .emoji) ws) 0 (theTable ws .emoji)
-  laid-emoji = records-start sequences (within (ix .emoji) ws) _ (laid-reads ws ix l .emoji)
-
-  pub laid-groups : GroupsAt (within (ix .groups) ws) 0 (theTable ws .groups)
-  laid-groups = records-start groups (within (ix .groups) ws) _ (laid-reads ws ix l .groups)
-
-  pub laid-wholes : WholesAt (within (ix .wholes) ws) 0 (theTable ws .wholes)
-  laid-wholes = records-start wholes (within (ix .wholes) ws) _ (laid-reads ws ix l .wholes)

@@ -1,4 +1,4 @@
--- Searches for a head and for a whole, and what their answers say of a laid-out table. Assumes nothing.
+-- Searches for a head and for a whole, and what their answers say. Assumes nothing.
 use Prim.Native.Nat.{ℕ, zero, suc, _+_, _-_, _<_, _≤_}
 use native.Mathlib.Omega.{arith}
 use mathlib.Core.Path.{_≡_, refl, sym, _∙_, ap}
@@ -10,17 +10,15 @@ use lib.Dec.{eqb}
 use borrow.Author.Tests.{le-leb, eqb-true, eqb-false, eq-eqb, ne-eqb}
 use Rattle.lists.specs.Lists.{isSome, mem}
 use Rattle.table.specs.Table.{Headed, Whole}
-use Rattle.table.specs.Layout.{mostItems, mostParts, inFront, countFits, headed, wholes}
+use Rattle.table.specs.Layout.{mostItems, inFront, countFits, headed, wholes}
 use Rattle.table.specs.declared.Span.{Span}
-use Rattle.table.specs.declared.Sections.{Sections}
 use Rattle.table.specs.declared.WholeAt.the-variants.{Lists, Unconfused}
 use Rattle.table.specs.declared.Items.{Items}
 use Rattle.table.specs.declared.WholeAt.{WholeAt}
 use Rattle.table.specs.declared.Items.the-variants.{At, Nothing}
-use Rattle.table.specs.Laid.{within, Fits, Laid, theTable}
-use Rattle.table.proofs.SectionLaws.{laid-fits, laid-reads}
+use Rattle.table.specs.Spans.{within, Fits}
 use Rattle.table.specs.Lookup.{itemsOf, wholeOf}
-use Rattle.table.specs.Part.{HeadedAt, WholesAt, HeadedHere, confusedAt, WholeHere, countedAt, recordsIn, headsIn, wholesIn, ItemsFound, WholeFound, HeadedPart, WholesPart}
+use Rattle.table.specs.Part.{HeadedAt, WholesAt, HeadedHere, confusedAt, WholeHere, countedAt, recordsIn, headsIn, wholesIn, ItemsFound, WholeFound}
 use Rattle.table.proofs.Lookups.{none-some, false-true, onlyIf-some, inFront-some, within-length, behind, within-within, behind-fits}
 use Rattle.table.proofs.Records.{count-fits, within-count, records-start, headed-end, headed-step, wholes-end, wholes-step}
 
@@ -240,36 +238,6 @@ items-narrow ws more k most part rs c (At s) e i =
     let f : Fits ws s = record { ordered = i .fit .0; inside = i .fit .1 } in
     record { same = i .same; fit = (i .fit .0, i .fit .1, omega (arith, few, within-length ws s f, i .fit .0)); filled = i .filled }
 items-narrow ws more k most part rs c Nothing e i = record { same = i .same; fit = tt; filled = tt }
-
--- what the sections of a laid-out table answer
-module _ (ws : List ℕ) (ix : Sections) (l : Laid ws ix) where
-  pub mapped-part : HeadedPart ws (ix .mapped)
-  mapped-part = record { fits = laid-fits ws ix l .mapped; parses = rw (laid-reads ws ix l .mapped) }
-
-  pub decompositions-part : HeadedPart ws (ix .decompositions)
-  decompositions-part =
-      let e = headed-wider _ mostParts mostItems _ _ (omega arith) (laid-reads ws ix l .decompositions) in
-      record { fits = laid-fits ws ix l .decompositions; parses = rw e }
-
-  pub wholes-part : WholesPart ws (ix .wholes)
-  wholes-part = record { fits = laid-fits ws ix l .wholes; parses = rw (laid-reads ws ix l .wholes) }
-
-  pub mapped-found : (c : ℕ) (r : Items) → ItemsFound ws mostItems (itemsOf (headsIn (within (ix .mapped) ws)) c) r
-      → ItemsFound ws mostItems (itemsOf (theTable ws .mapped) c) r
-  unfolding recordsIn
-  mapped-found c r i = rw (laid-reads ws ix l .mapped) at i
-
-  pub decomposition-found : (c : ℕ) (r : Items) → ItemsFound ws mostItems (itemsOf (headsIn (within (ix .decompositions) ws)) c) r
-      → ItemsFound ws mostParts (itemsOf (theTable ws .decompositions) c) r
-  unfolding recordsIn
-  decomposition-found c r i =
-      let e = laid-reads ws ix l .decompositions in
-      let w = headed-wider _ mostParts mostItems _ _ (omega arith) e in
-      items-narrow ws mostItems _ mostParts _ _ c r e (rw w at i)
-
-  pub whole-found : (c : ℕ) (r : WholeAt) → WholeFound ws (wholeOf (wholesIn (within (ix .wholes) ws)) c) r → WholeFound ws (wholeOf (theTable ws .wholes) c) r
-  unfolding recordsIn
-  whole-found c r i = rw (laid-reads ws ix l .wholes) at i
 
 -- What a caller learns where items, or a whole, are there or not.
 pub record ItemsThere (ws : List ℕ) (most : ℕ) (items : Option (List ℕ)) (s : Span) : Type 0 where

@@ -2,7 +2,7 @@
 use Prim.Native.Nat.{ℕ, zero, suc, _/_, _%_}
 use mathlib.Core.Bool.{Bool, true, false, _&&_}
 use mathlib.Core.List.{List, [], _∷_}
-use mathlib.Core.Option.{Option, none, some}
+use mathlib.Core.Option.{Option, none, some, Option·getD}
 use lib.ListN.{length, getD, take, drop}
 use lib.Dec.{leb, eqb}
 use Rattle.lists.specs.Lists.{andThen}
@@ -155,3 +155,27 @@ tableOf ss =
 unfoldable pub parse : List ℕ → Option Table
 unfolding sections tableOf
 parse ws = onlyIf (leb (length ws) mostWords) (andThen (sections sectionCount ws) tableOf)
+
+-- the table of no entries, which stands for words with a layout fault
+unfoldable pub emptyTable : Table
+emptyTable =
+    record {
+      valid = [];
+      ignored = [];
+      fenced = [];
+      marks = [];
+      nsm = [];
+      mapped = [];
+      decompositions = [];
+      emoji = [];
+      exclusions = [];
+      classes = [];
+      groups = [];
+      wholes = [];
+      escape = [];
+    }
+
+-- the table that the words hold
+unfoldable pub theTable : List ℕ → Table
+unfolding parse emptyTable
+theTable ws = Option·getD (parse ws) emptyTable

@@ -1,7 +1,6 @@
 pub mod Table
 pub mod Layout
 pub mod Lookup
-pub mod Laid
-pub mod Walk
+pub mod Spans
 pub mod Part
 pub mod GroupPart

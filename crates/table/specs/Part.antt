@@ -12,7 +12,7 @@ use Rattle.table.specs.declared.Items.{Items}
 use Rattle.table.specs.declared.Items.the-variants.{At, Nothing}
 use Rattle.table.specs.declared.WholeAt.{WholeAt}
 use Rattle.table.specs.declared.WholeAt.the-variants.{Lists, Unconfused}
-use Rattle.table.specs.Laid.{within, Fits, itemsAt, ItemsFit}
+use Rattle.table.specs.Spans.{within, Fits, itemsAt, ItemsFit}
 use Rattle.table.specs.Table.{Range, ClassRange, Headed, Group, Whole}
 use Rattle.table.specs.Layout.{mostItems, mostClass, mostFlags, ranges, headed, sequences, group, groups, wholes}
 use Rattle.table.specs.Lookup.{tableClass}

@@ -1,35 +1,10 @@
-// The name table: its layout, and lookups in it.
-pub mod escaping;
-pub mod laid;
+// The name table: lookups over the words of one section.
 pub mod lookup;
 
 // A section or a part of one: the words from `from` up to, not including, `to`.
 pub struct Span {
     pub from: usize,
     pub to: usize,
-}
-
-// Where the sections stand among the words of a table, without the counts that lead them.
-pub struct Sections {
-    pub valid: Span,
-    pub ignored: Span,
-    pub fenced: Span,
-    pub marks: Span,
-    pub nsm: Span,
-    pub mapped: Span,
-    pub decompositions: Span,
-    pub emoji: Span,
-    pub exclusions: Span,
-    pub classes: Span,
-    pub groups: Span,
-    pub wholes: Span,
-    pub escape: Span,
-}
-
-// What the layout pass finds.
-pub enum Layout {
-    Fault,
-    Found(Sections),
 }
 
 // Where the items of a record stand among the words of a table.

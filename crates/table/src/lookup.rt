@@ -1,7 +1,6 @@
-// Lookups in a table: first over the words of one section, then over the words of a table and the places of its sections.
+// Lookups over the words of one section.
 use crate::GroupRecord;
 use crate::Items;
-use crate::Sections;
 use crate::Span;
 use crate::WholeAt;
 ghost use mathlib.Core.Path.{_≡_};
@@ -10,11 +9,11 @@ ghost use lib.ListN.{length, getD};
 ghost use mathlib.Core.Bool.{true, _&&_};
 ghost use lib.Dec.{leb};
 ghost use Rattle.lists.specs.Lists.{mem, isSome};
-ghost use Rattle.table.specs.Layout.{mostItems, mostParts, headed, wholes};
-ghost use Rattle.table.specs.Lookup.{inRanges, itemsOf, wholeOf};
-ghost use Rattle.table.specs.Laid.{Laid, Fits, within, theTable};
+ghost use Rattle.table.specs.Layout.{mostItems, headed, wholes};
+ghost use Rattle.table.specs.Lookup.{itemsOf, wholeOf};
+ghost use Rattle.table.specs.Spans.{Fits, within};
 ghost use Rattle.table.specs.GroupPart.{groupAt};
-ghost use Rattle.table.specs.Part.{inPairs, classAmong, inFour, Skipped, ClassFound, countedAt, headsIn, wholesIn, HeadedPart, WholesPart, ItemsFound, WholeFound};
+ghost use Rattle.table.specs.Part.{inPairs, classAmong, inFour, Skipped, countedAt, headsIn, wholesIn, HeadedPart, WholesPart, ItemsFound, WholeFound};
 
 // Whether c lies from first to last. Both tests are made, since where pairs stand in random order a branch at the first would be a guess.
 pub fn between(c: u32, first: u32, last: u32) -> bool
@@ -254,46 +253,6 @@ pub fn whole_in_of(words: &[u32], s: Span, c: u32) -> WholeAt
     }
 }
 
-// Whether c is valid.
-pub fn is_valid(words: &[u32], ix: Sections, c: u32) -> bool
-    requires { ⌜ Laid (now words) ix ⌝ }
-    ensures { λ r. ⌜ r ≡ inRanges c (theTable (now (words .entry)) .valid) ⌝ }
-{
-    in_pairs_of(words, ix.valid, c)
-}
-
-// Whether c is ignored.
-pub fn is_ignored(words: &[u32], ix: Sections, c: u32) -> bool
-    requires { ⌜ Laid (now words) ix ⌝ }
-    ensures { λ r. ⌜ r ≡ inRanges c (theTable (now (words .entry)) .ignored) ⌝ }
-{
-    in_pairs_of(words, ix.ignored, c)
-}
-
-// Whether c is fenced.
-pub fn is_fenced(words: &[u32], ix: Sections, c: u32) -> bool
-    requires { ⌜ Laid (now words) ix ⌝ }
-    ensures { λ r. ⌜ r ≡ inRanges c (theTable (now (words .entry)) .fenced) ⌝ }
-{
-    in_pairs_of(words, ix.fenced, c)
-}
-
-// Whether c is a combining mark.
-pub fn is_mark(words: &[u32], ix: Sections, c: u32) -> bool
-    requires { ⌜ Laid (now words) ix ⌝ }
-    ensures { λ r. ⌜ r ≡ inRanges c (theTable (now (words .entry)) .marks) ⌝ }
-{
-    in_pairs_of(words, ix.marks, c)
-}
-
-// Whether c is a nonspacing mark.
-pub fn is_nsm(words: &[u32], ix: Sections, c: u32) -> bool
-    requires { ⌜ Laid (now words) ix ⌝ }
-    ensures { λ r. ⌜ r ≡ inRanges c (theTable (now (words .entry)) .nsm) ⌝ }
-{
-    in_pairs_of(words, ix.nsm, c)
-}
-
 // The class of the first triple of a section with c in it, or 0.
 pub fn class_in_of(words: &[u32], s: Span, c: u32) -> u32
     requires { ⌜ Fits (now words) s ⌝ }
@@ -302,49 +261,4 @@ pub fn class_in_of(words: &[u32], s: Span, c: u32) -> u32
     let from = s.from;
     let to = s.to;
     class_in(&words[from..to], c)
-}
-
-// The class of c.
-pub fn class_entry(words: &[u32], ix: Sections, c: u32) -> u32
-    requires { ⌜ Laid (now words) ix ⌝ }
-    ensures { λ r. ⌜ ClassFound (theTable (now (words .entry)) .classes) c r ⌝ }
-{
-    class_in_of(words, ix.classes, c)
-}
-
-// Whether c is excluded from composition.
-pub fn is_excluded(words: &[u32], ix: Sections, c: u32) -> bool
-    requires { ⌜ Laid (now words) ix ⌝ }
-    ensures { λ r. ⌜ r ≡ mem c (theTable (now (words .entry)) .exclusions) ⌝ }
-{
-    let s = ix.exclusions;
-    let items = Span {
-        from: s.from + 1,
-        to: s.to,
-    };
-    mem_in_of(words, items, c)
-}
-
-// Where the items that c is mapped to stand.
-pub fn mapped_items(words: &[u32], ix: Sections, c: u32) -> Items
-    requires { ⌜ Laid (now words) ix ⌝ }
-    ensures { λ r. ⌜ ItemsFound (now (words .entry)) mostItems (itemsOf (theTable (now (words .entry)) .mapped) c) r ⌝ }
-{
-    head_in_of(words, ix.mapped, c)
-}
-
-// Where the items of the decomposition of c stand.
-pub fn decomposition_items(words: &[u32], ix: Sections, c: u32) -> Items
-    requires { ⌜ Laid (now words) ix ⌝ }
-    ensures { λ r. ⌜ ItemsFound (now (words .entry)) mostParts (itemsOf (theTable (now (words .entry)) .decompositions) c) r ⌝ }
-{
-    head_in_of(words, ix.decompositions, c)
-}
-
-// Where the lists of the whole of c stand, if c is confused.
-pub fn whole_of(words: &[u32], ix: Sections, c: u32) -> WholeAt
-    requires { ⌜ Laid (now words) ix ⌝ }
-    ensures { λ r. ⌜ WholeFound (now (words .entry)) (wholeOf (theTable (now (words .entry)) .wholes) c) r ⌝ }
-{
-    whole_in_of(words, ix.wholes, c)
 }

@@ -1,10 +1,2 @@
 pub mod Bools
 pub mod Syllables
-pub mod Moving
-pub mod Sorting
-pub mod Rounds
-pub mod Replacing
-pub mod Pairs
-pub mod Composing
-pub mod Texts
-pub mod Scalars

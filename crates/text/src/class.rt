@@ -1,8 +1,9 @@
 // Combining classes.
 use crate::hangul;
-use table::Sections;
-ghost use Rattle.table.specs.Laid.{Laid, theTable};
-ghost use Rattle.text.specs.Work.{ClassOf};
+use sections::Sections;
+ghost use Rattle.sections.specs.Laid.{Laid};
+ghost use Rattle.table.specs.Layout.{theTable};
+ghost use Rattle.text.specs.Classes.{ClassOf};
 
 // The combining class of c: 0 for syllables and jamo, before any entry of the table.
 pub fn class_of(words: &[u32], ix: Sections, c: u32) -> u32
@@ -15,5 +16,5 @@ pub fn class_of(words: &[u32], ix: Sections, c: u32) -> u32
     if hangul::is_jamo(c) {
         return 0;
     }
-    table::lookup::class_entry(words, ix, c)
+    sections::lookup::class_entry(words, ix, c)
 }

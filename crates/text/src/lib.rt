@@ -1,8 +1,4 @@
-// Unicode text: Hangul, combining classes, decomposition, canonical ordering and composition.
+// Unicode text: Hangul and combining classes. The definitions of decomposition, canonical ordering and composition stand here too; their code
+// stands in crates above.
 pub mod class;
-pub mod compose;
-pub mod decompose;
 pub mod hangul;
-pub mod nfc;
-pub mod order;
-pub mod scalar;

@@ -11,8 +11,7 @@ use lib.ListN.{length}
 use Rattle.lists.specs.Lists.{all, countWith, isEmpty, mem}
 use Rattle.lists.specs.Laws.{Every}
 use Rattle.table.specs.Table.{Table}
-use Rattle.table.specs.Layout.{parse}
-use Rattle.table.specs.Laid.{theTable}
+use Rattle.table.specs.Layout.{parse, theTable}
 use Rattle.text.specs.Decomposition.{classOf, round, fourRounds}
 use Rattle.text.specs.Ordering.{insert, order}
 use Rattle.text.specs.Composition.{pair, compose, nfc}

@@ -11,8 +11,7 @@ use borrow.Author.Tests.{leb-true, le-leb}
 use Rattle.lists.specs.Lists.{all, andThen}
 use Rattle.lists.specs.Laws.{both, both-left, both-right, then-some}
 use Rattle.table.specs.Table.{Table, Headed, ClassRange}
-use Rattle.table.specs.Laid.{theTable, emptyTable}
-use Rattle.table.specs.Layout.{onlyIf, inFront, mostItems, mostParts, mostGroups, sectionCount, mostWords, mostClass, countFits, ranges, sections, headed, sequences, excluded, groups, wholes, classRanges, tableOf, parse}
+use Rattle.table.specs.Layout.{theTable, emptyTable, onlyIf, inFront, mostItems, mostParts, mostGroups, sectionCount, mostWords, mostClass, countFits, ranges, sections, headed, sequences, excluded, groups, wholes, classRanges, tableOf, parse}
 
 -- the record has from 1 to 4 items
 abbrev pub itemsFit : Headed → Bool

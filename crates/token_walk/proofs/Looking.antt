@@ -8,7 +8,7 @@ use lib.ListN.{length, getD, drop, length-drop}
 use lib.Seq.{length-take-le}
 use Rattle.table.specs.declared.Span.{Span}
 use Rattle.table.specs.Table.{Table}
-use Rattle.table.specs.Laid.{within}
+use Rattle.table.specs.Spans.{within}
 use Rattle.tokens.specs.declared.single.Single.{Single}
 use Rattle.tokens.specs.declared.single.Single.the-variants as single
 use Rattle.finder.specs.declared.emoji.Match.{Match}
@@ -18,7 +18,7 @@ use Rattle.finder.specs.Match.{FoundBy}
 use Rattle.tokens.specs.Single.{ItemsThere, SingleFound}
 use Rattle.tokens.specs.Scan as scan
 use Rattle.tokens.specs.Scan.{Step, codepointStep, stepAt}
-use Rattle.tokens.specs.Scanning.{firstStep}
+use Rattle.scanning.specs.Scanning.{firstStep}
 use Rattle.token_walk.specs.declared.Stands.{Stands}
 use Rattle.token_walk.specs.declared.Stands.the-variants.{Emoji, Text, Nothing}
 use Rattle.token_walk.specs.Walk.{TextStands, Gives, ignored, disallowed, StandsIs}

@@ -10,15 +10,15 @@ use lib.Dec.{ltb}
 use borrow.Author.Tests.{ltb-true, ltb-false}
 use Rattle.limits.specs.Limits.{mostWorked}
 use Rattle.table.specs.Table.{Table}
-use Rattle.tokens.specs.declared.scan.Tally.{Tally}
-use Rattle.tokens.specs.declared.scan.Scanned.{Scanned}
-use Rattle.tokens.specs.declared.scan.Scanned.the-variants as scanned
+use Rattle.scanning.specs.declared.Tally.{Tally}
+use Rattle.scanning.specs.declared.Scanned.{Scanned}
+use Rattle.scanning.specs.declared.Scanned.the-variants as scanned
 use Rattle.tokens.specs.Scan as scan
 use Rattle.tokens.specs.Scan.{Step, steps, firstDisallowed}
 use Rattle.tokens.specs.Tokens.{Token, codepoints, tokensOf, workedToken, worked, normalToken, normal, joinedTokens}
-use Rattle.tokens.specs.Scanning.{Tallied, ScanIs, Scans}
+use Rattle.scanning.specs.Scanning.{Tallied, ScanIs, Scans}
 use Rattle.tokens.specs.Cells.{Cells}
-use Rattle.tokens.specs.Normal.{NormalCells}
+use Rattle.normal_cells.specs.Normal.{NormalCells}
 use Rattle.places.specs.Places.{Source, tokenOf}
 use Rattle.places.specs.Parts.{IsFirst, tokens-first, tokens-alone}
 use Rattle.token_walk.specs.declared.Extent.{Extent}

@@ -11,7 +11,7 @@ use lib.Dec.{eqb}
 use Rattle.table.specs.Table.{Table}
 use Rattle.tokens.specs.Scan as scan
 use Rattle.tokens.specs.Scan.{Step, width, stepAt, steps}
-use Rattle.tokens.specs.Scanning.{firstStep}
+use Rattle.scanning.specs.Scanning.{firstStep}
 use Rattle.tokens.specs.Tokens.{isEmoji, tokensOf}
 use Rattle.places.specs.Places.{Source, emoji, text, tokenOf, bare, placedFrom}
 use Rattle.places.specs.Cutting.{widths, step-wide, steps-next}

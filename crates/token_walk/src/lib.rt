@@ -2,19 +2,20 @@
 // token's own part of the input, scanned alone, gives exactly that token (places/specs/Parts.antt). The report (02, Item 9) is made so.
 use finder::emoji::Match;
 use finder::emoji::find;
-use table::Sections;
-use tokens::normal::normalise;
-use tokens::scan::Scanned;
-use tokens::scan::scan;
+use normal_cells::normalise;
+use scanning::Scanned;
+use scanning::scan;
+use sections::Sections;
 use tokens::single::Single;
 use tokens::single::alone;
 ghost use Prim.Native.Nat.{_≤_};
 ghost use lib.ListN.{length};
 ghost use Rattle.limits.specs.Limits.{mostInput, leastWork};
-ghost use Rattle.table.specs.Laid.{Laid, theTable};
-ghost use Rattle.text.specs.Unpaired.{Unpaired};
+ghost use Rattle.sections.specs.Laid.{Laid};
+ghost use Rattle.table.specs.Layout.{theTable};
+ghost use Rattle.unpaired.specs.Unpaired.{Unpaired};
 ghost use Rattle.tokens.specs.Scan.{codepointStep, steps};
-ghost use Rattle.tokens.specs.Scanning.{firstStep};
+ghost use Rattle.scanning.specs.Scanning.{firstStep};
 ghost use Rattle.tokens.specs.Tokens.{tokensOf};
 ghost use Rattle.token_walk.specs.Walk.{StandsIs, TokenEnds, Walkable, Walks};
 

@@ -8,9 +8,8 @@ use mathlib.Core.Option.{Option, none, some}
 use Rattle.table.specs.declared.Span.{Span}
 use Rattle.table.specs.declared.Items.{Items}
 use Rattle.table.specs.declared.Items.the-variants as items
-use Rattle.table.specs.Layout.{mostItems}
+use Rattle.table.specs.Layout.{mostItems, theTable}
 use Rattle.table.specs.Lookup.{inRanges, itemsOf}
-use Rattle.table.specs.Laid.{theTable}
 use Rattle.table.specs.Part.{ItemsFound}
 use Rattle.tokens.specs.declared.single.Single.the-variants.{Valid, Mapped, Ignored, Disallowed}
 use Rattle.tokens.specs.Scan.{ignored, codepointStep}

@@ -1,11 +1,1 @@
 pub mod Alone
-pub mod Putting
-pub mod Marking
-pub mod Laying
-pub mod Grouping
-pub mod Stripping
-pub mod Texts
-pub mod Steps
-pub mod Reading
-pub mod Moving
-pub mod Compacting

@@ -5,7 +5,7 @@ use mathlib.Core.List.{List, [], _∷_}
 use lib.ListN.{length}
 use Rattle.table.specs.declared.Span.{Span}
 use Rattle.table.specs.Layout.{mostItems}
-use Rattle.table.specs.Laid.{within}
+use Rattle.table.specs.Spans.{within}
 use Rattle.tokens.specs.declared.single.Single.{Single}
 use Rattle.tokens.specs.declared.single.Single.the-variants.{Valid, Mapped, Ignored, Disallowed}
 use Rattle.tokens.specs.Scan.{Step, text, ignored, disallowed}

@@ -1,15 +1,15 @@
 // The step at one codepoint that no emoji sequence takes.
+use sections::Sections;
+use sections::lookup::is_ignored;
+use sections::lookup::is_valid;
+use sections::lookup::mapped_items;
 use table::Items;
-use table::Sections;
 use table::Span;
-use table::lookup::is_ignored;
-use table::lookup::is_valid;
-use table::lookup::mapped_items;
 ghost use mathlib.Core.Bool.{cond};
 ghost use mathlib.Core.Option.{none};
-ghost use Rattle.table.specs.Layout.{mostItems};
+ghost use Rattle.table.specs.Layout.{mostItems, theTable};
 ghost use Rattle.table.specs.Lookup.{itemsOf};
-ghost use Rattle.table.specs.Laid.{Laid, theTable};
+ghost use Rattle.sections.specs.Laid.{Laid};
 ghost use Rattle.table.specs.Part.{ItemsFound};
 ghost use Rattle.tokens.specs.Scan.{codepointStep};
 ghost use Rattle.tokens.specs.Single.{SingleFound};

@@ -12,7 +12,7 @@ use Rattle.buffers.proofs.Parts.{mid-tail}
 use Rattle.lists.specs.Lists.{joinedMap, placeWith}
 use Rattle.lists.specs.Laws.{joined-append}
 use Rattle.answers.specs.Verdict.{Verdict, accepted, refused, next}
-use Rattle.text.specs.Scalar.{isScalar}
+use Rattle.scalar.specs.Scalar.{isScalar}
 use Rattle.utf8.specs.declared.ReadAnswer.the-variants as reading
 use Rattle.utf8.specs.declared.WriteAnswer.the-variants as writing
 use Rattle.utf8_decode.specs.declared.Decoded.{Decoded}

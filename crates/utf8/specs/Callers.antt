@@ -11,7 +11,7 @@ use borrow.Author.Tests.{ltb-true, ltb-false}
 use Rattle.lists.specs.Lists.{placeWith, onSome, joinedMap}
 use Rattle.lists.specs.Filled.{length-filled, take-filled}
 use Rattle.answers.specs.Verdict.{Verdict, accepted, refused, next}
-use Rattle.text.specs.Scalar.{isScalar}
+use Rattle.scalar.specs.Scalar.{isScalar}
 use Rattle.utf8.specs.declared.ReadAnswer.the-variants as reading
 use Rattle.utf8.specs.declared.WriteAnswer.the-variants as writing
 use Rattle.utf8_scheme.specs.Scheme.{octets, read, write}

@@ -1,6 +1,6 @@
 // The loop of the writer.
 use crate::WriteAnswer;
-use text::scalar::is_scalar;
+use scalar::is_scalar;
 use utf8_encode::append;
 ghost use Rattle.utf8.specs.Promise.{WriteStands};
 

@@ -9,7 +9,7 @@ use lib.Bits.{bitAnd}
 use lib.Pow.{shr-shr}
 use borrow.Author.Tests.{lt-ltb, le-ltb, le-leb, lt-leb}
 use Rattle.bits.specs.Fields.{masked}
-use Rattle.text.specs.Scalar.{isScalar}
+use Rattle.scalar.specs.Scalar.{isScalar}
 use Rattle.utf8_scheme.specs.Scheme.{tail, octets, startsWith}
 use Rattle.utf8_scheme.specs.Inverse.{Row, one, two, three, four, starts-begins, begins-starts, scalar-most}
 use Rattle.utf8_decode.specs.Decoding.{Tail, DecodedIs}

@@ -1,6 +1,6 @@
 // The sequence that starts the bytes: a lead octet splits into its length mark and its payload bits, a tail octet into the mark 10 and six
 // payload bits. specs/Decoding.antt has what is promised.
-use text::scalar::is_scalar;
+use scalar::is_scalar;
 ghost use mathlib.Core.Path.{_≡_};
 ghost use Prim.Native.Nat.{_+_, _*_, _<_, _≤_};
 ghost use lib.ListN.{length, getD};

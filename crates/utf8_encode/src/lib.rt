@@ -3,7 +3,7 @@
 ghost use mathlib.Core.Path.{_≡_};
 ghost use mathlib.Core.Bool.{true};
 ghost use Prim.Native.Nat.{_+_, _<_, _^_};
-ghost use Rattle.text.specs.Scalar.{isScalar};
+ghost use Rattle.scalar.specs.Scalar.{isScalar};
 ghost use Rattle.utf8_scheme.specs.Scheme.{tail};
 ghost use Rattle.utf8_encode.specs.Storing.{Stores, Appends};
 

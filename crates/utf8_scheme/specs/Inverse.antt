@@ -14,7 +14,7 @@ use borrow.Author.Tests.{leb-true, lt-ltb, le-ltb, ltb-true, ltb-false}
 use Rattle.lists.specs.Lists.{firstWith, sameList}
 use Rattle.lists.specs.Laws.{both, both-left, both-right, same-list, found-member}
 use Rattle.lists.specs.Elements.{list-same}
-use Rattle.text.specs.Scalar.{isSurrogate, isScalar}
+use Rattle.scalar.specs.Scalar.{isSurrogate, isScalar}
 use Rattle.utf8_scheme.specs.Scheme.{tail, octets, startsWith, spelled, first}
 
 -- s stands at the front of the bytes

@@ -12,7 +12,7 @@ use Rattle.lists.specs.Lists.{sameList}
 use Rattle.lists.specs.Laws.{of-each, both}
 use Rattle.lists.specs.Elements.{list-same}
 use Rattle.answers.specs.Verdict.{accepted, refused, next}
-use Rattle.text.specs.Scalar.{isScalar}
+use Rattle.scalar.specs.Scalar.{isScalar}
 use Rattle.utf8_scheme.specs.Scheme.{octets, startsWith, first, readFrom}
 use Rattle.utf8_scheme.specs.Inverse.{starts-octets, starts-first}
 

@@ -13,7 +13,7 @@ use Rattle.lists.specs.Lists.{joinedMap, placeWith, onSome}
 use Rattle.lists.specs.Laws.{Every, every-imp}
 use Rattle.lists.specs.Elements.{place-none, none-place}
 use Rattle.answers.specs.Verdict.{Verdict, accepted, refused, next}
-use Rattle.text.specs.Scalar.{isScalar}
+use Rattle.scalar.specs.Scalar.{isScalar}
 use Rattle.utf8_scheme.specs.Scheme.{octets, startsWith, first, readFrom, read, write}
 use Rattle.utf8_scheme.specs.Inverse.{starts-octets, starts-scalar, starts-first, first-starts}
 use Rattle.utf8_scheme.specs.Reading.{octets-few, octets-start, sequence-read}

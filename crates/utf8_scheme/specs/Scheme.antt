@@ -18,7 +18,7 @@ use lib.ListN.{length, getD, take}
 use lib.Dec.{ltb}
 use Rattle.lists.specs.Lists.{firstWith, placeWith, joinedMap, onSome, sameList}
 use Rattle.answers.specs.Verdict.{Verdict, accepted, refused, next}
-use Rattle.text.specs.Scalar.{isScalar}
+use Rattle.scalar.specs.Scalar.{isScalar}
 
 -- "10xxxxxx": a tail octet, with the six lowest bits of n
 abbrev pub tail : ℕ → ℕ

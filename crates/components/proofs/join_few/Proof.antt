@@ -2,7 +2,7 @@
 use Prim.Native.Nat.{_+_, _-_}
 use lib.ListN.{length, replicate}
 use borrow.Rule.Slice.PartMut.{postOf}
-use Rattle.components.specs.Batch.{batch}
+use Rattle.group_numbers.specs.Batch.{batch}
 use Rattle.components.proofs.JoinLaws.{back-front, front-fits, front-order, front-few, front-joins}
 use borrow.Author.Needs.{needs}
 use Rattle.components.proofs.join_few.Statement.{statement}

@@ -1,7 +1,7 @@
 -- `which_emoji`: a layout fault, a match, or none. Assumes nothing.
 use mathlib.Core.Path.{sym, _∙_}
 use borrow.Author.Needs.{needs}
-use Rattle.table.proofs.SectionLaws.{found-laid}
+use Rattle.sections.proofs.SectionLaws.{found-laid}
 use Rattle.emoji_call.proofs.Telling.{told-fault, told-found, told-nothing}
 use Rattle.emoji_call.proofs.which_emoji.Statement.{statement}
 use Rattle.emoji_call.proofs.which_emoji.Tie as tie

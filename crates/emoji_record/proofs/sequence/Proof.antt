@@ -1,6 +1,6 @@
 -- `sequence`: what stands in the emoji section stands among the words of the table. Assumes nothing.
 use native.Mathlib.Omega.{arith}
-use Rattle.table.proofs.SectionLaws.{laid-fits}
+use Rattle.sections.proofs.SectionLaws.{laid-fits}
 use Rattle.finder.proofs.Finding.{emoji-sequences}
 use Rattle.emoji_record.proofs.Seeking.{section-sequence}
 use Rattle.emoji_record.proofs.sequence.Statement.{statement}

@@ -2,7 +2,7 @@
 use mathlib.Core.Path.{sym, _∙_}
 use denote.Ref.{now}
 use borrow.Author.Needs.{needs}
-use Rattle.table.specs.Laid.{Laid}
+use Rattle.sections.specs.Laid.{Laid}
 use Rattle.groups.proofs.CallLaws.{call-fault, call-long, call-searched}
 use Rattle.groups.proofs.group.Statement.{statement}
 use Rattle.groups.proofs.group.Tie as tie

@@ -5,7 +5,7 @@ use Prim.Native.Nat.{_-_}
 use native.Mathlib.Omega.{arith}
 use mathlib.Core.Path.{_∙_, sym}
 use lib.ListN.{length}
-use Rattle.table.specs.Laid.{within}
+use Rattle.table.specs.Spans.{within}
 use Rattle.table.specs.Part.{inPairs}
 use Rattle.table.proofs.GroupWalks.{group-room, group-few, pairs-fit, next-more, next-inside}
 use Rattle.groups.proofs.GroupLaws.{Asking, ask-start, ask-on, ask-missing, ask-stop, Searching, lacking-start, lacking-on, lacking-hit, lacking-stop}

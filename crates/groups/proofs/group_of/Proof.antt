@@ -1,7 +1,7 @@
 -- `groups::group_of` meets its contract: the section is that of the table. Assumes nothing.
 use native.Mathlib.Omega.{arith}
-use Rattle.table.proofs.SectionLaws.{laid-fits}
-use Rattle.table.proofs.GroupWalks.{laid-part, laid-same}
+use Rattle.sections.proofs.SectionLaws.{laid-fits}
+use Rattle.sections.proofs.LaidParts.{laid-part, laid-same}
 use Rattle.groups.proofs.group_of.Statement.{statement}
 use Rattle.groups.proofs.group_of.Tie as tie
 

@@ -1,5 +1,5 @@
 -- `lookalike::confusable` meets its contract: the flags that are left say whether some group can spell the text otherwise. Assumes nothing.
-use Rattle.table.proofs.SectionLaws.{laid-reads}
+use Rattle.sections.proofs.SectionLaws.{laid-reads}
 use Rattle.lookalike.proofs.RespellingLaws.{respelt-size, respelt-seen, respelt-unseen}
 use borrow.Author.Needs.{needs}
 use Rattle.lookalike.proofs.confusable.Statement.{statement}

@@ -4,9 +4,9 @@ use native.Mathlib.Omega.{arith}
 use mathlib.Core.Path.{_∙_, sym}
 use mathlib.Core.Logic.{⊎-elim}
 use lib.ListN.{length}
-use Rattle.table.specs.Laid.{theTable}
-use Rattle.table.proofs.SectionLaws.{laid-reads}
-use Rattle.lookalike.specs.Memo.{Memo}
+use Rattle.table.specs.Layout.{theTable}
+use Rattle.sections.proofs.SectionLaws.{laid-reads}
+use Rattle.memo.specs.Memo.{Memo}
 use Rattle.lookalike.proofs.RespellingLaws.{Spelt, spelt-start, spelt-size, spelt-on, spelt-stop, seen-now, seen-before}
 use borrow.Author.Needs.{needs}
 use Rattle.lookalike.proofs.respellings.Statement.{statement}

@@ -1,8 +1,8 @@
 -- `list_area`: nothing is known of the table at first but its sections. Assumes nothing.
 use denote.Ref.{now}
 use borrow.Author.Needs.{needs}
-use Rattle.text.proofs.Pairs.{unpaired-none}
-use Rattle.lookalike.proofs.MemoLaws.{memo-new}
+use Rattle.unpaired.proofs.Noting.{unpaired-none}
+use Rattle.memo.proofs.MemoLaws.{memo-new}
 use Rattle.moved.proofs.MovedLaws.{area-slots, area-listed}
 use Rattle.moved.proofs.list_area.Statement.{statement}
 use Rattle.moved.proofs.list_area.Tie as tie

@@ -3,10 +3,10 @@ use native.Mathlib.Omega.{arith}
 use mathlib.Core.Path.{sym, _∙_}
 use lib.Seq.{length-take-le}
 use denote.Ref.{now}
-use Rattle.table.specs.Laid.{theTable}
-use Rattle.table.proofs.SectionLaws.{found-laid}
+use Rattle.table.specs.Layout.{theTable}
+use Rattle.sections.proofs.SectionLaws.{found-laid}
 use Rattle.text.specs.Composition.{nfc}
-use Rattle.text.proofs.Pairs.{unpaired-none}
+use Rattle.unpaired.proofs.Noting.{unpaired-none}
 use Rattle.normal_forms.specs.Promise.{Ordered}
 use Rattle.normal_forms.proofs.Answer.{fault-stands, refused-stands, standing-formed, ordered-ready, composed-stands}
 use borrow.Author.Needs.{needs}

@@ -2,7 +2,7 @@
 use native.Mathlib.Omega.{arith}
 use borrow.Author.Needs.{needs}
 use mathlib.Core.Path.{sym, _∙_}
-use Rattle.table.proofs.SectionLaws.{found-laid}
+use Rattle.sections.proofs.SectionLaws.{found-laid}
 use Rattle.normal_forms.proofs.Answer.{fault-stands, nfd-stands}
 use Rattle.normal_forms.proofs.nfd_front.Statement.{statement}
 use Rattle.normal_forms.proofs.nfd_front.Tie as tie

@@ -3,9 +3,9 @@ use Prim.Native.Nat.{_+_, _-_}
 use native.Mathlib.Omega.{arith}
 use mathlib.Core.Path.{refl, sym, _∙_}
 use lib.ListN.{length}
-use Rattle.table.specs.Laid.{theTable}
+use Rattle.table.specs.Layout.{theTable}
 use Rattle.name.proofs.Parting.{label-length}
-use Rattle.name.proofs.Passing.{judged-room, judged-count, judged-short, judged-worked}
+use Rattle.one_label.proofs.Said.{judged-room, judged-count, judged-short, judged-worked}
 use Rattle.refiling.specs.Labels.{Lasting}
 use Rattle.refiling.proofs.FilingLaws.{Going, go-start, go-end, go-refused, go-more}
 use borrow.Author.Needs.{needs}

@@ -3,7 +3,7 @@ use Prim.Native.Nat.{_-_}
 use native.Mathlib.Omega.{arith}
 use lib.ListN.{length}
 use borrow.Author.Needs.{needs}
-use Rattle.table.specs.Laid.{theTable}
+use Rattle.table.specs.Layout.{theTable}
 use Rattle.report_lines.proofs.Putting.{Showing, showing-start, showing-more, showing-end}
 use Rattle.report_lines.proofs.put_codepoints.Statement.{statement}
 use Rattle.report_lines.proofs.put_codepoints.Tie as tie

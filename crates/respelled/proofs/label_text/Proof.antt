@@ -1,7 +1,7 @@
 -- `label_text`: the tokens in normal form, and their text alone. Assumes nothing.
 use native.Mathlib.Omega.{arith}
 use mathlib.Core.Path.{_∙_}
-use Rattle.text.proofs.Pairs.{unpaired-none}
+use Rattle.unpaired.proofs.Noting.{unpaired-none}
 use borrow.Author.Needs.{needs}
 use Rattle.respelled.proofs.ListLaws.{not-disallowed, worked-few, text-stands}
 use Rattle.respelled.proofs.label_text.Statement.{statement}

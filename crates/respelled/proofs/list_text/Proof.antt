@@ -1,8 +1,8 @@
 -- `list_text`: the groups whose flags the look-alike test left, or none. Assumes nothing.
 use mathlib.Core.Path.{refl}
 use borrow.Author.Tests.{not-true, not-false}
-use Rattle.table.proofs.SectionLaws.{laid-reads}
-use Rattle.lookalike.proofs.MemoLaws.{memo-new}
+use Rattle.sections.proofs.SectionLaws.{laid-reads}
+use Rattle.memo.proofs.MemoLaws.{memo-new}
 use Rattle.lookalike.proofs.RespellingLaws.{respelt-size}
 use borrow.Author.Needs.{needs}
 use Rattle.respelled.proofs.ListLaws.{text-unseen, text-seen}

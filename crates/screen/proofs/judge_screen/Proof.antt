@@ -1,6 +1,6 @@
 -- `judge_screen`: what 1 to 4 leave. Assumes nothing.
 use borrow.Author.Needs.{needs}
-use Rattle.lookalike.proofs.MemoLaws.{memo-new}
+use Rattle.memo.proofs.MemoLaws.{memo-new}
 use Rattle.name.proofs.Answering.{admits}
 use Rattle.screen.proofs.Calling.{screen-admitted, screen-not-admitted}
 use Rattle.screen.proofs.judge_screen.Statement.{statement}

@@ -4,10 +4,10 @@ use native.Mathlib.Omega.{arith}
 use mathlib.Core.Path.{sym, _∙_}
 use mathlib.Core.Logic.{⊎-elim}
 use lib.ListN.{length}
-use Rattle.table.specs.Laid.{theTable}
-use Rattle.text.specs.Unpaired.{Unpaired}
-use Rattle.text.proofs.Pairs.{unpaired-none}
-use Rattle.lookalike.specs.Memo.{Memo}
+use Rattle.table.specs.Layout.{theTable}
+use Rattle.unpaired.specs.Unpaired.{Unpaired}
+use Rattle.unpaired.proofs.Noting.{unpaired-none}
+use Rattle.memo.specs.Memo.{Memo}
 use Rattle.name.proofs.Parting.{label-length}
 use Rattle.screen.proofs.Passing.{Passed, pass-start, pass-empty, pass-done, pass-refused, pass-barred, pass-walks, pass-worked, pass-room, pass-more}
 use borrow.Author.Needs.{needs}

@@ -1,7 +1,7 @@
 -- `sound_check::soundness` meets its contract. Assumes nothing.
 use denote.Ref.{now}
 use mathlib.Core.Path.{sym, _∙_}
-use Rattle.table.proofs.SectionLaws.{found-laid}
+use Rattle.sections.proofs.SectionLaws.{found-laid}
 use Rattle.sound_check.proofs.CheckLaws.{found-check, fault-check}
 use borrow.Author.Needs.{needs}
 use Rattle.sound_check.proofs.soundness.Statement.{statement}

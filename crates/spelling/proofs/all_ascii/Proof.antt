@@ -4,9 +4,8 @@ use native.Mathlib.Omega.{arith}
 use mathlib.Core.Path.{sym}
 use lib.ListN.{length}
 use borrow.Author.Tests.{lt-ltb, le-ltb}
-use Rattle.table.proofs.Lookups.{Walk, walk-start}
+use Rattle.table.proofs.Lookups.{Walk, walk-start, all-on, all-not, all-stop}
 use Rattle.spelling.specs.Spelling.{allAscii}
-use Rattle.table.proofs.Lookups.{all-on, all-not, all-stop}
 use borrow.Author.Needs.{needs}
 use Rattle.spelling.proofs.all_ascii.Statement.{statement}
 use Rattle.spelling.proofs.all_ascii.Tie as tie

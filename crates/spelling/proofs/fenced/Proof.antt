@@ -4,7 +4,7 @@ use mathlib.Core.Logic.{⊎-elim}
 use Prim.Native.Nat.{_-_}
 use native.Mathlib.Omega.{arith}
 use lib.ListN.{length}
-use Rattle.table.specs.Laid.{theTable}
+use Rattle.table.specs.Layout.{theTable}
 use Rattle.spelling.proofs.SpellingLaws.{Beside, fenced-none, fenced-start, fenced-stop, fenced-hit, fenced-on}
 use borrow.Author.Needs.{needs}
 use Rattle.spelling.proofs.fenced.Statement.{statement}

@@ -3,7 +3,7 @@ use Prim.Native.Nat.{_-_}
 use native.Mathlib.Omega.{arith}
 use mathlib.Core.Path.{_∙_, sym}
 use mathlib.Core.Logic.{⊎-elim}
-use Rattle.table.specs.Laid.{theTable}
+use Rattle.table.specs.Layout.{theTable}
 use Rattle.spelling.proofs.LeadingLaws.{LeadWalk, lead-start, lead-stop, lead-hit, lead-plain, lead-later}
 use borrow.Author.Needs.{needs}
 use Rattle.spelling.proofs.leading_mark.Statement.{statement}

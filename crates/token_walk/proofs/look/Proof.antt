@@ -1,6 +1,6 @@
 -- `look`: an emoji where one is found, else one codepoint. Assumes nothing.
 use borrow.Author.Needs.{needs}
-use Rattle.table.specs.Laid.{theTable}
+use Rattle.table.specs.Layout.{theTable}
 use Rattle.token_walk.proofs.Looking.{look-emoji, look-codepoint}
 use Rattle.token_walk.proofs.look.Statement.{statement}
 use Rattle.token_walk.proofs.look.Tie as tie

@@ -3,7 +3,7 @@ use Prim.Native.Nat.{_-_}
 use native.Mathlib.Omega.{arith}
 use borrow.Author.Needs.{needs}
 use lib.ListN.{length}
-use Rattle.table.specs.Laid.{theTable}
+use Rattle.table.specs.Layout.{theTable}
 use Rattle.token_walk.proofs.Walking.{Walking, walking-start, walking-left, walking-nothing, walking-taken, walking-emoji, walking-text, ends-emoji, ends-text, ends-label, as-emoji, as-text, as-nothing}
 use Rattle.token_walk.proofs.token_end.Statement.{statement}
 use Rattle.token_walk.proofs.token_end.Tie as tie

@@ -1,7 +1,7 @@
 -- `finder::emoji::find` meets its contract: what is found in the emoji section is what the table has. Assumes nothing.
 use native.Mathlib.Omega.{arith}
 use borrow.Author.Needs.{needs}
-use Rattle.table.proofs.SectionLaws.{laid-fits}
+use Rattle.sections.proofs.SectionLaws.{laid-fits}
 use Rattle.finder.proofs.Finding.{emoji-sequences, found-at, found-nothing}
 use Rattle.finder.proofs.emoji.find.Statement.{statement}
 use Rattle.finder.proofs.emoji.find.Tie as tie

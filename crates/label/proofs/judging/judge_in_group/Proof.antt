@@ -2,7 +2,7 @@
 use mathlib.Core.Path.{_∙_}
 use mathlib.Core.Logic.{⊎-elim}
 use denote.Ref.{now}
-use Rattle.table.specs.Laid.{theTable}
+use Rattle.table.specs.Layout.{theTable}
 use Rattle.nsm.specs.Marks.{nsmFits}
 use Rattle.label.proofs.VerdictLaws.{verdict-group}
 use Rattle.label.proofs.JudgingLaws.{fits-asked, fits-known}

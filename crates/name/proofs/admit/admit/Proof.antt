@@ -2,7 +2,7 @@
 use mathlib.Core.Path.{sym, _∙_}
 use denote.Ref.{now}
 use borrow.Author.Needs.{needs}
-use Rattle.table.specs.Laid.{Laid}
+use Rattle.sections.specs.Laid.{Laid}
 use Rattle.name.proofs.Admitting.{admitted-fault, admitted-work, admitted-long, admitted-scalar, admitted-all}
 use Rattle.name.proofs.admit.admit.Statement.{statement}
 use Rattle.name.proofs.admit.admit.Tie as tie

@@ -3,7 +3,7 @@ use Prim.Native.Nat.{_-_}
 use mathlib.Core.Bool.{not}
 use lib.ListN.{length}
 use borrow.Author.Needs.{needs}
-use Rattle.text.specs.Scalar.{isScalar}
+use Rattle.scalar.specs.Scalar.{isScalar}
 use Rattle.name.proofs.Admitting.{Search, search-start, search-stop, search-hit, search-more}
 use Rattle.name.proofs.admit.first_not_scalar.Statement.{statement}
 use Rattle.name.proofs.admit.first_not_scalar.Tie as tie

@@ -4,8 +4,8 @@ use native.Mathlib.Omega.{arith}
 use mathlib.Core.Path.{sym, _∙_}
 use mathlib.Core.Bool.{false}
 use borrow.Author.Tests.{not-true, not-false}
-use Rattle.table.specs.Laid.{theTable}
-use Rattle.table.proofs.SectionLaws.{laid-fits}
+use Rattle.table.specs.Layout.{theTable}
+use Rattle.sections.proofs.SectionLaws.{laid-fits}
 use Rattle.sound_choices.specs.Rounds.{startOf}
 use Rattle.rule_2.specs.Cover.{covered}
 use Rattle.rule_2.proofs.CoverLaws.{window-covered}

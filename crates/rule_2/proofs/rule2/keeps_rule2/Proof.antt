@@ -1,6 +1,6 @@
 -- `rule_2::rule2::keeps_rule2` meets its contract: the sections of the decompositions and of the groups. Assumes nothing.
 use native.Mathlib.Omega.{arith}
-use Rattle.table.proofs.SectionLaws.{laid-fits}
+use Rattle.sections.proofs.SectionLaws.{laid-fits}
 use Rattle.rule_2.proofs.PointLaws.{parts-of}
 use borrow.Author.Needs.{needs}
 use Rattle.rule_2.proofs.rule2.keeps_rule2.Statement.{statement}

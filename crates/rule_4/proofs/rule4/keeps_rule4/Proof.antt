@@ -1,6 +1,6 @@
 -- `rule_4::rule4::keeps_rule4` meets its contract: the words of the section spell the sequences. Assumes nothing.
 use mathlib.Core.Path.{_∙_}
-use Rattle.table.proofs.SectionLaws.{laid-fits}
+use Rattle.sections.proofs.SectionLaws.{laid-fits}
 use Rattle.sound_parts.proofs.SectionsHold.{emoji-hold, emoji-are}
 use Rattle.rule_4.proofs.StripLaws.{rule4-parts}
 use Rattle.rule_4.proofs.rule4.keeps_rule4.Statement.{statement}

@@ -3,7 +3,7 @@ use denote.Ref.{now}
 use Prim.Native.Nat.{_-_}
 use mathlib.Core.Path.{sym, _∙_}
 use lib.ListN.{length}
-use Rattle.table.specs.Laid.{theTable}
+use Rattle.table.specs.Layout.{theTable}
 use Rattle.rule_5.proofs.ApartLaws.{ApartWalk, apart-none, apart-start, apart-broken, apart-on, apart-done}
 use borrow.Author.Needs.{needs}
 use native.Mathlib.Omega.{arith}

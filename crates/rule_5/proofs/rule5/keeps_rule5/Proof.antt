@@ -1,6 +1,6 @@
 -- `rule_5::rule5::keeps_rule5` meets its contract: the words of the section spell the sequences. Assumes nothing.
 use mathlib.Core.Path.{_∙_}
-use Rattle.table.proofs.SectionLaws.{laid-fits}
+use Rattle.sections.proofs.SectionLaws.{laid-fits}
 use Rattle.sound_parts.proofs.SectionsHold.{emoji-part}
 use Rattle.rule_5.proofs.ApartLaws.{rule5-is}
 use Rattle.rule_5.proofs.rule5.keeps_rule5.Statement.{statement}

@@ -1,7 +1,7 @@
 -- `rule_5::rule5::one_valid` meets its contract. Assumes nothing.
 use denote.Ref.{now}
 use mathlib.Core.Path.{_∙_}
-use Rattle.table.specs.Laid.{theTable}
+use Rattle.table.specs.Layout.{theTable}
 use Rattle.rule_5.proofs.ApartLaws.{one-none, one-more, one-is}
 use borrow.Author.Needs.{needs}
 use native.Mathlib.Omega.{arith}

@@ -4,7 +4,7 @@ use mathlib.Core.Path.{sym, _∙_}
 use lib.ListN.{take, length-take}
 use borrow.Author.Needs.{needs}
 use native.Mathlib.Omega.{arith}
-use Rattle.table.specs.Laid.{theTable}
+use Rattle.table.specs.Layout.{theTable}
 use Rattle.rule_5.specs.Apart.{standsAlone}
 use Rattle.rule_5.proofs.ApartLaws.{and-true, and-false}
 use Rattle.rule_5.proofs.rule5.parts_at.Statement.{statement}

@@ -4,7 +4,7 @@ use native.Mathlib.Omega.{arith}
 use mathlib.Core.Path.{sym, _∙_}
 use mathlib.Core.Bool.{true}
 use borrow.Author.Tests.{not-true, not-false}
-use Rattle.table.specs.Laid.{theTable}
+use Rattle.table.specs.Layout.{theTable}
 use Rattle.sound_choices.specs.Rounds.{startOf}
 use Rattle.rule_6.specs.Heads.{settled}
 use Rattle.rule_2.proofs.WindowLaws.{Asked, asked-start, asked-on, asked-held, passed-all, window-on, window-not}

@@ -6,7 +6,7 @@ use mathlib.Core.Path.{_∙_, ap}
 use lib.ListN.{length-replicate}
 use Rattle.lists.specs.Lists.{all}
 use Rattle.table.specs.Table.{Headed}
-use Rattle.table.specs.Laid.{theTable}
+use Rattle.table.specs.Layout.{theTable}
 use Rattle.bit_sets.specs.Sets.{windowWords}
 use Rattle.bit_sets.proofs.PutLaws.{empty-has}
 use Rattle.sound_choices.specs.Rounds.{headsOf, rowWords}

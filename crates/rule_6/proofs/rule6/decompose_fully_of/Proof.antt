@@ -1,6 +1,6 @@
 -- `rule_6::rule6::decompose_fully_of` meets its contract: the sections of the decompositions and of the groups. Assumes nothing.
 use native.Mathlib.Omega.{arith}
-use Rattle.table.proofs.SectionLaws.{laid-fits}
+use Rattle.sections.proofs.SectionLaws.{laid-fits}
 use Rattle.rule_2.proofs.PointLaws.{parts-of}
 use borrow.Author.Needs.{needs}
 use Rattle.rule_6.proofs.rule6.decompose_fully_of.Statement.{statement}

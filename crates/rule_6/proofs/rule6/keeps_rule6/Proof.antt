@@ -1,9 +1,9 @@
 -- `rule_6::rule6::keeps_rule6` meets its contract: the words of the sections spell the decompositions and the classes. Assumes nothing.
 use denote.Ref.{now}
-use Rattle.table.specs.Laid.{theTable}
+use Rattle.table.specs.Layout.{theTable}
 use mathlib.Core.Path.{sym, _∙_}
 use borrow.Author.Tests.{not-true, not-false}
-use Rattle.table.proofs.SectionLaws.{laid-fits, laid-reads}
+use Rattle.sections.proofs.SectionLaws.{laid-fits, laid-reads}
 use Rattle.sound_parts.proofs.SectionsHold.{decompositions-hold, decompositions-are}
 use Rattle.rule_6.specs.Heads.{sparesTriple}
 use Rattle.sound_parts.proofs.Walks.{triples-all}

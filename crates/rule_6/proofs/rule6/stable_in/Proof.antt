@@ -3,7 +3,7 @@ use Prim.Native.Nat.{_-_}
 use native.Mathlib.Omega.{arith}
 use mathlib.Core.Path.{sym, _∙_}
 use borrow.Author.Tests.{not-true, not-false}
-use Rattle.table.specs.Laid.{theTable}
+use Rattle.table.specs.Layout.{theTable}
 use Rattle.rule_6.specs.Heads.{stableAt}
 use Rattle.rule_2.proofs.WindowLaws.{Passed, passed-on, passed-all, passed-not}
 use borrow.Author.Needs.{needs}

@@ -1,7 +1,7 @@
 -- `rule_7::rule7::is_pair` meets its contract. Assumes nothing.
 use denote.Ref.{now}
 use mathlib.Core.Path.{sym, _∙_}
-use Rattle.table.specs.Laid.{theTable}
+use Rattle.table.specs.Layout.{theTable}
 use Rattle.rule_7.proofs.PairLaws.{pair-not-two, pair-excluded, pair-head, pair-first}
 use native.Mathlib.Omega.{arith}
 use Rattle.rule_7.proofs.rule7.is_pair.Statement.{statement}

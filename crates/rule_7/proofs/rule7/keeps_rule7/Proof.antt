@@ -1,6 +1,6 @@
 -- `rule_7::rule7::keeps_rule7` meets its contract: the words of the section spell the decompositions. Assumes nothing.
 use mathlib.Core.Path.{_∙_}
-use Rattle.table.proofs.SectionLaws.{laid-fits}
+use Rattle.sections.proofs.SectionLaws.{laid-fits}
 use Rattle.sound_parts.proofs.SectionsHold.{decompositions-hold, decompositions-are}
 use Rattle.rule_7.proofs.PairLaws.{rule7-is}
 use Rattle.rule_7.proofs.rule7.keeps_rule7.Statement.{statement}

@@ -2,7 +2,7 @@
 use mathlib.Core.Path.{sym, _∙_}
 use borrow.Author.Tests.{not-true, not-false}
 use Rattle.soundness.specs.Scalars.{scalarsBetween}
-use Rattle.table.proofs.SectionLaws.{laid-fits, laid-reads}
+use Rattle.sections.proofs.SectionLaws.{laid-fits, laid-reads}
 use Rattle.sound_parts.proofs.ScalarLaws.{rule1-parts}
 use Rattle.sound_parts.proofs.Walks.{pairs-all}
 use Rattle.rules_1_3.proofs.rule1.keeps_rule1.Statement.{statement}

@@ -5,7 +5,7 @@ use borrow.Author.Tests.{not-true, not-false}
 use Rattle.lists.specs.Lists.{all}
 use Rattle.table.specs.Table.{Group, Whole}
 use Rattle.sound_parts.specs.Parts.{othersScalar, scalarTriple, scalarGroup, scalarWhole}
-use Rattle.table.proofs.SectionLaws.{laid-fits, laid-reads}
+use Rattle.sections.proofs.SectionLaws.{laid-fits, laid-reads}
 use Rattle.sound_parts.proofs.Walks.{triples-all}
 use Rattle.sound_parts.proofs.SectionsHold.{groups-hold, groups-are, wholes-hold, wholes-are}
 use Rattle.rules_1_3.proofs.rule1.scalar_others.Statement.{statement}

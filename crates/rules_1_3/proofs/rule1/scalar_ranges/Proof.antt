@@ -3,7 +3,7 @@ use mathlib.Core.Path.{sym, _∙_}
 use borrow.Author.Tests.{not-true, not-false}
 use Rattle.soundness.specs.Scalars.{scalarsBetween}
 use Rattle.sound_parts.specs.Parts.{rangesScalar}
-use Rattle.table.proofs.SectionLaws.{laid-fits, laid-reads}
+use Rattle.sections.proofs.SectionLaws.{laid-fits, laid-reads}
 use Rattle.sound_parts.proofs.Walks.{pairs-all}
 use Rattle.rules_1_3.proofs.rule1.scalar_ranges.Statement.{statement}
 use Rattle.rules_1_3.proofs.rule1.scalar_ranges.Tie as tie

@@ -5,11 +5,11 @@ use mathlib.Core.List.{List}
 use borrow.Author.Tests.{not-true, not-false}
 use Rattle.lists.specs.Lists.{all}
 use Rattle.table.specs.Table.{Headed}
-use Rattle.text.specs.Scalar.{isScalar}
+use Rattle.scalar.specs.Scalar.{isScalar}
 use Rattle.soundness.specs.Scalars.{scalarHeaded}
 use Rattle.sound_parts.specs.Parts.{recordsScalar}
-use Rattle.table.proofs.SectionLaws.{laid-fits}
-use Rattle.table.proofs.Lookups.{laid-excluded}
+use Rattle.sections.proofs.SectionLaws.{laid-fits}
+use Rattle.sections.proofs.LaidParts.{laid-excluded}
 use Rattle.sound_parts.proofs.SectionsHold.{mapped-hold, mapped-are, decompositions-hold, decompositions-are, emoji-hold, emoji-are}
 use Rattle.rules_1_3.proofs.rule1.scalar_records.Statement.{statement}
 use Rattle.rules_1_3.proofs.rule1.scalar_records.Tie as tie

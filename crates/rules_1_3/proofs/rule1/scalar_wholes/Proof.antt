@@ -8,7 +8,7 @@ use Rattle.sound_parts.specs.Parts.{scalarWhole, scalarLists}
 use Rattle.table.specs.Layout.{wholes}
 use Rattle.sound_parts.proofs.Walks.{Through, through-start, whole-room, whole-room-2, whole-valid-in, whole-confused-in, whole-less, wholes-broken, wholes-on, wholes-done}
 use Rattle.lists.specs.Tests.{all-both}
-use Rattle.text.specs.Scalar.{isScalar}
+use Rattle.scalar.specs.Scalar.{isScalar}
 use native.Mathlib.Omega.{arith}
 use Rattle.rules_1_3.proofs.rule1.scalar_wholes.Statement.{statement}
 use Rattle.rules_1_3.proofs.rule1.scalar_wholes.Tie as tie

@@ -4,10 +4,10 @@ use mathlib.Core.List.{List}
 use denote.Ref.{now}
 use Rattle.lists.specs.Lists.{all}
 use Rattle.table.specs.Table.{Headed}
-use Rattle.table.specs.Laid.{theTable}
+use Rattle.table.specs.Layout.{theTable}
 use Rattle.soundness.specs.Valid.{rule3}
 use Rattle.sound_parts.specs.Parts.{mapsToValid}
-use Rattle.table.proofs.SectionLaws.{laid-fits}
+use Rattle.sections.proofs.SectionLaws.{laid-fits}
 use Rattle.sound_parts.proofs.SectionsHold.{mapped-hold, mapped-are}
 use Rattle.rules_1_3.proofs.rule3.keeps_rule3.Statement.{statement}
 use Rattle.rules_1_3.proofs.rule3.keeps_rule3.Tie as tie

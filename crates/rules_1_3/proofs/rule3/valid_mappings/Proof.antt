@@ -4,7 +4,7 @@ use mathlib.Core.Path.{sym, _∙_}
 use borrow.Author.Tests.{not-true, not-false}
 use lib.ListN.{length}
 use Rattle.lists.specs.Lists.{all}
-use Rattle.table.specs.Laid.{theTable}
+use Rattle.table.specs.Layout.{theTable}
 use Rattle.sound_parts.specs.Parts.{asHeaded, mapsToValid, validLists}
 use Rattle.sound_parts.proofs.Walks.{Through, through-start, head-room, head-fits, head-less, heads-broken, heads-on, heads-done}
 use borrow.Author.Needs.{needs}

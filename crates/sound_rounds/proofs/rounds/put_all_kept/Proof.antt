@@ -2,7 +2,7 @@
 use Prim.Native.Nat.{_+_, _-_}
 use mathlib.Core.Path.{_∙_}
 use Rattle.lists.specs.Lists.{mem, joinedMap}
-use Rattle.table.specs.Laid.{theTable}
+use Rattle.table.specs.Layout.{theTable}
 use Rattle.soundness.specs.Valid.{countedFrom}
 use Rattle.bit_sets.proofs.PutLaws.{Putting, putting-start}
 use Rattle.sound_choices.specs.Rounds.{keptAt}

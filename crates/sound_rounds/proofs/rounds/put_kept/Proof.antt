@@ -3,7 +3,7 @@ use denote.Ref.{now}
 use native.Mathlib.Omega.{arith}
 use mathlib.Core.Path.{sym, _∙_}
 use borrow.Author.Tests.{not-true, not-false}
-use Rattle.table.specs.Laid.{theTable}
+use Rattle.table.specs.Layout.{theTable}
 use Rattle.sound_choices.proofs.RoundLaws.{kept-none, kept-syllable, kept-head, kept-plain}
 use Rattle.sound_choices.proofs.WalkLaws.{put-list, put-place, put-nothing}
 use borrow.Author.Needs.{needs}

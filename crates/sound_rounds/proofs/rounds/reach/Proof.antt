@@ -3,7 +3,7 @@ use denote.Ref.{now}
 use Prim.Native.Nat.{_-_, _≤_}
 use native.Mathlib.Omega.{arith}
 use mathlib.Core.Path.{sym, _∙_}
-use Rattle.table.specs.Laid.{theTable}
+use Rattle.table.specs.Layout.{theTable}
 use Rattle.sound_choices.specs.Rounds.{startOf}
 use Rattle.sound_rounds.proofs.ReachLaws.{Reaching, reach-start, reach-on, reach-done, start-held, heads-held}
 use borrow.Author.Needs.{needs}

@@ -1,0 +1,2 @@
+pub mod Confusable
+pub mod Extent

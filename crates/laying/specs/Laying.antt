@@ -1,0 +1,118 @@
+-- Laying tokens down step by step: what the steps of a label put into the work area. Assumes nothing.
+use Prim.Native.Nat.{ℕ, zero, suc, _+_, _-_, _≤_, _<_}
+use mathlib.Core.Path.{_≡_}
+use mathlib.Core.Bool.{Bool, true, false, not}
+use mathlib.Core.List.{List, [], _∷_, _++_}
+use lib.ListN.{length, take, drop, replicate}
+use Rattle.lists.specs.Lists.{any, joinedMap, isEmpty}
+use Rattle.limits.specs.Limits.{mostWorked}
+use Rattle.table.specs.Table.{Table}
+use Rattle.table.specs.declared.Span.{Span}
+use Rattle.table.specs.Spans.{within}
+use Rattle.text.specs.Decomposition.{fourRounds}
+use Rattle.decomposition.specs.Rounds.{placed}
+use Rattle.laying.specs.declared.Run.{Run}
+use Rattle.finder.specs.Emoji.{Found, strip}
+use Rattle.tokens.specs.Scan.{Step, emoji, text, ignored, disallowed}
+
+-- n marks: one, and then others
+abbrev pub runMarks : ℕ → ℕ → ℕ → List ℕ
+runMarks first later zero = []
+runMarks first later (suc n) = first ∷ replicate n later
+
+-- the mark of the next codepoint of a text with n codepoints so far
+abbrev pub nextMark : ℕ → ℕ → ℕ
+nextMark m zero = m
+nextMark m (suc n) = 2
+
+-- the codepoints of a step, its text decomposed
+unfoldable pub stepText : Table → Step → List ℕ
+unfolding fourRounds
+stepText t (emoji f) = f .stripped
+stepText t (text s) = fourRounds t s
+stepText t ignored = []
+stepText t disallowed = []
+
+-- the marks of a step, where m is the mark of the next codepoint of text, and that mark behind the step
+unfoldable pub stepMarks : Table → ℕ → Step → List ℕ
+unfolding fourRounds
+stepMarks t m (emoji f) = replicate (length (f .stripped)) 0
+stepMarks t m (text s) = runMarks m 2 (length (fourRounds t s))
+stepMarks t m ignored = []
+stepMarks t m disallowed = []
+
+unfoldable pub stepMark : Table → ℕ → Step → ℕ
+unfolding fourRounds
+stepMark t m (emoji f) = 1
+stepMark t m (text s) = nextMark m (length (fourRounds t s))
+stepMark t m ignored = m
+stepMark t m disallowed = m
+
+-- the codepoints of the steps, their marks, and the mark of the next codepoint of text
+unfoldable pub laid : Table → List Step → List ℕ
+unfolding stepText
+laid t ss = joinedMap (stepText t) ss
+
+unfoldable pub marksFrom : Table → ℕ → List Step → List ℕ
+unfolding stepMarks stepMark
+marksFrom t m [] = []
+marksFrom t m (s ∷ ss) = stepMarks t m s ++ marksFrom t (stepMark t m s) ss
+
+unfoldable pub markAfter : Table → ℕ → List Step → ℕ
+unfolding stepMark
+markAfter t m [] = m
+markAfter t m (s ∷ ss) = markAfter t (stepMark t m s) ss
+
+abbrev pub stepEmoji : Step → Bool
+stepEmoji (emoji f) = true
+stepEmoji (text s) = false
+stepEmoji ignored = false
+stepEmoji disallowed = false
+
+abbrev pub stepTexts : Step → Bool
+stepTexts (emoji f) = false
+stepTexts (text s) = not (isEmpty s)
+stepTexts ignored = false
+stepTexts disallowed = false
+
+-- The steps are laid down so: their number of codepoints, or that they are over the limit; whether there are emoji and text; and, unless they
+-- are over, the mark of the next codepoint of text, the codepoints and the marks.
+pub record Laying (t : Table) (ss : List Step) (run : Run) (w : List ℕ) : Type 0 where
+  pub over : mostWorked < run .worked → mostWorked < length (laid t ss)
+  pub worked : run .worked ≤ mostWorked → run .worked ≡ length (laid t ss)
+  pub emoji : run .emoji ≡ any stepEmoji ss
+  pub text : run .text ≡ any stepTexts ss
+  pub mark : run .worked ≤ mostWorked → run .mark ≡ markAfter t 1 ss
+  pub words : run .worked ≤ mostWorked → take (run .worked) w ≡ laid t ss
+  pub marks : run .worked ≤ mostWorked → take (run .worked) (drop mostWorked w) ≡ marksFrom t 1 ss
+
+-- s and its marks are put behind the first n codepoints, as long as there is room; r is the place behind them. Past the limit the words are
+-- open.
+pub record PutAt (w w′ : List ℕ) (n : ℕ) (s marks : List ℕ) (r : ℕ) : Type 0 where
+  pub end : r ≡ n + length s
+  pub same : length w′ ≡ length w
+  pub words : r ≤ mostWorked → take r w′ ≡ take n w ++ s
+  pub beside : r ≤ mostWorked → take r (drop mostWorked w′) ≡ take n (drop mostWorked w) ++ marks
+  pub words-left : r ≤ mostWorked → drop r (take mostWorked w′) ≡ drop r (take mostWorked w)
+  pub marks-left : r ≤ mostWorked → drop r (drop mostWorked w′) ≡ drop r (drop mostWorked w)
+
+-- the codepoints from `from` up to `to` are marked, if they are not over
+pub record MarksPut (w w′ : List ℕ) (from to first later : ℕ) : Type 0 where
+  pub same : length w′ ≡ length w
+  pub words : take mostWorked w′ ≡ take mostWorked w
+  pub marks : to ≤ mostWorked → drop mostWorked w′ ≡ placed (drop mostWorked w) from (runMarks first later (to - from))
+
+-- an emoji is laid down; words beyond the cells are open here and below
+pub record EmojiPut (ws w w′ : List ℕ) (s : Span) (run r : Run) : Type 0 where
+  pub same : length w′ ≡ length w
+  pub lays : (t : Table) (ss : List Step) (f : Found) → f .stripped ≡ strip (within s ws) → Laying t ss run w → Laying t (ss ++ emoji f ∷ []) r w′
+
+-- one codepoint of text more is laid down, decomposed
+pub record TextPut (t : Table) (w w′ : List ℕ) (c : ℕ) (run r : Run) : Type 0 where
+  pub same : length w′ ≡ length w
+  pub lays : (ss : List Step) (a : List ℕ) → Laying t (ss ++ text a ∷ []) run w → Laying t (ss ++ text (a ++ c ∷ []) ∷ []) r w′
+
+-- a text is laid down, decomposed
+pub record ItemsPut (t : Table) (w w′ : List ℕ) (s : List ℕ) (run r : Run) : Type 0 where
+  pub same : length w′ ≡ length w
+  pub lays : (ss : List Step) → Laying t ss run w → Laying t (ss ++ text s ∷ []) r w′

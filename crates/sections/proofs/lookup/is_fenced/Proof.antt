@@ -1,0 +1,15 @@
+-- `sections::lookup::is_fenced` meets its contract: a section's words spell the table's entries. Assumes nothing.
+use mathlib.Core.Path.{_∙_}
+use Rattle.sections.proofs.SectionLaws.{laid-fits, laid-reads}
+use Rattle.table.proofs.Lookups.{pairs-ranges}
+use Rattle.sections.proofs.lookup.is_fenced.Statement.{statement}
+use Rattle.sections.proofs.lookup.is_fenced.Tie as tie
+
+in-pairs-of-requires : tie.Need-in-pairs-of-requires
+in-pairs-of-requires c κs = laid-fits _ _ (c .before .pre) .fenced
+
+returns : tie.Need-returns
+returns c = c .in-pairs-of .ensures ∙ pairs-ranges _ _ _ (laid-reads _ _ (c .before .before .pre) .fenced)
+
+pub is-fenced-spec : {M : Type 1} → statement M
+is-fenced-spec = tie.close (tie.spec in-pairs-of-requires returns)

@@ -1,0 +1,53 @@
+// Composition pairs among the decomposition records. Which records are no composition pairs is found once in a call: `unpaired` is lent by the
+// call and has a bit for each record that was found to be none.
+use bit_sets::has;
+use bit_sets::put;
+use sections::Sections;
+use text::class;
+
+// The words of that set: 131,073 words hold at most 43,691 records.
+pub const PAIR_WORDS: usize = 1366;
+
+ghost use mathlib.Core.Path.{_≡_};
+ghost use Prim.Native.Nat.{_<_};
+ghost use Rattle.sections.specs.Laid.{Laid};
+ghost use Rattle.table.specs.Layout.{theTable};
+ghost use Rattle.unpaired.specs.Unpaired.{mayCompose, pairPlaces, isPairAt, Unpaired, Asked};
+
+// Whether a decomposition of head to two items, the first of them a, is a composition pair.
+fn may_compose(words: &[u32], ix: Sections, head: u32, a: u32) -> bool
+    requires { ⌜ Laid (now words) ix ⌝ }
+    ensures { λ r. ⌜ r ≡ mayCompose (theTable (now (words .entry))) head a ⌝ }
+{
+    if sections::lookup::is_excluded(words, ix, head) {
+        return false;
+    }
+    if class::class_of(words, ix, head) != 0 {
+        return false;
+    }
+    class::class_of(words, ix, a) == 0
+}
+
+// The same of the record with this number, which is asked for once if it is none.
+pub fn is_pair(
+    words: &[u32],
+    ix: Sections,
+    unpaired: &mut [u32],
+    number: u32,
+    head: u32,
+    a: u32,
+) -> bool
+    requires { ⌜ Laid (now words) ix ⌝ }
+    requires { ⌜ Unpaired (theTable (now words)) (now unpaired) × (number < pairPlaces) ⌝ }
+    requires { ⌜ isPairAt (theTable (now words)) number ≡ mayCompose (theTable (now words)) head a ⌝ }
+    ensures { λ r. ⌜ Asked (theTable (now (words .entry))) (now (unpaired .exit)) (mayCompose (theTable (now (words .entry))) head a) r ⌝ }
+{
+    if has(unpaired, number) {
+        return false;
+    }
+    if may_compose(words, ix, head, a) {
+        return true;
+    }
+    put(unpaired, number);
+    false
+}
