@@ -4,7 +4,7 @@
 use compare::{say, Tally};
 use engine::report::report;
 use gen::{Rng, Vocabulary};
-use plain::limits::{INPUT, REPORT, WORK_WORDS};
+use plain::limits::{INPUT, REPORT, WORKED, WORK_WORDS};
 use plain::{parse, Refusal, TableBuilder};
 
 /// What was met.
@@ -192,22 +192,26 @@ fn unsound_tables() {
     }
 }
 
-/// The longest report keeps within the room that the header names.
+/// The longest report keeps within the room that the header names: one codepoint
+/// of text that fills the worked length with numbers of eight digits in braces,
+/// and behind it an empty emoji for each codepoint that an input may have. A line
+/// of text has a byte less than one of an emoji.
 #[test]
 fn the_most_bytes() {
     let header = include_str!("../../../include/wanlopheng.h");
     assert!(header.contains(&format!("WANLOPHENG_REPORT_BYTES {REPORT} ")));
+    let next = |c: u32| if c == 0x64 { u32::MAX } else { c + 1 };
     let b = TableBuilder {
-        valid: vec![(0x1_0000, 0x1_FFFF)],
-        mapped: vec![(0x61, vec![u32::MAX]), (0x62, vec![u32::MAX; 2])],
+        mapped: vec![(0x41, vec![0x61; WORKED / 256])],
         emoji: vec![vec![0xFE0F]],
-        groups: vec![(2, vec![(0x1_0000, 0x1_FFFF), (u32::MAX, u32::MAX)])],
+        decompositions: (0x61..=0x64).map(|c| (c, vec![next(c); 4])).collect(),
+        groups: vec![(2, vec![(u32::MAX, u32::MAX)])],
         escape: vec![(0, u32::MAX)],
         ..TableBuilder::default()
     };
-    let words = b.to_words();
-    let name: Vec<u32> = (0..INPUT).map(|i| if i % 4 == 0 { 0x61 } else { 0xFE0F }).collect();
-    let text = compared(&name, &words, 0, REPORT, WORK_WORDS).expect("accepted");
-    say(format!("the longest report tried: {} bytes of {REPORT}", text.len()));
-    assert!(text.len() > 60_000);
+    let name = [&[0x41][..], &[0xFE0F; INPUT - 1]].concat();
+    let text = compared(&name, &b.to_words(), 0, REPORT, WORK_WORDS).expect("accepted");
+    let digits = |place: usize| place.to_string().len();
+    let lines: usize = (0..INPUT).map(|i| "emoji   \n".len() - 1 + digits(i) + digits(i + 1)).sum();
+    assert_eq!((lines, text.len()), (272_696, lines - 1 + 11 * WORKED));
 }
