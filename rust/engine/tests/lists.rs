@@ -115,18 +115,31 @@ fn book(rng: &mut Rng, names: &[Vec<u32>]) -> Vec<u32> {
         }
     }
     match rng.below(12) {
-        0 => area.truncate([0, 1, FRONT, AREA - 1][rng.below(4)]),
-        1 => {
-            let slot = &mut area[FRONT + rng.below(SLOTS) * SLOT..][..SLOT];
-            match rng.below(3) {
-                0 => slot[0] = 256,
-                1 => slot[FORM] = 1,
-                _ => slot[..2].copy_from_slice(&[0, 1]),
-            }
-        }
+        0 => area.resize([0, 1, FRONT, AREA - 1, AREA + 1, AREA + SLOT][rng.below(6)], 0),
+        1 => damage(rng, &mut area),
         _ => {}
     }
     area
+}
+
+/// A length over 255, a word past a length, a word or an account in a free slot,
+/// or one name in two slots.
+fn damage(rng: &mut Rng, area: &mut [u32]) {
+    let (first, other) = (rng.below(SLOTS), rng.below(SLOTS));
+    let slot = &mut area[FRONT + first * SLOT..][..SLOT];
+    match rng.below(5) {
+        0 => slot[0] = 256,
+        1 => slot[FORM] = 1,
+        2 => slot[..2].copy_from_slice(&[0, 1]),
+        3 => {
+            slot.fill(0);
+            slot[FORM + 1 + rng.below(SLOT - FORM - 1)] = 7;
+        }
+        _ => {
+            let name = slot[..=FORM].to_vec();
+            area[FRONT + other * SLOT..][..=FORM].copy_from_slice(&name);
+        }
+    }
 }
 
 /// The room that a list of so many words leaves or lacks.
@@ -260,10 +273,9 @@ fn beside_the_label_call(label: &[u32], words: &[u32], lists_it: &Given, t: &imp
     let Ok(count) = lists_it.answer else { return };
     let groups = &lists_it.list[..count];
     assert!(groups.windows(2).all(|two| two[0] < two[1]), "{groups:?}");
-    let text: Vec<u32> = plain::nfc(t, label);
-    if let Some(own) = plain::label::first_group(t, &text) {
-        assert!(!groups.contains(&(own as u32)), "{label:X?} in {own}");
-    }
+    let own = lists::tested(t, label).and_then(|text| plain::label::first_group(t, &text));
+    assert!(own.is_none_or(|own| !groups.contains(&(own as u32))), "{label:X?} in {own:?}");
+    assert!(own.is_some() || groups.is_empty(), "{label:X?}");
 }
 
 #[test]

@@ -20,7 +20,7 @@ struct Met {
     empty: u64,
     /// Two emoji lines, one behind the other, in one label.
     side_by_side: u64,
-    /// An ignored codepoint first in a label, behind a text, and last.
+    /// An ignored codepoint first in an accepted label, second, and last.
     ignored: [u64; 3],
 }
 
@@ -48,6 +48,19 @@ impl Met {
                 self.count(text);
             }
             Err(refusal) => self.refused.add(refusal.number),
+        }
+    }
+
+    /// What an accepted name has of codepoints that the table ignores.
+    fn count_ignored(&mut self, name: &[u32], words: &[u32]) {
+        let t = parse(words).expect("accepted by it");
+        let mapped = |c| t.mapped.iter().any(|record| record.head == c);
+        let ignores = |c| t.ignored.holds(c) && !t.valid.holds(c) && !mapped(c) && c != plain::FE0F;
+        for label in name.split(|&c| c == plain::STOP) {
+            let ignored = |at: Option<&u32>| at.is_some_and(|&c| ignores(c));
+            self.ignored[0] += u64::from(ignored(label.first()));
+            self.ignored[1] += u64::from(label.len() > 2 && ignored(label.get(1)));
+            self.ignored[2] += u64::from(ignored(label.last()));
         }
     }
 
@@ -93,12 +106,10 @@ fn random_names() {
             let setting = [0, 0, 1, 7][rng.below(4)];
             let room = room(&mut rng, &name, &made.words, setting);
             let work = if rng.percent(2) { rng.below(WORK_WORDS) } else { WORK_WORDS + rng.below(9) };
-            met.add(&compared(&name, &made.words, setting, room, work));
-            for label in name.split(|&c| c == plain::STOP) {
-                let ignored = |at: Option<&u32>| at.is_some_and(|c| [0xAD, 0xFE0E, 0x34F, 0xFE0F].contains(c));
-                met.ignored[0] += u64::from(ignored(label.first()));
-                met.ignored[1] += u64::from(label.len() > 2 && ignored(label.get(1)));
-                met.ignored[2] += u64::from(ignored(label.last()));
+            let answer = compared(&name, &made.words, setting, room, work);
+            met.add(&answer);
+            if answer.is_ok() {
+                met.count_ignored(&name, &made.words);
             }
         }
     }
