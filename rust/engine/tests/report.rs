@@ -125,6 +125,109 @@ fn random_names() {
     assert!(met.empty >= 500 && met.ignored.iter().all(|&count| count >= 500), "{:?}", met.ignored);
 }
 
+/// Ways for a report to be wrong.
+#[derive(Clone, Copy, Debug, PartialEq)]
+enum Wrong {
+    Nothing,
+    IgnoredToTheTokenBehind,
+    EndByItsCodepoints,
+    StopNotCounted,
+    NoBraces,
+    LowerCase,
+    RoomFirst,
+    TailLeft,
+}
+
+const WRONG: [Wrong; 7] = [
+    Wrong::IgnoredToTheTokenBehind,
+    Wrong::EndByItsCodepoints,
+    Wrong::StopNotCounted,
+    Wrong::NoBraces,
+    Wrong::LowerCase,
+    Wrong::RoomFirst,
+    Wrong::TailLeft,
+];
+
+/// The lines of an accepted name, by a table, wrong in one way.
+fn wrong_lines(wrong: Wrong, table: &[u32], name: &[u32], lines: &str) -> String {
+    let t = parse(table).expect("accepted by it");
+    let ignores = |c| t.ignored.holds(c) && !t.valid.holds(c) && !t.mapped.iter().any(|record| record.head == c);
+    let mut told = String::new();
+    for (i, line) in lines.lines().enumerate() {
+        let mut words: Vec<String> = line.split(' ').map(str::to_string).collect();
+        let places = |at: usize| words[at].parse::<usize>().expect("a place");
+        let (mut start, mut end) = (places(1), places(2));
+        let stops = name[..start].iter().filter(|&&c| c == plain::STOP).count();
+        match wrong {
+            Wrong::IgnoredToTheTokenBehind => {
+                while i > 0 && start > 0 && ignores(name[start - 1]) {
+                    start -= 1;
+                }
+                while end < name.len() && name[end] != plain::STOP && end > start + 1 && ignores(name[end - 1]) {
+                    end -= 1;
+                }
+            }
+            Wrong::EndByItsCodepoints => end = start + words.len() - 3,
+            Wrong::StopNotCounted => (start, end) = (start - stops, end - stops),
+            _ => {}
+        }
+        (words[1], words[2]) = (start.to_string(), end.to_string());
+        told += &(words.join(" ") + "\n");
+    }
+    match wrong {
+        Wrong::NoBraces => told.replace(['{', '}'], ""),
+        Wrong::LowerCase => told.to_lowercase(),
+        _ => told,
+    }
+}
+
+/// The call, wrong in one way.
+fn wrong_report(
+    wrong: Wrong,
+    name: &[u32],
+    table: &[u32],
+    setting: u32,
+    out: &mut [u8],
+    work: &mut [u32],
+) -> Result<usize, Refusal> {
+    let mut right = vec![0; REPORT];
+    let judged = plain::report(name, table, setting, &mut right, work);
+    if wrong != Wrong::TailLeft {
+        out.fill(0);
+    }
+    if wrong == Wrong::RoomFirst && out.len() < 8 && judged.is_err_and(|refusal| refusal.number > 4) {
+        return Err(Refusal::new(32, 0));
+    }
+    let lines = String::from_utf8(right[..judged?].to_vec()).expect("ASCII");
+    let told = wrong_lines(wrong, table, name, &lines);
+    out.get_mut(..told.len()).ok_or(Refusal::new(32, 0))?.copy_from_slice(told.as_bytes());
+    Ok(told.len())
+}
+
+/// The names above would find each of these versions wrong.
+#[test]
+fn wrong_reports_are_found() {
+    let mut found = [0; WRONG.len() + 1];
+    for seed in 9_000_000..9_000_060 {
+        let mut rng = Rng::new(seed);
+        let made = gen::table(&mut rng);
+        let vocabulary = Vocabulary::new(&mut rng, &made.builder);
+        for _ in 0..100 {
+            let name = vocabulary.name(&mut rng);
+            let room = room(&mut rng, &name, &made.words, 0);
+            let run = |call: &dyn Fn(&mut [u8], &mut [u32]) -> Result<usize, Refusal>| {
+                let (mut out, mut work) = (vec![0xA5; room], vec![7; WORK_WORDS]);
+                (call(&mut out, &mut work), out)
+            };
+            let right = run(&|out, work| plain::report(&name, &made.words, 0, out, work));
+            for (count, wrong) in found.iter_mut().zip([Wrong::Nothing].into_iter().chain(WRONG)) {
+                *count += u64::from(run(&|out, work| wrong_report(wrong, &name, &made.words, 0, out, work)) != right);
+            }
+        }
+    }
+    assert!(found[0] == 0 && found[1..].iter().all(|&count| count > 0), "{found:?}");
+}
+
 /// A table that ignores AD, knows 1F4A9 and the family, and escapes 200D.
 fn table() -> TableBuilder {
     TableBuilder {
