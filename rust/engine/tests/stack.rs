@@ -83,12 +83,11 @@ const NAMEHASH: Call = Call {
     limits: within(48 * KB),
 };
 
-/// It judges the name as the name call does and walks it again. The last walk
-/// is composing, which can leave a starter and the codepoint behind it.
+/// It judges the name as the name call does and walks it again.
 const SCREEN: Call = Call {
     what: "screen form",
     number: |l| screen(l.name, l.table, 1, l.setting, l.answer, l.work).number,
-    limits: Limits { words: 16, in_order: 2, stack: 56 * KB },
+    limits: within(56 * KB),
 };
 
 /// It judges and walks as the screen form does.
@@ -455,7 +454,7 @@ fn an_item_before_its_composition() {
         (&[0xCEC, 0xCA1, 0xCC6, 0xCC8, 0xCC3, 0xCCD], [0xCC6, 0xCC8]),
         (&[0x1132E, 0x1135F, 0x11347, 0x1134C, 0x11368], [0x11347, 0x1134C]),
     ];
-    for call in [&NAME, &LABEL, &NAMEHASH, &REPORT, &MOVED, &RESPELLED] {
+    for call in [&NAME, &LABEL, &NAMEHASH, &SCREEN, &REPORT, &MOVED, &RESPELLED] {
         for (text, pair) in texts {
             let at = text.windows(2).position(|w| w == pair).expect("the pair") + 1;
             let (number, _, all) = left_by(call, &case(text), &full, &mut area_for(call, text));
