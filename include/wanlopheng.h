@@ -2,8 +2,9 @@
  * other machines.
  *
  * A slice crosses as a pointer and a number of elements. The pointer is not null and is aligned, also where there are no
- * elements: hand over the address of any word then. The elements can be read, those of the answer and of the work area also
- * written, and these two overlap nothing else that is handed over. That is all that a caller owes.
+ * elements: hand over the address of any word then. The elements can be read; where the pointer is not to const, they can also be
+ * written, and overlap nothing else that is handed over: the answer, the work area, the list, the report and the area of a payee
+ * book where a call changes it. That is all that a caller owes.
  *
  * No call keeps a pointer, allocates, or has anything that outlives it: calls on several threads do not disturb each other.
  * The library needs memcpy, memmove and memset, and nothing else.

@@ -59,6 +59,25 @@ pub in-limit : (n : ℕ) → Held n → n ≤ limit
 in-limit n h = h .within
 """
 
+NESTED = """module _ (t : Table) where
+  module _ (n : ℕ) where
+
+    -- how many
+    size : List ℕ → ℕ
+    size s =
+        length s
+
+-- a comment at the margin ends no module
+    pub ordered : Ordered t n
+    ordered = record { all = refl }
+
+  pub outer : Outer t
+  outer = ordered 0
+
+pub last : Last
+last = refl
+"""
+
 SOURCE = """// The code.
 const LIMIT: usize = 8;
 
@@ -125,6 +144,13 @@ class Landing(unittest.TestCase):
         self.assertEqual(text["promises", "fits"], "pub fn fits(n: usize) -> bool ensures { λ r. ⌜ r ≡ leb n limit ⌝ }")
         self.assertEqual(text["code", "fits"], "n <= LIMIT }")
         self.assertEqual(text["promises", "half"], "fn half(n: usize) -> usize")
+
+    def test_modules_inside_modules(self):
+        found = {name: (kind, text) for kind, name, text in landing.spec_items(NESTED) if kind != "proofs"}
+        self.assertEqual({name: kind for name, (kind, _) in found.items()}, {"size": "definitions", "ordered": "promises", "outer": "promises", "last": "promises"})
+        self.assertEqual(found["ordered"][1], "module _ (t : Table) where module _ (n : ℕ) where pub ordered : Ordered t n")
+        self.assertEqual(found["outer"][1], "module _ (t : Table) where pub outer : Outer t")
+        self.assertEqual(found["last"][1], "pub last : Last")
 
     def test_nothing_moved(self):
         self.assertEqual(moves({}), STAYED)

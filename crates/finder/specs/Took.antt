@@ -32,9 +32,9 @@ pub record Took (seqs : List (List ℕ)) (inp : List ℕ) (f : Found) : Type 0 w
   -- there is a record of that number, and the match is its
   pub inside : f .number < length seqs
   pub its : f .stripped ≡ strip (getD seqs (f .number) [])
-  -- "what a match took, stripped, is the record stripped"
+  -- what a match took, stripped, is the record stripped
   pub stripped : strip (take (f .taken .length) inp) ≡ strip (getD seqs (f .number) [])
-  -- "the number of FE0F in what it took is the number answered"
+  -- the number of FE0F in what it took is the number answered
   pub selectors : selectorsIn (take (f .taken .length) inp) ≡ f .taken .selectors
   -- how far it got is the stripped length and the FE0F taken
   pub count : f .taken .length ≡ length (f .stripped) + f .taken .selectors

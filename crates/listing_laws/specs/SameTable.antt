@@ -207,7 +207,7 @@ module _ (words : List ℕ) (sound : soundnessOf words ≡ none) where
       every-of-all (λ e. Settled (e .form)) es
       (λ e k. let r = there e es k in found-settled m h (e .form) (r .0) (sym (leads (e .form)) ∙ r .1))
 
-  -- "nothing is listed for the same table"
+  -- nothing is listed for the same table
   module _ (area : List ℕ) (r : Reached area) (work : ℕ) (enough : leastWork ≤ work) where
     pub nothing-moves : movedFrom words work 0 (slotsIn area) ≡ []
     nothing-moves =

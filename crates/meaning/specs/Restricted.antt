@@ -70,7 +70,7 @@ labels-off on t s d p (l ∷ ls) xs e =
     (accepts-cons 0 t s d p l ls (c .first) (c .rest) (c .first-accepted) refl
     (labels-off on t (s + length l + 1) (d + c .first .worked + 1) (suc p) ls (c .rest) (c .rest-accepted)))
 
--- "What is accepted with it on is accepted with it off, with the same answer and kinds": both calls accept the same labels.
+-- What is accepted with the setting on is accepted with it off, with the same answer and kinds: both calls accept the same labels.
 pub accepted-off : (on : ℕ) (words name : List ℕ) (room work : ℕ) (ls : List Label) → nameVerdict on words name room work ≡ accepted ls
     → nameVerdict 0 words name room work ≡ accepted ls
 accepted-off on words name room work ls e =

@@ -58,7 +58,7 @@ fn pair_at(
     if part[at + 3] != b {
         return false;
     }
-    is_pair(words, ix, unpaired, number, part[at], a)
+    is_pair(words, ix, part[at], unpaired, number, a)
 }
 
 // The place behind the record at `at`.

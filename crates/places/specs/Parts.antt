@@ -144,7 +144,7 @@ module _ (t : Table) where
       let f = first-of (steps t l) h in
       record { source = f .source; taken = widths (f .own); is = is-first l f }
 
-  -- "taking the places off gives the tokens of today"
+  -- a placed token without its place is the token of 01
   pub bare-placed : (start : ℕ) (l : List ℕ) → map bare (placed t start l) ≡ tokensOf (steps t l)
   unfolding placed
   bare-placed start l = bare-from none start start (steps t l) tt

@@ -40,7 +40,7 @@ pub record Result : Type 0 where
   pub bytes : List ℕ
   pub work : List ℕ
 
--- the report and then zeros; "after a refusal zeros alone"; the work area is zeros. The buffer has `room` bytes and the work area `work` words.
+-- the report and then zeros, after a refusal zeros alone; the work area is zeros. The buffer has `room` bytes and the work area `work` words.
 abbrev pub resultOf : ℕ → ℕ → Verdict (List ℕ) → Result
 resultOf room work (accepted s) = record { values = given (length s); bytes = filled room s; work = replicate work 0 }
 resultOf room work (refused n p) = record { values = beside n p; bytes = replicate room 0; work = replicate work 0 }

@@ -24,7 +24,7 @@ table =
       escape = record { first = 0x200D; last = 0x200D } ∷ record { first = 0xFFFFFFFF; last = 0xFFFFFFFF } ∷ [];
     }
 
--- the sentence's own example, "{200D} inside an emoji"
+-- a joiner inside an emoji, which stands in braces
 pub family : lineOf table true 4 9 (0x1F468 ∷ 0x200D ∷ 0x2764 ∷ []) ≡ bytes "emoji 4 9 1F468 {200D} 2764\n"
 unfolding lineOf
 family = refl

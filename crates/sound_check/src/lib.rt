@@ -1,5 +1,6 @@
 // The soundness check of a name table: the rules, asked in their order.
 use answers::Soundness;
+use layout::layout;
 use rule_2::rule2;
 use rule_4::rule4;
 use rule_5::rule5;
@@ -7,7 +8,6 @@ use rule_6::rule6;
 use rule_7::rule7;
 use rules_1_3::rule1;
 use rules_1_3::rule3;
-use layout::layout;
 use sections::Layout;
 use sections::Sections;
 ghost use mathlib.Core.Path.{_≡_};

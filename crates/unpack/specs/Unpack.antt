@@ -22,7 +22,8 @@ wordsOf (a ∷ b ∷ []) = []
 wordsOf (a ∷ b ∷ c ∷ []) = []
 wordsOf (a ∷ b ∷ c ∷ d ∷ r) = word a b c d ∷ wordsOf r
 
--- The words behind the version byte: "a count of words, then the words, and nothing after"; a wrong length is 21.
+-- The words behind the version byte: "then a count of words (4 bytes, big-endian), then the words, 4 bytes each, big-endian, and nothing after"; a wrong
+-- length is 21.
 unfoldable pub counted : List ℕ → Verdict (List ℕ)
 unfolding wordsOf
 counted [] = refused 21 0

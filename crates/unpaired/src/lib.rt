@@ -15,7 +15,7 @@ ghost use Rattle.table.specs.Layout.{theTable};
 ghost use Rattle.unpaired.specs.Unpaired.{mayCompose, pairPlaces, isPairAt, Unpaired, Asked};
 
 // Whether a decomposition of head to two items, the first of them a, is a composition pair.
-fn may_compose(words: &[u32], ix: Sections, head: u32, a: u32) -> bool
+fn may_compose(head: u32, words: &[u32], ix: Sections, a: u32) -> bool
     requires { ⌜ Laid (now words) ix ⌝ }
     ensures { λ r. ⌜ r ≡ mayCompose (theTable (now (words .entry))) head a ⌝ }
 {
@@ -32,9 +32,9 @@ fn may_compose(words: &[u32], ix: Sections, head: u32, a: u32) -> bool
 pub fn is_pair(
     words: &[u32],
     ix: Sections,
+    head: u32,
     unpaired: &mut [u32],
     number: u32,
-    head: u32,
     a: u32,
 ) -> bool
     requires { ⌜ Laid (now words) ix ⌝ }
@@ -45,7 +45,7 @@ pub fn is_pair(
     if has(unpaired, number) {
         return false;
     }
-    if may_compose(words, ix, head, a) {
+    if may_compose(head, words, ix, a) {
         return true;
     }
     put(unpaired, number);

@@ -3,14 +3,15 @@
 use crate::calls::{Calls, Lent};
 use crate::screen::{hex, readable};
 use answers::Refusal;
-use plain::book::{FRONT, SLOT, SLOTS};
+use plain::book::{AREA, FRONT, SLOT, SLOTS};
 use plain::limits;
 
-/// The words of a file of four bytes each, big-endian; what is left over is a
-/// word too, so that such a file is none of a book.
+/// The words of a book's file, four bytes each, big-endian. A file of another
+/// size is no book: it has no words, so that the call says 40.
 pub fn words(file: &[u8]) -> Vec<u32> {
     let word = |bytes: &[u8]| bytes.iter().fold(0, |word, &byte| word << 8 | u32::from(byte));
-    file.chunks(4).map(word).collect()
+    let whole = file.len() == 4 * AREA;
+    file.chunks_exact(4).filter(|_| whole).map(word).collect()
 }
 
 /// The form that the table gives a name.
@@ -51,7 +52,6 @@ pub fn lines(calls: &impl Calls, area: &[u32], table: &[u32]) -> Result<(Vec<Str
 mod tests {
     use super::*;
     use crate::calls::Plain;
-    use plain::book::AREA;
     use plain::TableBuilder;
 
     fn file(area: &mut [u32], i: usize, name: &[u32]) {
@@ -89,7 +89,21 @@ mod tests {
 
     #[test]
     fn words_of_a_file() {
-        assert_eq!(words(&[0, 0, 0, 1, 1, 2, 3, 4]), [1, 0x01020304]);
-        assert_eq!(words(&[0, 0, 0, 1, 9]), [1, 9]);
+        let mut file = vec![0; 4 * AREA];
+        file[4..8].copy_from_slice(&[1, 2, 3, 4]);
+        let area = words(&file);
+        assert_eq!((area.len(), &area[..3]), (AREA, &[0, 0x01020304, 0][..]));
+    }
+
+    /// A file that lacks its last bytes, or has some more, is no book: the word
+    /// that it would end with is another one.
+    #[test]
+    fn files_of_another_size() {
+        let table = TableBuilder::default().to_words();
+        let told = |bytes: usize| lines(&Plain, &words(&vec![0; bytes]), &table);
+        assert!(told(4 * AREA).is_ok());
+        for bytes in [0, 1, 4, 4 * AREA - 4, 4 * AREA - 3, 4 * AREA - 2, 4 * AREA - 1, 4 * AREA + 1, 4 * AREA + 4] {
+            assert_eq!(told(bytes), Err(Refusal::new(40, 0)), "{bytes} bytes");
+        }
     }
 }

@@ -48,16 +48,17 @@ pub enum Input {
 }
 
 /// Where the names come from.
-#[derive(Clone, Debug, PartialEq, Eq)]
+#[derive(Clone, Debug, Default, PartialEq, Eq)]
 pub enum Source {
     One(Input),
     File(PathBuf),
+    #[default]
     Standard,
     /// The area of a payee book, for the command that lists moved payees.
     Book(PathBuf),
 }
 
-#[derive(Clone, Debug, PartialEq, Eq)]
+#[derive(Clone, Debug, Default, PartialEq, Eq)]
 pub struct Options {
     pub hex: bool,
     pub trim: bool,
@@ -95,16 +96,7 @@ fn one(words: &[OsString], hex: bool) -> Result<Input, String> {
 
 /// Reads the command line; `None` where help is asked for.
 pub fn options(words: impl IntoIterator<Item = OsString>) -> Result<Option<Options>, String> {
-    let mut found = Options {
-        hex: false,
-        trim: false,
-        restrict: false,
-        hash: false,
-        report: false,
-        json: false,
-        table: None,
-        source: Source::Standard,
-    };
+    let mut found = Options::default();
     let (mut file, mut book, mut rest) = (None, None, Vec::new());
     let mut words = words.into_iter();
     while let Some(word) = words.next() {
@@ -126,11 +118,11 @@ pub fn options(words: impl IntoIterator<Item = OsString>) -> Result<Option<Optio
         }
     }
     if let Some(path) = book {
-        if file.is_some() || !rest.is_empty() || found.json {
+        let alone = Options { table: found.table.clone(), ..Options::default() };
+        if file.is_some() || !rest.is_empty() || found != alone {
             return Err("--moved takes a book and a table alone".into());
         }
-        found.source = Source::Book(path);
-        return Ok(Some(found));
+        return Ok(Some(Options { source: Source::Book(path), ..alone }));
     }
     found.source = match file {
         Some(_) if !rest.is_empty() => return Err("a name and --file".into()),
@@ -185,6 +177,10 @@ mod tests {
         ] {
             let said = read(words).expect_err(fault);
             assert!(said.contains(fault), "{words:?}: {said}");
+        }
+        for option in ["--hex", "--trim", "--restrict", "--hash", "--report", "--json"] {
+            let said = read(&["--moved", "x", option]).expect_err(option);
+            assert!(said.contains("a book and a table alone"), "{option}: {said}");
         }
         assert_eq!(read(&["--help", "--other"]), Ok(None));
     }

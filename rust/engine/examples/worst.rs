@@ -1,6 +1,8 @@
-//! Times the calls on the worst tables: the name call, the screen form, NFD and
-//! NFC on longer and longer texts, then the soundness check on tables in order and in random
-//! order. Not a test. docs/BOUNDS.md has the walks that they are made for.
+//! Times the calls on the worst tables: the name call, the screen form, the
+//! report, the list behind a 14, NFD and NFC on longer and longer texts, the list
+//! of slots on more and more of them, then the soundness check on tables in order
+//! and in random order. Not a test. docs/BOUNDS.md has the walks that they are
+//! made for.
 //! `cargo run --release --offline -p engine --example worst [SECONDS [WORDS]]`
 //!
 //! Each job runs in a process of its own, which is ended when it has used the
@@ -10,12 +12,15 @@
 //! longest within the limits; what that one should take is then told from the
 //! last, in proportion, which is too little only for the ordering of NFD.
 
+use engine::lists::{moved, respelled};
 use engine::normal_forms::{nfc, nfd};
+use engine::report::report;
 use engine::screen::screen;
 use engine::Soundness;
 use gen::worst::texts::{Call, Long, TEXTS};
 use gen::worst::{in_random_order, Hard, DEEP, LONG};
-use plain::limits::{SCREEN_ANY, WORKED, WORK_WORDS};
+use plain::book::{AREA, FRONT, SLOT, SLOTS};
+use plain::limits::{REPORT, SCREEN_ANY, WORKED, WORK_WORDS};
 use plain::TableBuilder;
 use std::io::Read;
 use std::process::{Command, Stdio};
@@ -66,11 +71,39 @@ fn timed<R>(job: impl FnOnce() -> R) -> (R, f64) {
     (answer, used("self") - before)
 }
 
+/// The text of this length, or the area of a book whose first slots have a name.
+fn text_for(long: &Long, count: usize) -> Vec<u32> {
+    if long.call != Call::Moved {
+        return (long.text)(count);
+    }
+    let mut area = vec![0; AREA];
+    for (i, slot) in area[FRONT..].chunks_mut(SLOT).take(count).enumerate() {
+        let name = (long.text)(i);
+        slot[0] = name.len() as u32;
+        slot[1..=name.len()].copy_from_slice(&name);
+    }
+    area
+}
+
+/// The words that an answer or a list has.
+fn room_for(call: Call, count: usize) -> usize {
+    match call {
+        Call::Name | Call::Report => WORKED,
+        Call::Screen => SCREEN_ANY,
+        Call::Respelled => 256,
+        Call::Moved => 2 * SLOTS,
+        Call::Nfd | Call::Nfc => 256 * count,
+    }
+}
+
 /// The number that the call answers.
-fn call(long: &Long, text: &[u32], table: &[u32], answer: &mut [u32], work: &mut [u32]) -> u32 {
+fn call(long: &Long, text: &[u32], table: &[u32], answer: &mut [u32], out: &mut [u8], work: &mut [u32]) -> u32 {
     match long.call {
         Call::Name => engine::name(text, table, 0, answer, work).number,
         Call::Screen => screen(text, table, 0, 0, answer, work).number,
+        Call::Report => report(text, table, 0, out, work).number,
+        Call::Respelled => respelled(text, table, answer, work).number,
+        Call::Moved => moved(text, table, answer, work).number,
         Call::Nfd => nfd(text, table, answer, work).number,
         Call::Nfc => nfc(text, table, answer, work).number,
     }
@@ -81,14 +114,10 @@ fn texts(long: &Long, limit: f64) {
     let table = (long.table)().to_words();
     let mut count = long.first;
     loop {
-        let text = (long.text)(count);
-        let room = match long.call {
-            Call::Name => WORKED,
-            Call::Screen => SCREEN_ANY,
-            Call::Nfd | Call::Nfc => 256 * count,
-        };
-        let (mut answer, mut work) = (vec![0; room], vec![0; room.max(WORK_WORDS)]);
-        let (number, time) = timed(|| call(long, &text, &table, &mut answer, &mut work));
+        let text = text_for(long, count);
+        let room = room_for(long.call, count);
+        let (mut answer, mut out, mut work) = (vec![0; room], vec![0; REPORT], vec![0; room.max(WORK_WORDS)]);
+        let (number, time) = timed(|| call(long, &text, &table, &mut answer, &mut out, &mut work));
         if count == long.first {
             assert_eq!(number, long.number, "{}", long.what);
         }
@@ -99,7 +128,8 @@ fn texts(long: &Long, limit: f64) {
             } else {
                 format!(", in proportion {whole:.0} s on {}", long.most)
             };
-            println!("{} words, {count} codepoints, number {number}: {time:.2} s{told}", table.len());
+            let of = if long.call == Call::Moved { "slots" } else { "codepoints" };
+            println!("{} words, {count} {of}, number {number}: {time:.2} s{told}", table.len());
             return;
         }
         count = (2 * count).min(long.most);

@@ -161,19 +161,19 @@ fn payees_that_would_move() {
     };
     let (whole, damaged) =
         (file("book", &bytes), file("damaged", &[&bytes[..64], &[0, 0, 1, 0], &bytes[68..]].concat()));
+    let cut = file("cut", &bytes[..bytes.len() - 1]);
     let told = "slot 3: Nick\n   4E 69 63 6B\n   would be nick\n   6E 69 63 6B\nslot 63: n k\n   6E 20 6B\n   \
                 would be refused as 5: a codepoint that names may not have\n2 of 3 payees would move\n";
     both(&["--moved", &whole.to_string_lossy()], 1, told);
     let refused = "normalise: refusal 41: the payee book is damaged\n";
     both(&["--moved", &damaged.to_string_lossy()], 1, refused);
-    both(
-        &["--moved", &root().join("normalise").to_string_lossy()],
-        1,
-        "normalise: refusal 40: the area of the payee book has another size\n",
-    );
+    let another = "normalise: refusal 40: the area of the payee book has another size\n";
+    for path in [&cut, &root().join("normalise")] {
+        both(&["--moved", &path.to_string_lossy()], 1, another);
+    }
     let (status, _) = normalise(&["--moved", "no-such-file"]);
     assert_eq!(status, Some(3));
-    for path in [whole, damaged] {
+    for path in [whole, damaged, cut] {
         std::fs::remove_file(path).expect("it was written");
     }
 }

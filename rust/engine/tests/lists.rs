@@ -115,18 +115,31 @@ fn book(rng: &mut Rng, names: &[Vec<u32>]) -> Vec<u32> {
         }
     }
     match rng.below(12) {
-        0 => area.truncate([0, 1, FRONT, AREA - 1][rng.below(4)]),
-        1 => {
-            let slot = &mut area[FRONT + rng.below(SLOTS) * SLOT..][..SLOT];
-            match rng.below(3) {
-                0 => slot[0] = 256,
-                1 => slot[FORM] = 1,
-                _ => slot[..2].copy_from_slice(&[0, 1]),
-            }
-        }
+        0 => area.resize([0, 1, FRONT, AREA - 1, AREA + 1, AREA + SLOT][rng.below(6)], 0),
+        1 => damage(rng, &mut area),
         _ => {}
     }
     area
+}
+
+/// A length over 255, a word past a length, a word or an account in a free slot,
+/// or one name in two slots.
+fn damage(rng: &mut Rng, area: &mut [u32]) {
+    let (first, other) = (rng.below(SLOTS), rng.below(SLOTS));
+    let slot = &mut area[FRONT + first * SLOT..][..SLOT];
+    match rng.below(5) {
+        0 => slot[0] = 256,
+        1 => slot[FORM] = 1,
+        2 => slot[..2].copy_from_slice(&[0, 1]),
+        3 => {
+            slot.fill(0);
+            slot[FORM + 1 + rng.below(SLOT - FORM - 1)] = 7;
+        }
+        _ => {
+            let name = slot[..=FORM].to_vec();
+            area[FRONT + other * SLOT..][..=FORM].copy_from_slice(&name);
+        }
+    }
 }
 
 /// The room that a list of so many words leaves or lacks.
@@ -244,10 +257,70 @@ fn nothing_for_the_same_table() {
     assert!(filed > 5_000, "{filed}");
 }
 
+/// A list of whole entries, wrong in one way, or right.
+type Wrong = (&'static str, fn(&mut Vec<Vec<u32>>));
+
+const WRONG: [Wrong; 7] = [
+    ("right", |_| ()),
+    ("descending", |entries| entries.reverse()),
+    ("the last slot forgotten", |entries| entries.retain(|entry| entry[0] != SLOTS as u32 - 1)),
+    ("the refusal before the slot", |entries| entries.iter_mut().for_each(|entry| entry.reverse())),
+    ("4 left out", |entries| entries.retain(|entry| entry.get(1) != Some(&4))),
+    ("too long told as another form", |entries| entries.iter_mut().for_each(|entry| entry[1] %= 43)),
+    ("the first left out", |entries| drop(entries.drain(..entries.len().min(1)))),
+];
+
+/// The books above would find each of these versions wrong.
+#[test]
+fn wrong_lists_of_slots_are_found() {
+    let mut rng = Rng::new(0x776F_726E);
+    let mut found = [0; WRONG.len()];
+    for _ in 0..150 {
+        let (words, names) = edition(&mut rng);
+        let area = book(&mut rng, &names);
+        let mut list = [0; 2 * SLOTS];
+        let Ok(count) = lists::moved(&area, &words, &mut list, &mut [0; WORK_WORDS]) else { continue };
+        let right: Vec<Vec<u32>> = list[..2 * count].chunks(2).map(<[u32]>::to_vec).collect();
+        for (found, (_, change)) in found.iter_mut().zip(WRONG) {
+            let mut wrong = right.clone();
+            change(&mut wrong);
+            *found += u64::from(wrong != right);
+        }
+    }
+    let told: Vec<_> = WRONG.iter().map(|(what, _)| what).zip(found).collect();
+    assert!(found[0] == 0 && found[1..].iter().all(|&count| count > 0), "{told:?}");
+}
+
 /// What the label call answers at this setting.
 fn labelled(label: &[u32], words: &[u32], setting: u32) -> Result<Kind, Refusal> {
     let mut answer = vec![0; WORKED];
     engine::label(label, words, setting, &mut answer, &mut [0; WORK_WORDS]).answer().map(|label| label.kind)
+}
+
+/// The labels below would find a list of groups that descends, lacks the first
+/// or has the own group too, and one that is empty.
+#[test]
+fn wrong_lists_of_groups_are_found() {
+    let mut rng = Rng::new(0x776F_6772);
+    let mut found = [0; 4];
+    for _ in 0..60 {
+        let of = chained(&mut rng);
+        let words = of.table.to_words();
+        let t = plain::parse(&words).expect("a table");
+        for _ in 0..25 {
+            let label = chained_name(&mut rng, &of);
+            let mut list = [0; GROUPS];
+            let Ok(count) = lists::respelled(&label, &words, &mut list, &mut [0; WORK_WORDS]) else { continue };
+            let right = &list[..count];
+            let own = lists::tested(&t, &label).and_then(|text| plain::label::first_group(&t, &text));
+            let mut with_own: Vec<u32> = right.iter().copied().chain(own.map(|own| own as u32)).collect();
+            with_own.sort_unstable();
+            let falling: Vec<u32> = right.iter().rev().copied().collect();
+            let wrong = [falling.as_slice(), &right[count.min(1)..], &with_own, &[]];
+            found.iter_mut().zip(wrong).for_each(|(found, wrong)| *found += u64::from(wrong != right));
+        }
+    }
+    assert!(found.iter().all(|&count| count > 0), "{found:?}");
 }
 
 /// The list with room for all beside the label call: 14 exactly where the list
@@ -260,10 +333,9 @@ fn beside_the_label_call(label: &[u32], words: &[u32], lists_it: &Given, t: &imp
     let Ok(count) = lists_it.answer else { return };
     let groups = &lists_it.list[..count];
     assert!(groups.windows(2).all(|two| two[0] < two[1]), "{groups:?}");
-    let text: Vec<u32> = plain::nfc(t, label);
-    if let Some(own) = plain::label::first_group(t, &text) {
-        assert!(!groups.contains(&(own as u32)), "{label:X?} in {own}");
-    }
+    let own = lists::tested(t, label).and_then(|text| plain::label::first_group(t, &text));
+    assert!(own.is_none_or(|own| !groups.contains(&(own as u32))), "{label:X?} in {own:?}");
+    assert!(own.is_some() || groups.is_empty(), "{label:X?}");
 }
 
 #[test]

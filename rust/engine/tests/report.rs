@@ -4,7 +4,7 @@
 use compare::{say, Tally};
 use engine::report::report;
 use gen::{Rng, Vocabulary};
-use plain::limits::{INPUT, REPORT, WORK_WORDS};
+use plain::limits::{INPUT, REPORT, WORKED, WORK_WORDS};
 use plain::{parse, Refusal, TableBuilder};
 
 /// What was met.
@@ -20,7 +20,7 @@ struct Met {
     empty: u64,
     /// Two emoji lines, one behind the other, in one label.
     side_by_side: u64,
-    /// An ignored codepoint first in a label, behind a text, and last.
+    /// An ignored codepoint first in an accepted label, second, and last.
     ignored: [u64; 3],
 }
 
@@ -48,6 +48,19 @@ impl Met {
                 self.count(text);
             }
             Err(refusal) => self.refused.add(refusal.number),
+        }
+    }
+
+    /// What an accepted name has of codepoints that the table ignores.
+    fn count_ignored(&mut self, name: &[u32], words: &[u32]) {
+        let t = parse(words).expect("accepted by it");
+        let mapped = |c| t.mapped.iter().any(|record| record.head == c);
+        let ignores = |c| t.ignored.holds(c) && !t.valid.holds(c) && !mapped(c) && c != plain::FE0F;
+        for label in name.split(|&c| c == plain::STOP) {
+            let ignored = |at: Option<&u32>| at.is_some_and(|&c| ignores(c));
+            self.ignored[0] += u64::from(ignored(label.first()));
+            self.ignored[1] += u64::from(label.len() > 2 && ignored(label.get(1)));
+            self.ignored[2] += u64::from(ignored(label.last()));
         }
     }
 
@@ -93,12 +106,10 @@ fn random_names() {
             let setting = [0, 0, 1, 7][rng.below(4)];
             let room = room(&mut rng, &name, &made.words, setting);
             let work = if rng.percent(2) { rng.below(WORK_WORDS) } else { WORK_WORDS + rng.below(9) };
-            met.add(&compared(&name, &made.words, setting, room, work));
-            for label in name.split(|&c| c == plain::STOP) {
-                let ignored = |at: Option<&u32>| at.is_some_and(|c| [0xAD, 0xFE0E, 0x34F, 0xFE0F].contains(c));
-                met.ignored[0] += u64::from(ignored(label.first()));
-                met.ignored[1] += u64::from(label.len() > 2 && ignored(label.get(1)));
-                met.ignored[2] += u64::from(ignored(label.last()));
+            let answer = compared(&name, &made.words, setting, room, work);
+            met.add(&answer);
+            if answer.is_ok() {
+                met.count_ignored(&name, &made.words);
             }
         }
     }
@@ -112,6 +123,109 @@ fn random_names() {
     assert_eq!(met.refused.of(15), 0);
     assert!(met.accepted >= 40_000 && met.emoji >= 20_000 && met.side_by_side >= 2_000 && met.braces >= 5_000);
     assert!(met.empty >= 500 && met.ignored.iter().all(|&count| count >= 500), "{:?}", met.ignored);
+}
+
+/// Ways for a report to be wrong.
+#[derive(Clone, Copy, Debug, PartialEq)]
+enum Wrong {
+    Nothing,
+    IgnoredToTheTokenBehind,
+    EndByItsCodepoints,
+    StopNotCounted,
+    NoBraces,
+    LowerCase,
+    RoomFirst,
+    TailLeft,
+}
+
+const WRONG: [Wrong; 7] = [
+    Wrong::IgnoredToTheTokenBehind,
+    Wrong::EndByItsCodepoints,
+    Wrong::StopNotCounted,
+    Wrong::NoBraces,
+    Wrong::LowerCase,
+    Wrong::RoomFirst,
+    Wrong::TailLeft,
+];
+
+/// The lines of an accepted name, by a table, wrong in one way.
+fn wrong_lines(wrong: Wrong, table: &[u32], name: &[u32], lines: &str) -> String {
+    let t = parse(table).expect("accepted by it");
+    let ignores = |c| t.ignored.holds(c) && !t.valid.holds(c) && !t.mapped.iter().any(|record| record.head == c);
+    let mut told = String::new();
+    for (i, line) in lines.lines().enumerate() {
+        let mut words: Vec<String> = line.split(' ').map(str::to_string).collect();
+        let places = |at: usize| words[at].parse::<usize>().expect("a place");
+        let (mut start, mut end) = (places(1), places(2));
+        let stops = name[..start].iter().filter(|&&c| c == plain::STOP).count();
+        match wrong {
+            Wrong::IgnoredToTheTokenBehind => {
+                while i > 0 && start > 0 && ignores(name[start - 1]) {
+                    start -= 1;
+                }
+                while end < name.len() && name[end] != plain::STOP && end > start + 1 && ignores(name[end - 1]) {
+                    end -= 1;
+                }
+            }
+            Wrong::EndByItsCodepoints => end = start + words.len() - 3,
+            Wrong::StopNotCounted => (start, end) = (start - stops, end - stops),
+            _ => {}
+        }
+        (words[1], words[2]) = (start.to_string(), end.to_string());
+        told += &(words.join(" ") + "\n");
+    }
+    match wrong {
+        Wrong::NoBraces => told.replace(['{', '}'], ""),
+        Wrong::LowerCase => told.to_lowercase(),
+        _ => told,
+    }
+}
+
+/// The call, wrong in one way.
+fn wrong_report(
+    wrong: Wrong,
+    name: &[u32],
+    table: &[u32],
+    setting: u32,
+    out: &mut [u8],
+    work: &mut [u32],
+) -> Result<usize, Refusal> {
+    let mut right = vec![0; REPORT];
+    let judged = plain::report(name, table, setting, &mut right, work);
+    if wrong != Wrong::TailLeft {
+        out.fill(0);
+    }
+    if wrong == Wrong::RoomFirst && out.len() < 8 && judged.is_err_and(|refusal| refusal.number > 4) {
+        return Err(Refusal::new(32, 0));
+    }
+    let lines = String::from_utf8(right[..judged?].to_vec()).expect("ASCII");
+    let told = wrong_lines(wrong, table, name, &lines);
+    out.get_mut(..told.len()).ok_or(Refusal::new(32, 0))?.copy_from_slice(told.as_bytes());
+    Ok(told.len())
+}
+
+/// The names above would find each of these versions wrong.
+#[test]
+fn wrong_reports_are_found() {
+    let mut found = [0; WRONG.len() + 1];
+    for seed in 9_000_000..9_000_060 {
+        let mut rng = Rng::new(seed);
+        let made = gen::table(&mut rng);
+        let vocabulary = Vocabulary::new(&mut rng, &made.builder);
+        for _ in 0..100 {
+            let name = vocabulary.name(&mut rng);
+            let room = room(&mut rng, &name, &made.words, 0);
+            let run = |call: &dyn Fn(&mut [u8], &mut [u32]) -> Result<usize, Refusal>| {
+                let (mut out, mut work) = (vec![0xA5; room], vec![7; WORK_WORDS]);
+                (call(&mut out, &mut work), out)
+            };
+            let right = run(&|out, work| plain::report(&name, &made.words, 0, out, work));
+            for (count, wrong) in found.iter_mut().zip([Wrong::Nothing].into_iter().chain(WRONG)) {
+                *count += u64::from(run(&|out, work| wrong_report(wrong, &name, &made.words, 0, out, work)) != right);
+            }
+        }
+    }
+    assert!(found[0] == 0 && found[1..].iter().all(|&count| count > 0), "{found:?}");
 }
 
 /// A table that ignores AD, knows 1F4A9 and the family, and escapes 200D.
@@ -192,22 +306,26 @@ fn unsound_tables() {
     }
 }
 
-/// The longest report keeps within the room that the header names.
+/// The longest report keeps within the room that the header names: one codepoint
+/// of text that fills the worked length with numbers of eight digits in braces,
+/// and behind it an empty emoji for each codepoint that an input may have. A line
+/// of text has a byte less than one of an emoji.
 #[test]
 fn the_most_bytes() {
     let header = include_str!("../../../include/wanlopheng.h");
     assert!(header.contains(&format!("WANLOPHENG_REPORT_BYTES {REPORT} ")));
+    let next = |c: u32| if c == 0x64 { u32::MAX } else { c + 1 };
     let b = TableBuilder {
-        valid: vec![(0x1_0000, 0x1_FFFF)],
-        mapped: vec![(0x61, vec![u32::MAX]), (0x62, vec![u32::MAX; 2])],
+        mapped: vec![(0x41, vec![0x61; WORKED / 256])],
         emoji: vec![vec![0xFE0F]],
-        groups: vec![(2, vec![(0x1_0000, 0x1_FFFF), (u32::MAX, u32::MAX)])],
+        decompositions: (0x61..=0x64).map(|c| (c, vec![next(c); 4])).collect(),
+        groups: vec![(2, vec![(u32::MAX, u32::MAX)])],
         escape: vec![(0, u32::MAX)],
         ..TableBuilder::default()
     };
-    let words = b.to_words();
-    let name: Vec<u32> = (0..INPUT).map(|i| if i % 4 == 0 { 0x61 } else { 0xFE0F }).collect();
-    let text = compared(&name, &words, 0, REPORT, WORK_WORDS).expect("accepted");
-    say(format!("the longest report tried: {} bytes of {REPORT}", text.len()));
-    assert!(text.len() > 60_000);
+    let name = [&[0x41][..], &[0xFE0F; INPUT - 1]].concat();
+    let text = compared(&name, &b.to_words(), 0, REPORT, WORK_WORDS).expect("accepted");
+    let digits = |place: usize| place.to_string().len();
+    let lines: usize = (0..INPUT).map(|i| "emoji   \n".len() - 1 + digits(i) + digits(i + 1)).sum();
+    assert_eq!((lines, text.len()), (272_696, lines - 1 + 11 * WORKED));
 }

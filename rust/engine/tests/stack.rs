@@ -6,12 +6,15 @@
 mod painted;
 
 use engine::book::{Account, Book, Desk, AREA};
+use engine::lists::{moved, respelled};
 use engine::namehash::namehash;
 use engine::normal_forms::{nfc, nfd};
+use engine::report::report;
 use engine::screen::screen;
 use gen::worst;
 use painted::{run, traces, Left, Traces};
-use plain::limits::{WORKED, WORK_WORDS};
+use plain::book::{FORM, FRONT, SLOT, SLOTS};
+use plain::limits::{REPORT as REPORT_BYTES, WORKED, WORK_WORDS};
 use std::collections::HashSet;
 use std::hint::black_box;
 
@@ -28,7 +31,7 @@ struct Limits {
 }
 
 /// What a call is handed: the name, as UTF-8 too where it has one, a table, the
-/// setting, both buffers, and the area of a payee book.
+/// setting, both buffers, one for bytes, a list, and the area of a payee book.
 struct Lent<'a> {
     name: &'a [u32],
     bytes: &'a [u8],
@@ -36,6 +39,8 @@ struct Lent<'a> {
     setting: u32,
     answer: &'a mut [u32],
     work: &'a mut [u32],
+    out: &'a mut [u8],
+    list: &'a mut [u32],
     area: &'a mut [u32],
 }
 
@@ -85,6 +90,20 @@ const SCREEN: Call = Call {
     number: |l| screen(l.name, l.table, 1, l.setting, l.answer, l.work).number,
     limits: within(56 * KB),
 };
+
+/// It judges and walks as the screen form does.
+const REPORT: Call = Call {
+    what: "report",
+    number: |l| report(l.name, l.table, l.setting, l.out, l.work).number,
+    limits: within(56 * KB),
+};
+
+/// The name stands in the last slot of the book.
+const MOVED: Call =
+    Call { what: "moved", number: |l| moved(l.area, l.table, l.list, l.work).number, limits: within(48 * KB) };
+
+const RESPELLED: Call =
+    Call { what: "respelled", number: |l| respelled(l.name, l.table, l.list, l.work).number, limits: within(48 * KB) };
 
 /// The codepoints take an array beside what the name call uses.
 const BYTES: Call = Call {
@@ -199,21 +218,51 @@ fn cases() -> Vec<Case> {
 /// are worked with too.
 fn left_by(call: &Call, case: &Case, table: &[u32], area: &mut [u32]) -> (u32, usize, Traces) {
     let name = &case.name[..];
-    let (mut answer, mut work) = (vec![0; case.room], vec![0; 16_384]);
-    let bytes = utf8(name);
-    let mut lent =
-        Lent { name, bytes: &bytes, table, setting: case.setting, answer: &mut answer, work: &mut work, area };
-    let mut number = 0;
-    let left = run(|| number = black_box((call.number)(&mut lent)));
-    let form = answer.split(|&c| c == 0).next().unwrap_or_default();
-    let mut decomposed = vec![0; 4_096];
-    let length = nfd(name, table, &mut decomposed, &mut work).length;
-    let stay = [name, form, &decomposed[..length]].map(|text| traces(&left, text));
+    let (number, left, given) = run_case(call, case, table, area);
+    let (form, decomposed) = (normal_form(case, table), full_decomposition(name, table));
+    let stay = [name, &given, &form, &decomposed].map(|text| traces(&left, text));
     let most = |of: fn(&Traces) -> usize| stay.iter().map(of).max().unwrap_or(0);
-    for bytes in [bytes, utf8(form)] {
+    for bytes in [utf8(name), utf8(&given), utf8(&form)] {
         assert!(!bytes_stay(&left, &bytes), "{}, {}: bytes of the name stay", call.what, case.what);
     }
     (number, left.used, Traces { words: most(|t| t.words), in_order: most(|t| t.in_order) })
+}
+
+/// The number that a call answers on a case, the stack after it, and the text in
+/// the answer buffer.
+fn run_case(call: &Call, case: &Case, table: &[u32], area: &mut [u32]) -> (u32, Left, Vec<u32>) {
+    let (mut answer, mut work) = (vec![0; case.room], vec![0; 16_384]);
+    let (mut out, mut list) = (vec![0; REPORT_BYTES], vec![0; 256]);
+    let bytes = utf8(&case.name);
+    let mut lent = Lent {
+        name: &case.name,
+        bytes: &bytes,
+        table,
+        setting: case.setting,
+        answer: &mut answer,
+        work: &mut work,
+        out: &mut out,
+        list: &mut list,
+        area,
+    };
+    let mut number = 0;
+    let left = run(|| number = black_box((call.number)(&mut lent)));
+    (number, left, answer.into_iter().take_while(|&c| c != 0).collect())
+}
+
+/// The normal form of a case's name, empty where it is refused.
+fn normal_form(case: &Case, table: &[u32]) -> Vec<u32> {
+    let mut form = vec![0; WORKED];
+    let length = engine::name(&case.name, table, 0, &mut form, &mut vec![0; WORK_WORDS]).length;
+    form.truncate(length);
+    form
+}
+
+fn full_decomposition(text: &[u32], table: &[u32]) -> Vec<u32> {
+    let mut form = vec![0; WORKED];
+    let length = nfd(text, table, &mut form, &mut vec![0; WORK_WORDS]).length;
+    form.truncate(length);
+    form
 }
 
 /// The name as UTF-8; numbers that are no scalar values as a byte that is none.
@@ -229,13 +278,26 @@ fn bytes_stay(left: &Left, bytes: &[u8]) -> bool {
     all.windows(9).any(|w| parts.contains(w))
 }
 
+/// The book that a call is lent: for the list of slots one that has the name, or
+/// what a slot holds of it, in the last slot; else an empty one.
+fn area_for(call: &Call, name: &[u32]) -> Vec<u32> {
+    let mut area = vec![0; AREA];
+    if call.what == MOVED.what {
+        let form = &name[..name.len().min(FORM)];
+        let slot = &mut area[FRONT + (SLOTS - 1) * SLOT..];
+        slot[0] = form.len() as u32;
+        slot[1..=form.len()].copy_from_slice(form);
+    }
+    area
+}
+
 /// Each case within the limits of the call, on the full-size table; of the
-/// stack alone also tables made to reach far into 13 and 14. The book is empty.
+/// stack alone also tables made to reach far into 13 and 14.
 fn keeps(call: &Call) {
     let full = standin::full().words;
     let (mut over, mut most) = (Vec::new(), 0);
     for case in cases() {
-        let (number, used, Traces { words, in_order }) = left_by(call, &case, &full, &mut vec![0; AREA]);
+        let (number, used, Traces { words, in_order }) = left_by(call, &case, &full, &mut area_for(call, &case.name));
         if [NAME.what, NAMEHASH.what, SCREEN.what].contains(&call.what) {
             assert_eq!(number, case.number, "{}", case.what);
         }
@@ -249,7 +311,7 @@ fn keeps(call: &Call) {
     let wide = worst::wide_whole().to_words();
     for (name, table) in [(vec![worst::DEEP_TEXT; 4], deep), (worst::confused(16), wide)] {
         let case = Case { what: "far", name, setting: 0, room: WORKED, number: 0 };
-        most = most.max(left_by(call, &case, &table, &mut vec![0; AREA]).1);
+        most = most.max(left_by(call, &case, &table, &mut area_for(call, &case.name)).1);
     }
     println!("{}: {most} bytes of stack", call.what);
     assert!(over.is_empty(), "{}: text stays after {over:?}", call.what);
@@ -310,6 +372,101 @@ fn name_hash() {
 #[test]
 fn screen_form() {
     keeps(&SCREEN);
+}
+
+#[test]
+fn report_of_a_name() {
+    keeps(&REPORT);
+}
+
+/// Bytes of a report that may stand together: one number of eight digits.
+const DIGITS: usize = 8;
+
+/// Of the report's bytes no two numbers in order, also where there is too little
+/// room for them.
+#[test]
+fn digits_of_a_report() {
+    let full = standin::full().words;
+    let table = plain::parse(&full).expect("a table");
+    for case in cases() {
+        let shown = plain::report::report_by(&table, case.setting, &case.name).unwrap_or_default();
+        let parts: HashSet<&[u8]> = shown.as_bytes().windows(DIGITS + 2).collect();
+        for room in [REPORT_BYTES, shown.len().saturating_sub(1)] {
+            let (mut out, mut work) = (vec![7; room], vec![7; WORK_WORDS]);
+            let left = run(|| {
+                black_box(report(&case.name, &full, case.setting, &mut out, &mut work));
+            });
+            let bytes: Vec<u8> = left.words.iter().flat_map(|w| w.to_le_bytes()).collect();
+            assert!(!bytes.windows(DIGITS + 2).any(|w| parts.contains(w)), "{}, {room} bytes", case.what);
+            let Traces { words, in_order } = traces(&left, &case.name);
+            assert!(words <= REPORT.limits.words && in_order <= 1, "{}, {room} bytes", case.what);
+        }
+    }
+}
+
+#[test]
+fn two_lists() {
+    keeps(&MOVED);
+    keeps(&RESPELLED);
+}
+
+/// The list of slots on a full book, of names that the table keeps, files
+/// otherwise and refuses: nothing of any of them.
+#[test]
+fn a_full_book_listed() {
+    let full = standin::full().words;
+    let composed = [0x65, 0x301];
+    let names: Vec<Vec<u32>> = (0..SLOTS as u32)
+        .map(|i| match i % 4 {
+            0 => row(0x4E00 + 100 * i, 30),
+            1 => [&letters(20 + i as usize)[..], &composed].concat(),
+            2 => [&row(0x440, 12)[..], &[0x450 + i / 4]].concat(),
+            _ => [&row(0x3B1, 6)[..], &[0x40 + i]].concat(),
+        })
+        .collect();
+    let mut area = vec![0; AREA];
+    for (slot, name) in area[FRONT..].chunks_mut(SLOT).zip(&names) {
+        slot[0] = name.len() as u32;
+        slot[1..=name.len()].copy_from_slice(name);
+    }
+    let (mut list, mut work) = (vec![0; 2 * SLOTS], vec![0; WORK_WORDS]);
+    let left = run(|| {
+        let listed = moved(&area, &full, &mut list, &mut work);
+        assert!(listed.number == 0 && listed.entries > 20);
+    });
+    assert!(left.used <= MOVED.limits.stack, "{} bytes", left.used);
+    for name in &names {
+        let Traces { words, in_order } = traces(&left, name);
+        assert!(words <= MOVED.limits.words && in_order <= 1, "{name:X?}: {words} words, {in_order} in order");
+    }
+}
+
+/// Where a text has the first item of a composition pair just before the
+/// codepoint that the pair becomes, as 438 439, those two may stay: composing has
+/// both in hand. Never three, and never two other neighbours.
+#[test]
+fn an_item_before_its_composition() {
+    let full = standin::full().words;
+    let case = |name: &[u32]| Case { what: "composed", name: name.to_vec(), setting: 0, room: WORKED, number: 0 };
+    let texts: [(&[u32], [u32; 2]); 5] = [
+        (&[0x43A, 0x438, 0x439], [0x438, 0x439]),
+        (&[0x43A, 0x438, 0x439, 0x645], [0x438, 0x439]),
+        (&[0xB2B, 0xB2D, 0xB47, 0xB4B, 0xB03, 0xB25], [0xB47, 0xB4B]),
+        (&[0xCEC, 0xCA1, 0xCC6, 0xCC8, 0xCC3, 0xCCD], [0xCC6, 0xCC8]),
+        (&[0x1132E, 0x1135F, 0x11347, 0x1134C, 0x11368], [0x11347, 0x1134C]),
+    ];
+    for call in [&NAME, &LABEL, &NAMEHASH, &SCREEN, &REPORT, &MOVED, &RESPELLED] {
+        for (text, pair) in texts {
+            let at = text.windows(2).position(|w| w == pair).expect("the pair") + 1;
+            let (number, _, all) = left_by(call, &case(text), &full, &mut area_for(call, text));
+            println!("{}, {pair:X?} ({number}): {} in order", call.what, all.in_order);
+            assert!(all.in_order <= 2, "{}, {pair:X?}", call.what);
+            let (_, left, _) = run_case(call, &case(text), &full, &mut area_for(call, text));
+            for part in [&text[..at], &text[at..]] {
+                assert!(traces(&left, part).in_order <= 1, "{}, {part:X?}", call.what);
+            }
+        }
+    }
 }
 
 #[test]

@@ -72,9 +72,11 @@ pub mod limits {
     pub const INPUT: usize = 16_384;
     /// Worked length of a name.
     pub const WORKED: usize = 4_096;
-    /// Bytes that hold every report: for each codepoint of the input a line with
-    /// two places of at most five digits, and for each of the worked length a
-    /// blank, two braces and eight digits.
+    /// Bytes that hold every report: for each codepoint of the input a line, and
+    /// for each of the worked length a blank, two braces and eight digits. A line
+    /// of an emoji with two places of five digits has 18 bytes, but most places
+    /// have fewer digits: as many lines as there may be have 272,696, less than
+    /// 17 for each.
     pub const REPORT: usize = 17 * INPUT + 11 * WORKED;
     /// Codepoints of an emoji sequence.
     pub const SEQUENCE: usize = 32;

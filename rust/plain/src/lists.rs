@@ -60,7 +60,7 @@ pub fn moved(area: &[u32], table: &[u32], list: &mut [u32], work: &mut [u32]) ->
 
 /// The text of a label as the look-alike test sees it, `None` for one of emoji
 /// alone or in ASCII.
-fn tested(t: &impl Lookup, label: &[u32]) -> Option<Vec<u32>> {
+pub fn tested(t: &impl Lookup, label: &[u32]) -> Option<Vec<u32>> {
     let finished: Vec<Finished> = tokens(t, label)
         .ok()?
         .into_iter()

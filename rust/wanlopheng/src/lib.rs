@@ -45,6 +45,7 @@ pub use answers::{Kind, Label, Name, Place, Refusal, Soundness};
 pub use buffers::{Buffers, Form};
 pub use engine::book;
 pub use engine::lists;
+pub use engine::report;
 pub use table::Table;
 
 /// The limits of the calls.
@@ -59,4 +60,10 @@ pub mod limits {
     pub const WORK_WORDS: usize = 8_192;
     /// Words of the largest table.
     pub const TABLE_WORDS: usize = 131_073;
+    /// Words of a list that holds an entry for every slot of a payee book.
+    pub const MOVED_WORDS: usize = 128;
+    /// Words of a list that holds every group.
+    pub const GROUPS: usize = 256;
+    /// Bytes of a buffer that holds every report.
+    pub const REPORT_BYTES: usize = 323_584;
 }

@@ -126,6 +126,22 @@ impl<'w> Table<'w> {
         Ok(buffers.screen(*self, greek, name, &mut answer)?.chars().collect())
     }
 
+    /// The report of a name on codepoints, with a setting: a line for each token,
+    /// as `report::report` writes it. Answers the bytes written.
+    pub fn report_with(&self, setting: u32, input: &[u32], out: &mut [u8], work: &mut [u32]) -> Result<usize, Refusal> {
+        engine::report::report(input, self.0, setting, out, work).answer()
+    }
+
+    /// The report of a name: a line for each token, with the places where its
+    /// input starts and ends in the name, in codepoints.
+    #[cfg(feature = "alloc")]
+    pub fn report(&self, name: &str) -> Result<alloc::string::String, Refusal> {
+        let input: alloc::vec::Vec<u32> = name.chars().map(u32::from).collect();
+        let mut out = alloc::vec![0; crate::limits::REPORT_BYTES];
+        let length = self.report_with(0, &input, &mut out, &mut alloc::vec![0; crate::limits::WORK_WORDS])?;
+        Ok(out[..length].iter().map(|&byte| char::from(byte)).collect())
+    }
+
     /// The kind of a label.
     #[cfg(feature = "alloc")]
     pub fn kind(&self, label: &str) -> Result<crate::Kind, Refusal> {

@@ -17,6 +17,21 @@ fn limits_are_those_of_the_calls() {
     assert_eq!(wanlopheng::limits::SCREEN_WORDS, limits::SCREEN);
     assert_eq!(wanlopheng::limits::WORK_WORDS, limits::WORK_WORDS);
     assert_eq!(wanlopheng::limits::TABLE_WORDS, limits::TABLE_WORDS);
+    assert_eq!(wanlopheng::limits::MOVED_WORDS, 2 * plain::book::SLOTS);
+    assert_eq!(wanlopheng::limits::GROUPS, limits::GROUPS);
+    assert_eq!(wanlopheng::limits::REPORT_BYTES, limits::REPORT);
+}
+
+#[test]
+fn reports() {
+    by_small_table(|table| {
+        assert_eq!(table.report("").as_deref(), Ok(""));
+        assert_eq!(table.report("Ab.\u{1F4A9}").as_deref(), Ok("text 0 2 61 62\nemoji 3 4 1F4A9\n"));
+        assert_eq!(table.report("a..b"), Err(Refusal::new(6, 1)));
+        let (mut out, mut work) = ([7; 8], [7; limits::WORK_WORDS]);
+        assert_eq!(table.report_with(0, &[0x61], &mut out, &mut work), Err(Refusal::new(32, 0)));
+        assert_eq!((out, work[0]), ([0; 8], 0));
+    });
 }
 
 #[test]

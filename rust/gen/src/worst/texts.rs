@@ -3,19 +3,24 @@
 //! walks that they are made for.
 
 use super::{fit, shuffled, singles, DEEP_TEXT, FIRST};
+use plain::book::{FORM, SLOTS};
 use plain::limits::{INPUT, WORKED};
 use plain::TableBuilder;
 
-/// A call that is lent a text.
+/// A call that is lent a text; `Moved` a book of texts.
 #[derive(Clone, Copy, Debug, PartialEq, Eq)]
 pub enum Call {
     Name,
     Screen,
+    Report,
+    Respelled,
+    Moved,
     Nfd,
     Nfc,
 }
 
-/// A call that takes long: on `most` codepoints, or on fewer.
+/// A call that takes long: on `most` codepoints, or on fewer. For `Moved` so many
+/// slots are filled, and the text of a number is the name in that slot.
 pub struct Long {
     pub what: &'static str,
     pub call: Call,
@@ -48,7 +53,7 @@ const fn long(
 }
 
 /// Where a row says "in random order", each comparison's branch is a guess.
-pub const TEXTS: [Long; 48] = [
+pub const TEXTS: [Long; 54] = [
     long("scan: emoji of one codepoint", Call::Name, emoji_beside, letter_a, [16, INPUT], 0),
     long("scan: long emoji that start alike", Call::Name, emoji_alike, letter_a, [16, INPUT], 0),
     long("scan: emoji that start with FE0F", Call::Name, emoji_of_selectors, letter_a, [16, INPUT], 0),
@@ -90,6 +95,12 @@ pub const TEXTS: [Long; 48] = [
     long("screen form: emoji behind others", Call::Screen, emoji_last, letter_a, [16, WORKED], 0),
     long("screen form: an empty emoji behind others", Call::Screen, selectors_last, selectors_parted, [16, INPUT], 0),
     long("screen form: long emoji that start alike", Call::Screen, emoji_alike, letter_a, [16, WORKED], 0),
+    long("report: emoji side by side, in random order", Call::Report, emoji_matching, letter_a, [16, WORKED], 0),
+    long("report: an empty emoji behind others", Call::Report, selectors_last, selectors_parted, [16, INPUT], 0),
+    long("report: should-escape, in random order", Call::Report, escape_random, own, [16, WORKED], 0),
+    long("respelled: 9 wholes in turn", Call::Respelled, wholes_respelled::<PAST>, in_turn::<PAST>, [PAST, WORKED], 0),
+    long("moved: 13, 43,000 records", Call::Moved, records_13, deep_in_slot, [1, SLOTS], 0),
+    long("moved: 14, 9 wholes in turn", Call::Moved, wholes_falling::<PAST>, wholes_in_slot::<PAST>, [1, SLOTS], 0),
     long("NFD: a codepoint that becomes 256", Call::Nfd, valid_deep, deep, [1, DEEP], 0),
     long("NFD: a codepoint that becomes another four times", Call::Nfd, valid_chain, deep, [16, WORKED], 0),
     long("NFD: classes, in random order", Call::Nfd, classes_random, letter_a, [16, WORKED], 0),
@@ -126,6 +137,20 @@ fn selectors_parted(count: usize) -> Vec<u32> {
 /// The first of those that decompose deeply.
 fn deep(count: usize) -> Vec<u32> {
     vec![DEEP_TEXT; count]
+}
+
+/// As many as the worked length allows, one of them the next of its kind, so
+/// that no slot has the name of another.
+fn deep_in_slot(slot: usize) -> Vec<u32> {
+    let mut text = deep(DEEP);
+    text[slot % DEEP] = DEEP_TEXT + 1 + (slot / DEEP) as u32;
+    text
+}
+
+/// COUNT codepoints from OWN on in turn, as many as a slot holds but for its
+/// number.
+fn wholes_in_slot<const COUNT: usize>(slot: usize) -> Vec<u32> {
+    in_turn::<COUNT>(FORM - slot)
 }
 
 /// The one character of a group.
@@ -349,6 +374,10 @@ fn fenced_random() -> TableBuilder {
     TableBuilder { fenced: pairs_around(OWN, fit(2, 10)), ..own_group() }
 }
 
+fn escape_random() -> TableBuilder {
+    TableBuilder { escape: pairs_around(OWN, fit(2, 10)), ..own_group() }
+}
+
 fn marks_random() -> TableBuilder {
     TableBuilder { marks: pairs_around(OWN, fit(2, 20)), emoji: vec![vec![EMOJI]], ..own_group() }
 }
@@ -448,6 +477,16 @@ fn wholes_falling<const COUNT: usize>() -> TableBuilder {
     table
 }
 
+/// The same with a second group that holds every other member: the text could be
+/// respelled in it, so that 14 is judged twice.
+fn wholes_respelled<const COUNT: usize>() -> TableBuilder {
+    let mut table = wholes_falling::<COUNT>();
+    table.groups[0].1.truncate(32_590);
+    table.groups[0].1.push((OWN, OWN + COUNT as u32 - 1));
+    table.groups.push((0, vec![(FIRST, 0x10_FFFF)]));
+    table
+}
+
 /// With pairs of one member each, or between two.
 fn wholes_held<const COUNT: usize>() -> TableBuilder {
     wholes_of::<COUNT>(shuffled(singles(FIRST, 32_600, 3)))
@@ -479,6 +518,7 @@ fn whole_14_in_order() -> TableBuilder {
 mod tests {
     use super::*;
     use plain::limits::TABLE_WORDS;
+    use std::collections::HashSet;
 
     #[test]
     fn each_text_has_its_number_by_the_plain_version() {
@@ -486,14 +526,21 @@ mod tests {
             let words = (long.table)().to_words();
             assert!(words.len() <= TABLE_WORDS, "{}: {} words", long.what, words.len());
             assert!(plain::layout(&words).is_ok(), "{}", long.what);
+            if long.call == Call::Moved {
+                let names: HashSet<Vec<u32>> = (0..SLOTS).map(long.text).collect();
+                assert!(names.len() == SLOTS && names.iter().all(|name| name.len() <= FORM), "{}", long.what);
+                continue;
+            }
             let text = (long.text)(long.first);
             assert_eq!(text.len(), long.first, "{}", long.what);
-            if long.call == Call::Name {
-                let table = plain::parse(&words).expect("layout");
-                let judged = plain::judge_name(&plain::Index::new(&table), &text);
-                let number = judged.map_or_else(|refusal| refusal.number, |_| 0);
-                assert_eq!(number, long.number, "{}", long.what);
-            }
+            let due = match long.call {
+                Call::Name | Call::Report => long.number,
+                Call::Respelled => 14,
+                _ => continue,
+            };
+            let table = plain::parse(&words).expect("layout");
+            let judged = plain::judge_name(&plain::Index::new(&table), &text);
+            assert_eq!(judged.map_or_else(|refusal| refusal.number, |_| 0), due, "{}", long.what);
         }
     }
 }
