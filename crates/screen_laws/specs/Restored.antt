@@ -13,7 +13,7 @@ use Rattle.lists.specs.Lists.{placeWith, split, joinWith}
 use Rattle.lists.specs.Laws.{Every, every-imp}
 use Rattle.lists.specs.Elements.{none-place}
 use Rattle.lists.specs.Splits.{split-joinWith, every-joinWith, joinWith-some}
-use Rattle.limits.specs.Limits.{mostInput, twice-in-input}
+use Rattle.limits.specs.Limits.{mostInput, mostWorked, twice-in-input}
 use Rattle.answers.specs.Verdict.{Verdict, accepted, refused, next}
 use Rattle.ending.specs.Ending.{fitting}
 use Rattle.ending.specs.Numbers.{next-accepted}
@@ -117,16 +117,16 @@ unfolding nameCall nameResult
 same-call on words a b room work ls p q n = rw (p, q, n)
 
 -- a name that passes 1 to 14 and 17 is accepted where there is room
-fits-exactly : (on : ℕ) (words name : List ℕ) (work : ℕ) (ls : List Label) → nameBefore15 on words name work ≡ accepted ls
+pub fits-exactly : (on : ℕ) (words name : List ℕ) (work : ℕ) (ls : List Label) → nameBefore15 on words name work ≡ accepted ls
     → nameVerdict on words name (length (nameAnswer ls)) work ≡ accepted ls
 unfolding nameVerdict
 fits-exactly on words name work ls e = rw (e, le-ltb (length (nameAnswer ls)) (length (nameAnswer ls)) (omega arith))
 
-the-table : (words : List ℕ) (t : Table) → parse words ≡ some t → theTable words ≡ t
+pub the-table : (words : List ℕ) (t : Table) → parse words ≡ some t → theTable words ≡ t
 unfolding theTable
 the-table words t e = rw e
 
-module _ (greek on : ℕ) (words name : List ℕ) (work₁ : ℕ) (ls : List Label) (sound : soundnessOf words ≡ none) (m : Restores (theTable words))
+module _ (greek on : ℕ) (words name : List ℕ) (work₁ : ℕ) (ls : List Label) (sound : soundnessOf words ≡ none)
     (first : nameBefore15 on words name work₁ ≡ accepted ls) where
   a : NameAccepts on words name (length (nameAnswer ls)) work₁ ls
   a = name-accepts on words name (length (nameAnswer ls)) work₁ ls (fits-exactly on words name work₁ ls first)
@@ -156,27 +156,31 @@ module _ (greek on : ℕ) (words name : List ℕ) (work₁ : ℕ) (ls : List Lab
   parts : labelsOf shown-name ≡ forms t s greek on (labelsOf name) ls
   parts = rw joined (forms-split t s greek on 0 0 0 (labelsOf name) ls own)
 
-  again : labelsVerdict on t 0 0 0 (labelsOf shown-name) ≡ accepted ls
-  again =
+  again : Restores t → labelsVerdict on t 0 0 0 (labelsOf shown-name) ≡ accepted ls
+  again m =
       rw parts
       (labels-rendered-again t s on 0 0 0 (labelsOf name) ls own 0 (forms t s greek on (labelsOf name) ls) (forms-rendered t s greek on m 0 0 0 (labelsOf name) ls own))
 
-  short : length shown-name ≤ mostInput
-  short =
+  -- the form is at most twice as long as the worked length may be, whatever becomes of 39E
+  pub twice : length shown-name ≤ 2 * mostWorked
+  twice =
       let k = answer-length on words name (length (nameAnswer ls)) work₁ ls (fits-exactly on words name work₁ ls first) in
-      rw joined (omega (arith, forms-short t s greek on 0 0 0 (labelsOf name) ls own, k .worked-fits, twice-in-input))
+      rw joined (omega (arith, forms-short t s greek on 0 0 0 (labelsOf name) ls own, k .worked-fits))
 
-  pub restored : Restored on words name shown-name
-  restored =
+  short : length shown-name ≤ mostInput
+  short = omega (arith, twice, twice-in-input)
+
+  pub restored : Restores t → Restored on words name shown-name
+  restored m =
       record {
         labels = ls;
         same = λ room work h.
             let one = accepts-name on words name room work ls
             (record { table = t; laid = laid; work-fits = h .forWork; input-fits = a .input-fits; scalars = a .scalars; labels = own; room-fits = h .forAnswer }) in
             let two = accepts-name on words shown-name room work ls
-            (record { table = t; laid = laid; work-fits = h .forWork; input-fits = short; scalars = rw joined (forms-scalar t s greek on 0 0 0 (labelsOf name) ls own); labels = again; room-fits = h .forAnswer }) in
+            (record { table = t; laid = laid; work-fits = h .forWork; input-fits = short; scalars = rw joined (forms-scalar t s greek on 0 0 0 (labelsOf name) ls own); labels = again m; room-fits = h .forAnswer }) in
             let count : length (labelsOf shown-name) ≡ length (labelsOf name) =
-            sym (labels-count on t 0 0 0 (labelsOf shown-name) ls again) ∙ labels-count on t 0 0 0 (labelsOf name) ls own in
+            sym (labels-count on t 0 0 0 (labelsOf shown-name) ls (again m)) ∙ labels-count on t 0 0 0 (labelsOf name) ls own in
             record { name-accepted = one; form-accepted = two; call = same-call on words shown-name name room work ls two one count };
       }
 
@@ -190,7 +194,7 @@ screen-restores greek on words name room₁ work₁ xs sound m e =
     let same : ys ≡ xs = after-room room₁ ys xs q in
     let (ls, u, v) = next-accepted (nameBefore15 on words name work₁) _ ys p in
     let typed-so : typed (theTable words) ls (labelsOf name) ≡ xs = (let w : typed (theTable words) ls (labelsOf name) ≡ ys = cc in w ∙ same) in
-    rw (← typed-so) (restored greek on words name work₁ ls sound m u)
+    rw (← typed-so) (restored greek on words name work₁ ls sound u m)
   where
     after-room : (room : ℕ) (ys zs : List Typed) → fitting room (length (nameForm (screenForm (theTable words) greek) ys)) ys ≡ accepted zs → ys ≡ zs
     after-room room ys zs f = go (ltb room (length (nameForm (screenForm (theTable words) greek) ys))) f

@@ -8,7 +8,7 @@ use plain::label::Finished;
 use plain::limits::{WORKED, WORK_WORDS};
 use plain::screen::{is_greek, screen_by, CAPITAL_XI, XI};
 use plain::tokens::strip;
-use plain::{judge_name_with, parse, tokens, Index, LabelForm, Lookup, Name, Refusal, Table, Token, FE0F, STOP};
+use plain::{judge_name_with, parse, tokens, Index, Kind, LabelForm, Lookup, Name, Refusal, Table, Token, FE0F, STOP};
 use std::fmt;
 
 /// What a call is handed beside the buffers.
@@ -223,8 +223,9 @@ impl fmt::Display for BackCounts {
     }
 }
 
-/// A call of the name, with enough room: its normal form.
-pub type Normal<'a> = &'a dyn Fn(&[u32], &[u32], u32) -> Result<Vec<u32>, Refusal>;
+/// A call of the name, with enough room: its normal form, and the kinds of its
+/// labels.
+pub type Normal<'a> = &'a dyn Fn(&[u32], &[u32], u32) -> Result<(Vec<u32>, Vec<Kind>), Refusal>;
 
 /// The wanted theorem on random tables that it speaks of: the screen form of an
 /// accepted name, normalised with the same setting, gives its normal form, with
@@ -248,10 +249,11 @@ pub fn check_coming_back(screen: Screen, normal: Normal, first_seed: u64, tables
             let asked = Asked { name: &name, table: &words, greek, setting };
             let (mut answer, mut work) = (vec![7; plain::limits::SCREEN], vec![7; WORK_WORDS]);
             let shown = screen(&asked, &mut answer, &mut work).expect("by a sound table there is room");
-            let form = normal(&name, &words, setting);
-            assert_eq!(normal(&answer[..shown.length], &words, setting), form, "{}", at());
+            let (form, kinds) = normal(&name, &words, setting).expect("it was accepted");
+            let again = normal(&answer[..shown.length], &words, setting);
+            counts.changed += u64::from(form != answer[..shown.length]);
+            assert_eq!(again, Ok((form, kinds)), "{}", at());
             counts.accepted += 1;
-            counts.changed += u64::from(form.as_deref() != Ok(&answer[..shown.length]));
             counts.capital += u64::from(answer.contains(&CAPITAL_XI));
         }
     }
@@ -259,10 +261,11 @@ pub fn check_coming_back(screen: Screen, normal: Normal, first_seed: u64, tables
     assert!(counts.accepted >= 20 * tables && counts.changed >= 5 * tables && counts.capital >= tables, "{counts}");
 }
 
-/// The normal form by the plain version.
-pub fn plain_normal(name: &[u32], table: &[u32], setting: u32) -> Result<Vec<u32>, Refusal> {
+/// The normal form by the plain version, with the kinds.
+pub fn plain_normal(name: &[u32], table: &[u32], setting: u32) -> Result<(Vec<u32>, Vec<Kind>), Refusal> {
     let (mut answer, mut work) = (vec![7; WORKED], vec![7; WORK_WORDS]);
     let given = plain::name_with(name, table, setting, &mut answer, &mut work)?;
     answer.truncate(given.length);
-    Ok(answer)
+    let forms = judge_name_with(&parse(table).expect("a table"), setting, name)?;
+    Ok((answer, forms.iter().map(|form| form.kind).collect()))
 }

@@ -49,12 +49,14 @@ fn normal(name: &[u32], table: &[u32], setting: u32) -> Result<Vec<u32>, Refusal
     Ok(answer)
 }
 
-/// The screen form: the examples, and 100,000 accepted names whose screen forms,
-/// normalised, give their normal forms.
+/// The screen form: the examples by both tables, and 100,000 accepted names whose
+/// screen forms, normalised, give their normal forms.
 #[test]
 fn screen_forms() {
     let made = standin::full();
-    run_examples(&screen, &made, &EXAMPLES);
+    for table in [&made, &standin::names()] {
+        run_examples(&screen, table, &EXAMPLES);
+    }
     let counts = coming_back(&made, Some(Calls { screen: &screen, normal: &normal }), 32, 100_000);
     println!("{counts:?}");
     assert!(counts.accepted == 100_000 && counts.styled > 5_000 && counts.capital > 5_000, "{counts:?}");

@@ -111,13 +111,6 @@ pub fn join_labels(labels: &[LabelForm]) -> Vec<u32> {
     answer
 }
 
-/// Every label's answer and kind; `None` where the name is refused, room
-/// aside.
-pub fn labels_kinds(name: &[u32], t: &impl Lookup) -> Option<Vec<(Vec<u32>, Kind)>> {
-    let labels = judge_name(t, name).ok()?;
-    Some(labels.into_iter().map(|form| (form.answer, form.kind)).collect())
-}
-
 /// Sets every word of both buffers, once the labels are judged: the answer
 /// that is due and then zeros, or zeros alone after a refusal, 15 the last of
 /// them; and zeros. Answers the length and the other value.

@@ -45,7 +45,7 @@ pub mod utf8;
 
 pub use answers::{Kind, Label, Name, Refusal, Soundness};
 pub use calls::{judge_label, judge_label_with, judge_name, judge_name_with};
-pub use calls::{label, label_with, labels_kinds, name, name_with};
+pub use calls::{label, label_with, name, name_with};
 pub use file::{pack, pack_as, unpack};
 pub use keccak::keccak256;
 pub use label::LabelForm;
