@@ -12,6 +12,44 @@ fn counts_are_reached() {
     compare(&Plain, &Indexed, &settings).check();
 }
 
+/// The worked length of a name without a disallowed codepoint, whatever else is
+/// refused of it.
+fn worked(t: &plain::Index, emoji: &[&[u32]], name: &[u32]) -> Option<usize> {
+    let token = |token: &plain::Token| match token {
+        plain::Token::Emoji { record, .. } => plain::tokens::strip(emoji[*record]).len(),
+        plain::Token::Text(text) => plain::nfd(t, text).len(),
+    };
+    let label = |label: &[u32]| plain::tokens(t, label).ok().map(|all| all.iter().map(token).sum::<usize>());
+    let labels: Option<Vec<usize>> = name.split(|&c| c == plain::STOP).map(label).collect();
+    labels.map(|of| of.iter().sum::<usize>() + of.len() - 1)
+}
+
+/// The generators reach the limits (02, Item 5): inputs of as many codepoints as
+/// there may be and of one more, worked lengths of just the limit and of one more.
+#[test]
+fn limits_are_reached() {
+    use plain::limits::{INPUT, WORKED};
+    let (mut inputs, mut lengths) = ([0; 2], [0; 2]);
+    for seed in 1..=400 {
+        let mut rng = gen::Rng::new(seed);
+        let made = gen::table(&mut rng);
+        let Some(table) = plain::parse(&made.words) else { continue };
+        let t = plain::Index::new(&table);
+        let vocabulary = gen::Vocabulary::new(&mut rng, &made.builder);
+        for _ in 0..100 {
+            let name = vocabulary.name(&mut rng);
+            let of =
+                if name.len() < WORKED / 32 || name.len() > INPUT { None } else { worked(&t, &table.emoji, &name) };
+            for more in 0..2 {
+                inputs[more] += u64::from(name.len() == INPUT + more);
+                lengths[more] += u64::from(of == Some(WORKED + more));
+            }
+        }
+    }
+    say(format!("inputs at the limit and one over it {inputs:?}, worked lengths {lengths:?}"));
+    assert!(inputs.iter().chain(&lengths).all(|&count| count >= 10), "{inputs:?} {lengths:?}");
+}
+
 /// The same seed gives the same tables and names.
 #[test]
 fn seeds_repeat() {

@@ -1,6 +1,7 @@
 //! Cases for the readings of the scope document that show on unsound tables
 //! or at the edges of its sentences.
 
+use gen::{Rng, Vocabulary};
 use plain::limits::{INPUT, WORKED};
 use plain::*;
 
@@ -315,4 +316,42 @@ fn extent_in_rounds() {
         }
     }
     assert!(characters > 5_000 && more > 1_000, "{characters} characters, {more} of more than one round");
+}
+
+/// 02, Item 9: a token's own part of the input, scanned alone, gives exactly that
+/// token, on every table; the parts follow one another and are the whole label.
+#[test]
+fn each_token_alone() {
+    let (mut names, mut parts, mut with_ignored) = (0, 0, 0);
+    for seed in 9_100_000..9_101_000 {
+        let mut rng = Rng::new(seed);
+        let made = gen::table(&mut rng);
+        let Some(table) = parse(&made.words) else { continue };
+        let t = Index::new(&table);
+        let vocabulary = Vocabulary::new(&mut rng, &made.builder);
+        for _ in 0..100 {
+            let name = vocabulary.name(&mut rng);
+            let before = parts;
+            for label in name.split(|&c| c == STOP) {
+                let Ok(all) = tokens(&t, label) else { continue };
+                let places = report::places(&t, label);
+                assert_eq!(all.len(), places.len(), "seed {seed}, {label:X?}");
+                let mut at = 0;
+                for (token, (from, to)) in all.into_iter().zip(places) {
+                    assert!(from == at && from < to, "seed {seed}, {label:X?}");
+                    with_ignored += u64::from(t.is_ignored(label[to - 1]));
+                    assert_eq!(
+                        tokens(&t, &label[from..to]),
+                        Ok(vec![token]),
+                        "seed {seed}, {label:X?}, {from} to {to}"
+                    );
+                    (at, parts) = (to, parts + 1);
+                }
+                assert!(at == label.len() || at == 0, "seed {seed}, {label:X?}");
+            }
+            names += u64::from(parts > before);
+        }
+    }
+    println!("{names} names, {parts} tokens, {with_ignored} with an ignored codepoint last");
+    assert!(names >= 55_012 && parts >= 100_000 && with_ignored >= 1_000, "{names} {parts} {with_ignored}");
 }

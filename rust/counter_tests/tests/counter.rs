@@ -151,6 +151,21 @@ fn long_lines() {
     assert_eq!(run(Some(&file), times(1_366, "2E3B").as_bytes()), "no 7 0\nend 1\n");
 }
 
+/// The longest answers that a line can ask for, as many words as the worked
+/// length may reach, through a mapping: of two digits each, and of eight.
+#[test]
+fn longest_replies() {
+    let times = |n: usize, word: &str| vec![word; n].join(" ");
+    for item in [0x61, u32::MAX] {
+        let groups = vec![(2, vec![(item, item)])];
+        let b = TableBuilder { mapped: vec![(0x41, vec![item; 32])], groups, ..TableBuilder::default() };
+        let file = pack(&b.to_words());
+        let answer = times(4_096, &format!("{item:X}"));
+        assert_eq!(run(Some(&file), times(128, "41").as_bytes()), format!("ok {answer}\nend 1\n"));
+        assert_eq!(run(Some(&file), times(129, "41").as_bytes()), "no 7 0\nend 1\n");
+    }
+}
+
 #[test]
 fn table_files() {
     let input = b"61\n41\n";

@@ -113,18 +113,67 @@ fn around_the_worked_limit() {
     let words = gen::small_table().to_words();
     let ends: [&[u32]; 8] =
         [&[], &[0x61], &[0x2E3B], &[0xE0], &[0x1F4A9], &[0x40], &[0x61, 0x2E, 0x61], &[0x2E3B, 0xE0, 0x1F4A9, 0x40]];
+    let mut met = [0; 16];
     for end in ends {
         for (middle, count) in [(0x61, 0), (0x34F, 40), (0x61, 40), (0x2E3B, 20), (0x1F438, 30)] {
-            for length in 1_018..1_026 {
+            for length in WORKED - 6..WORKED + 2 {
                 let name = [&vec![0x61; length][..], &vec![middle; count], end].concat();
                 let number = as_plain(&name, &words).map_or_else(|r| r.number, |_| 0);
                 // 5 comes before 7, however far behind the limit it stands.
                 assert_eq!(number == 5, end.last() == Some(&0x40), "{length} {middle:X} {count} {end:X?}");
+                met[number as usize] += 1;
             }
         }
     }
+    assert!(met[0] > 30 && met[5] > 30 && met[7] > 30, "{met:?}");
     assert_eq!(as_plain(&vec![0x61; WORKED], &words).map(|form| form.len()), Ok(WORKED));
     assert_eq!(as_plain(&vec![0x61; WORKED + 1], &words).map_err(|r| r.number), Err(7));
+}
+
+/// Every buffer at its limit, and by one short of it or over: the input, the
+/// answer buffer, the work area. What the limits were before Item 5 is judged by
+/// those of today.
+#[test]
+fn exact_fits() {
+    assert_eq!((INPUT, WORKED, WORK_WORDS), (16_384, 4_096, 8_192));
+    let words = gen::small_table().to_words();
+    let number = |input: &[u32], room: usize, work: usize| {
+        let run = |engine: &dyn Engine| {
+            let lent = || (vec![7; room], vec![7; work]);
+            let (mut of_name, mut of_label) = (lent(), lent());
+            let name = engine.name(input, &words, &mut of_name.0, &mut of_name.1);
+            let label = engine.label(input, &words, &mut of_label.0, &mut of_label.1);
+            assert_eq!(name.map(|given| given.length), label.map(|given| given.length));
+            assert_eq!(of_name, of_label);
+            (name, of_name)
+        };
+        let given = run(&Proved);
+        assert_eq!(given, run(&Plain));
+        given.0.map_or_else(|refusal| refusal.number, |_| 0)
+    };
+    let letters = |count: usize| vec![0x61; count];
+    let ignored = |count: usize| [&[0x61][..], &vec![0x34F; count]].concat();
+    // 4,096 words hold the longest answer, and one less do not.
+    assert_eq!(number(&letters(WORKED), WORKED, WORK_WORDS), 0);
+    assert_eq!(number(&letters(WORKED), WORKED - 1, WORK_WORDS), 15);
+    assert_eq!(number(&letters(WORKED + 1), WORKED, WORK_WORDS), 7);
+    // The longest input, and one codepoint more.
+    assert_eq!(number(&ignored(INPUT - 1), 1, WORK_WORDS), 0);
+    assert_eq!(number(&ignored(INPUT - 1), 0, WORK_WORDS), 15);
+    assert_eq!(number(&ignored(INPUT), 1, WORK_WORDS), 3);
+    // The smallest work area, and one word less; those of before Item 5.
+    assert_eq!(number(&letters(1), 1, WORK_WORDS - 1), 2);
+    for work in [2_047, 2_048, 2_049] {
+        assert_eq!(number(&letters(1), 1, work), 2);
+    }
+    // The other limits of before Item 5.
+    for length in [1_024, 1_025] {
+        assert_eq!(number(&letters(length), length, WORK_WORDS), 0);
+        assert_eq!(number(&letters(length), 1_024, WORK_WORDS), if length == 1_024 { 0 } else { 15 });
+    }
+    for count in [4_095, 4_096] {
+        assert_eq!(number(&ignored(count), 1, WORK_WORDS), 0);
+    }
 }
 
 /// A record that has the items of a pair and is none is passed over each time

@@ -70,6 +70,40 @@ fn chains_of_groups() {
     assert!(met.parted > 500 && met.with_nowhere > 500 && met.longest == 256, "{met:?}");
 }
 
+/// A chain of each length, in which every group shares a member with the next:
+/// one extent reaches through all of its groups. Cut before a group it has two
+/// components, and the label is 14.
+#[test]
+fn a_chain_of_each_length() {
+    let first = 0x3400;
+    for length in 1..=256 {
+        let mut rng = Rng::new(u64::from(length));
+        for cut in [0, 1, length / 2, length - 1] {
+            // Group k holds the members 2 k to 2 k + 2: it shares both ends.
+            let pair = |k: u32| (first + 2 * k + u32::from(0 < k && k == cut), first + 2 * k + 2);
+            let groups = (0..length).map(|k| (2, vec![pair(k)])).collect();
+            let mut members: Vec<u32> = (first..=first + 2 * length).collect();
+            rng.shuffle(&mut members);
+            let wholes = vec![(members.split_off(members.len() / 2), members)];
+            let Some(&c) = wholes[0].1.iter().min() else { continue };
+            let valid = vec![(first, first + 2 * length)];
+            let words = TableBuilder { valid, groups, wholes, ..TableBuilder::default() }.to_words();
+            let table = plain::parse(&words).expect("layout");
+            let inside = extent(&table, table.wholes[0], c);
+            let reached = (0..table.group_count()).filter(|&g| inside.iter().any(|&m| table.group_holds(g, m))).count();
+            let parted = 0 < cut && cut < length;
+            let due = match (parted, c <= first + 2 * cut) {
+                (false, _) => length,
+                (true, true) => cut,
+                (true, false) => length - cut,
+            };
+            assert_eq!(reached, due as usize, "{length} groups, cut before {cut}");
+            let answer = same(&[c], &words, &format!("{length} groups, cut before {cut}"));
+            assert_eq!(answer.err(), parted.then_some(Refusal::new(14, 0)), "{length} groups, cut before {cut}");
+        }
+    }
+}
+
 /// The whole of 02, Item 6: A is accepted, and E beside it is 14.
 #[test]
 fn the_whole_of_item_6() {

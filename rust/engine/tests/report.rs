@@ -276,6 +276,10 @@ fn room_is_judged_last() {
     assert_eq!(compared(&[0x61], &words[1..], 0, 0, 0), Err(Refusal::new(1, 0)));
 }
 
+/// Two of ten count in the worked length: as many as an input has codepoints keep
+/// within it.
+const MOSTLY_EMPTY: [u32; 10] = [0xFE0F, 0xFE0F, 0xFE0F, 0xFE0F, 0xFE0F, 0xFE0F, 0xFE0F, 0xFE0F, 0x61, 0x1F600];
+
 /// As many tokens as an input has codepoints, all empty; and numbers that are no
 /// scalar values, which an unsound table may give.
 #[test]
@@ -300,9 +304,14 @@ fn unsound_tables() {
     assert_eq!(compared(&[0xFE0F; INPUT], &words, 0, text.len() - 1, WORK_WORDS), Err(Refusal::new(32, 0)));
     // Emoji, empty ones and text by turns, to the last place.
     let mut rng = Rng::new(5);
-    for length in [1, 9, 10, 11, 99, 100, 101, 999, 1_000, 1_001, INPUT] {
-        let name: Vec<u32> = (0..length).map(|_| *rng.pick(&[0xFE0F, 0xFE0F, 0xFE0F, 0xFE0F, 0x61, 0x1F600])).collect();
-        report(&name).ok();
+    for length in [1, 9, 10, 11, 99, 100, 101, 999, 1_000, 1_001, 9_999, 10_000, 10_001, INPUT] {
+        let name: Vec<u32> = (0..length).map(|_| *rng.pick(&MOSTLY_EMPTY)).collect();
+        let text = report(&name).expect("within the worked length");
+        // Of both kinds there are lines that start past 9,999.
+        let lines: Vec<Vec<&str>> = text.lines().map(|line| line.split(' ').collect()).collect();
+        assert_eq!(lines.last().map(|words| words[2]), Some(&*length.to_string()));
+        let past = |kind: &str| lines.iter().any(|words| words[0] == kind && words[1].len() == 5);
+        assert!(length < INPUT || (past("text") && past("emoji")), "{length}");
     }
 }
 

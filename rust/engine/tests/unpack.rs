@@ -3,7 +3,7 @@
 
 mod marked;
 
-use engine::{unpack, Unpacked};
+use engine::{soundness, unpack, Soundness, Unpacked};
 use gen::Rng;
 use marked::{lent, mark};
 
@@ -122,6 +122,22 @@ fn an_exact_fit_and_larger_buffers() {
             given(&added, &plain::pack_as(1, &words), length as usize + 1 + more);
         }
     }
+}
+
+/// Eight empty sections, 1 0, three empty sections and 2 0 are a layout fault, and
+/// a sound table with the word that is added; a version 2 file of twelve sections
+/// unpacks and is a layout fault.
+#[test]
+fn the_word_that_is_added_and_the_layout() {
+    let odd = [0, 0, 0, 0, 0, 0, 0, 0, 1, 0, 0, 0, 0, 2, 0];
+    let added = [&odd[..], &[0]].concat();
+    given(&added, &plain::pack_as(1, &odd), 16);
+    assert_eq!((soundness(&odd), soundness(&added)), (Soundness::Broken(0), Soundness::Sound));
+    let twelve = &odd[..13];
+    let thirteen = [twelve, &[0]].concat();
+    given(twelve, &plain::pack(twelve), 13);
+    given(&thirteen, &plain::pack_as(1, twelve), 14);
+    assert_eq!((soundness(twelve), soundness(&thirteen)), (Soundness::Broken(0), Soundness::Sound));
 }
 
 #[test]
