@@ -1,4 +1,5 @@
 // Rule 1: every codepoint named is a Unicode scalar value.
+use scalar::is_scalar;
 use sections::Sections;
 use table::Span;
 use table::lookup::counted;
@@ -23,19 +24,6 @@ fn scalars_between(first: u32, last: u32) -> bool
         return true;
     }
     0xDFFF < first
-}
-
-// Whether c is a scalar value.
-fn is_scalar(c: u32) -> bool
-    ensures { λ r. ⌜ r ≡ isScalar c ⌝ }
-{
-    if 0x10FFFF < c {
-        return false;
-    }
-    if c < 0xD800 {
-        return true;
-    }
-    0xDFFF < c
 }
 
 // Whether the pairs first, last are of scalar values.

@@ -1,24 +1,12 @@
--- Laws of scalar values and of the sections that name them. Assumes nothing.
-use Prim.Native.Nat.{ℕ}
+-- Laws of the sections that name scalar values. Assumes nothing.
 use mathlib.Core.Path.{_≡_, refl, sym, ap, _∙_}
-use mathlib.Core.Bool.{Bool, true, false, not, _&&_}
-use mathlib.Core.List.{List, [], _∷_, _++_}
-use lib.Dec.{leb, ltb}
-use borrow.Author.Tests.{ltb-true, ltb-false, le-leb, lt-leb}
+use mathlib.Core.Bool.{Bool, true, false, _&&_}
 use Rattle.lists.specs.Lists.{all}
 use Rattle.lists.specs.Laws.{both-left}
 use Rattle.table.specs.Table.{ClassRange, Table}
 use Rattle.scalar.specs.Scalar.{isScalar}
 use Rattle.soundness.specs.Scalars.{scalarsBetween, scalarRanges, scalarHeaded, rule1}
 use Rattle.sound_parts.specs.Parts.{rangesScalar, recordsScalar, othersScalar, scalarGroup, scalarWhole}
-
--- above the surrogates, as one test or the other
-pub above-surrogates : (c : ℕ) → ltb 0xDFFF c ≡ not (leb c 0xDFFF)
-above-surrogates c = go (ltb 0xDFFF c) refl
-  where
-    go : (b : Bool) → ltb 0xDFFF c ≡ b → b ≡ not (leb c 0xDFFF)
-    go true e = rw (lt-leb c 0xDFFF (ltb-true _ _ e))
-    go false e = rw (le-leb c 0xDFFF (ltb-false _ _ e))
 
 regroup : (r m d e x c g w : Bool) → r && m && d && e && x && c && g && w ≡ r && (m && d && e && x) && (c && g && w)
 regroup false m d e x c g w = refl

@@ -12,7 +12,7 @@ use Rattle.table.specs.Spans.{within}
 use Rattle.sections.proofs.SectionLaws.{laid-reads}
 use Rattle.table.proofs.Searches.{headed-wider}
 use Rattle.table.specs.Part.{recordsIn}
-use Rattle.sound_parts.specs.Parts.{Holds, EmojiPart, GroupsPart, asHeaded}
+use Rattle.sound_parts.specs.Parts.{Holds, EmojiPart, asHeaded}
 use Rattle.sound_parts.proofs.Walks.{records-are, records-hold}
 
 -- the sections of a laid-out table
@@ -52,6 +52,3 @@ module _ (ws : List ℕ) (ix : Sections) (l : Laid ws ix) where
 
   pub emoji-part : EmojiPart (theTable ws) (within (ix .emoji) ws)
   emoji-part = record { holds = emoji-hold; are = emoji-are }
-
-  pub groups-part : GroupsPart (theTable ws) (within (ix .groups) ws)
-  groups-part = record { holds = groups-hold; are = groups-are }

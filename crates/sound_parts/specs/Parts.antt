@@ -8,7 +8,7 @@ use lib.ListN.{length}
 use Rattle.lists.specs.Lists.{all, isSome}
 use Rattle.table.specs.declared.Span.{Span}
 use Rattle.table.specs.Table.{Headed, ClassRange, Group, Whole, Table}
-use Rattle.table.specs.Layout.{mostItems, headed, sequences, groups}
+use Rattle.table.specs.Layout.{mostItems, headed, sequences}
 use Rattle.table.specs.Part.{recordsIn}
 use Rattle.table.specs.Lookup.{inRanges}
 use Rattle.scalar.specs.Scalar.{isScalar}
@@ -31,14 +31,10 @@ allTriples p (a ∷ b ∷ k ∷ ws) = p a b k && allTriples p ws
 abbrev pub Holds : {X : Type 0} → (ℕ → List ℕ → Option (List X)) → List ℕ → Type 0
 Holds reader part = isSome (reader (length part) part) ≡ true
 
--- the words are those of the table's sequences, and of its groups
+-- the words are those of the table's sequences
 pub record EmojiPart (t : Table) (part : List ℕ) : Type 0 where
   pub holds : Holds sequences part
   pub are : recordsIn sequences part ≡ t .emoji
-
-pub record GroupsPart (t : Table) (part : List ℕ) : Type 0 where
-  pub holds : Holds groups part
-  pub are : recordsIn groups part ≡ t .groups
 
 -- a record of this head and these items
 abbrev pub recordOf : ℕ → List ℕ → Headed

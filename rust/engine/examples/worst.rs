@@ -1,7 +1,7 @@
-//! Times the calls on the worst tables: the name call, the screen form, the
-//! report, the list behind a 14, NFD and NFC on longer and longer texts, the list
-//! of slots on more and more of them, then the soundness check on tables in order
-//! and in random order. Not a test. docs/BOUNDS.md has the walks that they are
+//! Times the calls on the worst tables: the name call, the label call, the group
+//! and the emoji of a text, the screen form, the report, the list behind a 14, NFD
+//! and NFC on longer and longer texts, the list of slots on more and more of them,
+//! then the soundness check on tables in order and in random order. Not a test. docs/BOUNDS.md has the walks that they are
 //! made for.
 //! `cargo run --release --offline -p engine --example worst [SECONDS [WORDS]]`
 //!
@@ -12,6 +12,7 @@
 //! longest within the limits; what that one should take is then told from the
 //! last, in proportion, which is too little only for the ordering of NFD.
 
+use engine::emoji::emoji;
 use engine::lists::{moved, respelled};
 use engine::normal_forms::{nfc, nfd};
 use engine::report::report;
@@ -88,7 +89,8 @@ fn text_for(long: &Long, count: usize) -> Vec<u32> {
 /// The words that an answer or a list has.
 fn room_for(call: Call, count: usize) -> usize {
     match call {
-        Call::Name | Call::Report => WORKED,
+        Call::Name | Call::Label | Call::Report => WORKED,
+        Call::Group | Call::Emoji => 0,
         Call::Screen => SCREEN_ANY,
         Call::Respelled => 256,
         Call::Moved => 2 * SLOTS,
@@ -100,6 +102,9 @@ fn room_for(call: Call, count: usize) -> usize {
 fn call(long: &Long, text: &[u32], table: &[u32], answer: &mut [u32], out: &mut [u8], work: &mut [u32]) -> u32 {
     match long.call {
         Call::Name => engine::name(text, table, 0, answer, work).number,
+        Call::Label => engine::label(text, table, 0, answer, work).number,
+        Call::Group => engine::group(text, table).number,
+        Call::Emoji => emoji(text, table).number,
         Call::Screen => screen(text, table, 0, 0, answer, work).number,
         Call::Report => report(text, table, 0, out, work).number,
         Call::Respelled => respelled(text, table, answer, work).number,

@@ -15,12 +15,14 @@ use gen::worst;
 use painted::{run, traces, Left, Traces};
 use plain::book::{FORM, FRONT, SLOT, SLOTS};
 use plain::limits::{REPORT as REPORT_BYTES, WORKED, WORK_WORDS};
+use plain::TableBuilder;
 use std::collections::HashSet;
 use std::hint::black_box;
 
 const KB: usize = 1 << 10;
 
 /// What a call may leave of a text and use of the stack, on every path.
+#[derive(Clone, Copy)]
 struct Limits {
     /// Words that are single codepoints, spilled by an expression.
     words: usize,
@@ -120,7 +122,8 @@ const NFC: Call =
     Call { what: "nfc", number: |l| nfc(l.name, l.table, l.answer, l.work).number, limits: within(8 * KB) };
 
 /// Calls that only look at a text.
-const LOOKS: [Call; 2] = [
+const LOOKS: [Call; 3] = [
+    Call { what: "trim", number: |l| engine::trim(l.name).len() as u32, limits: within(KB) },
     Call { what: "group", number: |l| engine::group(l.name, l.table).number, limits: within(4 * KB) },
     Call { what: "emoji", number: |l| engine::emoji::emoji(l.name, l.table).number, limits: within(4 * KB) },
 ];
@@ -143,11 +146,15 @@ const SOUNDNESS: usize = 64 * KB;
 /// Frames that hold an account after save and find.
 const ACCOUNT_COPIES: usize = 3;
 
-/// Bytes of stack of unpacking.
-const UNPACK: usize = KB;
+/// Bytes of stack of unpacking, of the layout pass alone and of a reset.
+const PASS: usize = KB;
 
 /// Bytes of stack of Keccak-256, whole or a piece.
 const KECCAK: usize = 4 * KB;
+
+/// Bytes of a message that may stay in order after Keccak-256: a block, which the
+/// lanes of a sponge hold as it is until it is full.
+const BLOCK: usize = 136;
 
 /// A name, the setting, the words of the answer buffer, and the number that is
 /// due from the name call.
@@ -276,6 +283,16 @@ fn bytes_stay(left: &Left, bytes: &[u8]) -> bool {
     let parts: HashSet<&[u8]> = bytes.windows(9).collect();
     let all: Vec<u8> = left.words.iter().flat_map(|w| w.to_le_bytes()).collect();
     all.windows(9).any(|w| parts.contains(w))
+}
+
+/// The area of a book that has these names in its first slots.
+fn filed(names: &[Vec<u32>]) -> Vec<u32> {
+    let mut area = vec![0; AREA];
+    for (slot, name) in area[FRONT..].chunks_mut(SLOT).zip(names) {
+        slot[0] = name.len() as u32;
+        slot[1..=name.len()].copy_from_slice(name);
+    }
+    area
 }
 
 /// The book that a call is lent: for the list of slots one that has the name, or
@@ -424,11 +441,7 @@ fn a_full_book_listed() {
             _ => [&row(0x3B1, 6)[..], &[0x40 + i]].concat(),
         })
         .collect();
-    let mut area = vec![0; AREA];
-    for (slot, name) in area[FRONT..].chunks_mut(SLOT).zip(&names) {
-        slot[0] = name.len() as u32;
-        slot[1..=name.len()].copy_from_slice(name);
-    }
+    let area = filed(&names);
     let (mut list, mut work) = (vec![0; 2 * SLOTS], vec![0; WORK_WORDS]);
     let left = run(|| {
         let listed = moved(&area, &full, &mut list, &mut work);
@@ -439,6 +452,51 @@ fn a_full_book_listed() {
         let Traces { words, in_order } = traces(&left, name);
         assert!(words <= MOVED.limits.words && in_order <= 1, "{name:X?}: {words} words, {in_order} in order");
     }
+}
+
+/// The refusals of later calls that are given after text was read: too little
+/// room, a book that has one name twice, and a hash of what is no scalar value.
+#[test]
+fn refusals_of_later_calls() {
+    let full = standin::full().words;
+    let (han, confused) = (row(0x4E00, 200), [0x445, 0x430, 0x440, 0x435, 0x43E, 0x441].repeat(50));
+    let bytes = utf8(&han);
+    let refused = [&han[..], &[0x40]].concat();
+    let mut twice = filed(&[han.clone(), letters(20), han.clone()]);
+    let listed = filed(&[refused.clone()]);
+    let unsound = TableBuilder {
+        valid: vec![(0x4E00, 0x9FFF)],
+        mapped: vec![(0x41, vec![0xD800])],
+        groups: vec![(0, vec![(0x4E00, 0xD800)])],
+        ..TableBuilder::default()
+    };
+    let (unsound, hashed) = (unsound.to_words(), [&han[..], &[0x41]].concat());
+    let (mut answer, mut work) = (vec![7; WORKED], vec![7; WORK_WORDS]);
+    let keeps = |what: &str, due: u32, text: &[u32], limits: Limits, call: &mut dyn FnMut() -> u32| {
+        let mut number = 0;
+        let left = run(|| number = black_box(call()));
+        let Traces { words, in_order } = traces(&left, text);
+        println!("{what} ({number}): {words} words, {in_order} in order, {} bytes", left.used);
+        assert_eq!(number, due, "{what}");
+        assert!(words <= limits.words && in_order <= limits.in_order && left.used <= limits.stack, "{what}");
+        assert!(!bytes_stay(&left, &utf8(text)), "{what}");
+    };
+    keeps("moved", 33, &refused, MOVED.limits, &mut || moved(&listed, &full, &mut [7], &mut work).number);
+    keeps("respelled", 33, &confused, RESPELLED.limits, &mut || respelled(&confused, &full, &mut [], &mut work).number);
+    keeps("nfd", 51, &han, NFD.limits, &mut || nfd(&han, &full, &mut answer, &mut []).number);
+    keeps("nfc", 51, &han, NFC.limits, &mut || nfc(&han, &full, &mut answer, &mut []).number);
+    keeps("nfd", 52, &han, NFD.limits, &mut || nfd(&han, &full, &mut [7; 9], &mut work).number);
+    keeps("nfc", 52, &han, NFC.limits, &mut || nfc(&han, &full, &mut [7; 9], &mut work).number);
+    keeps("read", 31, &han, within(KB), &mut || engine::utf8::read(&bytes, &mut answer[..9]).number);
+    keeps("write", 31, &han, within(KB), &mut || engine::utf8::write(&han, &mut [7; 9]).number);
+    keeps("save", 41, &han, BOOK[0].limits, &mut || {
+        let mut desk = Desk { table: &full, setting: 0, answer: &mut answer, work: &mut work };
+        Book::new(&mut twice).save(&confused, ACCOUNT, &mut desk).number
+    });
+    keeps("moved", 41, &han, MOVED.limits, &mut || moved(&twice, &full, &mut [7; 128], &mut work).number);
+    keeps("name hash", 4, &hashed, NAMEHASH.limits, &mut || {
+        namehash(&hashed, &unsound, 0, &mut answer, &mut work).name.number
+    });
 }
 
 /// Where a text has the first item of a composition pair just before the
@@ -475,7 +533,7 @@ fn name_from_bytes() {
 }
 
 #[test]
-fn group_and_emoji() {
+fn trim_group_and_emoji() {
     LOOKS.iter().for_each(keeps);
 }
 
@@ -557,18 +615,61 @@ fn unpacking() {
         black_box(engine::unpack(&file, &mut words));
     });
     println!("unpack: {} bytes of stack", left.used);
-    assert!(left.used <= UNPACK);
+    assert!(left.used <= PASS);
 }
 
 #[test]
+fn layout_alone() {
+    for table in [standin::full().words, worst::chains(1).to_words(), worst::wide_whole().to_words(), vec![]] {
+        let left = run(|| {
+            black_box(engine::layout_fault(&table));
+        });
+        println!("layout fault, {} words: {} bytes of stack", table.len(), left.used);
+        assert!(left.used <= PASS);
+    }
+}
+
+/// A reset of a full book: nothing of a name that was filed, nor of its account.
+#[test]
+fn reset() {
+    let names: Vec<Vec<u32>> = (0..SLOTS as u32).map(|i| row(0x4E00 + 100 * i, 30)).collect();
+    let mut area = filed(&names);
+    area[FRONT + SLOT - 8..FRONT + SLOT].copy_from_slice(&ACCOUNT.words);
+    let (mut answer, mut work) = (vec![7; WORKED], vec![7; WORK_WORDS]);
+    let left = run(|| assert_eq!(Book::new(&mut area).reset(&mut answer, &mut work).number, 0));
+    println!("reset: {} bytes of stack", left.used);
+    assert!(left.used <= PASS && area[FRONT..].iter().all(|&w| w == 0));
+    for text in names.iter().map(|name| &name[..]).chain([&ACCOUNT.words[..]]) {
+        assert_eq!(traces(&left, text), Traces::default());
+    }
+}
+
+/// The longest stretch of these bytes that stands there in order.
+fn bytes_in_order(left: &Left, bytes: &[u8]) -> usize {
+    let all: Vec<u8> = left.words.iter().flat_map(|w| w.to_le_bytes()).collect();
+    let same = |at: usize, from: usize| all[at..].iter().zip(&bytes[from..]).take_while(|(a, b)| a == b).count();
+    let longest_at = |at| (0..bytes.len()).map(|from| same(at, from)).max();
+    (0..all.len()).filter_map(longest_at).max().unwrap_or(0)
+}
+
+/// The state goes by value, so that the bytes of a block that is not full stay: at
+/// most those, and of a message the first block alone, before it is permuted.
+#[test]
 fn hashing() {
-    let message = vec![0x61; 1_000];
-    let whole = run(|| {
-        black_box(engine::keccak::keccak256(&message));
-    });
-    let pieces = run(|| {
-        black_box(engine::keccak::Sponge::new().absorb(&message).absorb(&message).digest());
-    });
-    println!("keccak256: {} bytes of stack, in pieces {}", whole.used, pieces.used);
-    assert!(whole.used <= KECCAK && pieces.used <= KECCAK);
+    let mut rng = gen::Rng::new(41);
+    let message: Vec<u8> = (0..1_000).map(|_| rng.below(256) as u8).collect();
+    for length in [0, 8, 100, 135, 136, 137, 300, 1_000] {
+        let part = &message[..length];
+        let whole = run(|| {
+            black_box(engine::keccak::keccak256(part));
+        });
+        let pieces = run(|| {
+            black_box(engine::keccak::Sponge::new().absorb(part).absorb(part).digest());
+        });
+        for (what, left) in [("keccak256", whole), ("in pieces", pieces)] {
+            let stay = bytes_in_order(&left, part);
+            println!("{what}, {length} bytes: {} bytes of stack, {stay} of the message in order", left.used);
+            assert!(left.used <= KECCAK && stay <= BLOCK, "{what}, {length} bytes");
+        }
+    }
 }

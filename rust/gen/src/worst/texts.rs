@@ -11,6 +11,9 @@ use plain::TableBuilder;
 #[derive(Clone, Copy, Debug, PartialEq, Eq)]
 pub enum Call {
     Name,
+    Label,
+    Group,
+    Emoji,
     Screen,
     Report,
     Respelled,
@@ -53,7 +56,7 @@ const fn long(
 }
 
 /// Where a row says "in random order", each comparison's branch is a guess.
-pub const TEXTS: [Long; 54] = [
+pub const TEXTS: [Long; 59] = [
     long("scan: emoji of one codepoint", Call::Name, emoji_beside, letter_a, [16, INPUT], 0),
     long("scan: long emoji that start alike", Call::Name, emoji_alike, letter_a, [16, INPUT], 0),
     long("scan: emoji that start with FE0F", Call::Name, emoji_of_selectors, letter_a, [16, INPUT], 0),
@@ -92,6 +95,11 @@ pub const TEXTS: [Long; 54] = [
     long("14: 64 wholes in turn", Call::Name, wholes_in_turn::<64>, labels_in_turn::<64>, [127, WORKED], 0),
     long("14: a whole for each codepoint", Call::Name, whole_each, in_turn::<WORKED>, [16, WORKED], 0),
     long("14: a codepoint of many confused lists", Call::Name, wholes_alike, own, [16, WORKED], 0),
+    long("label: 13, 43,000 records", Call::Label, records_13, deep, [1, DEEP], 0),
+    long("label: 14, 9 wholes in turn", Call::Label, wholes_falling::<PAST>, in_turn::<PAST>, [PAST, WORKED], 0),
+    long("group: pairs in random order", Call::Group, group_random, own, [16, INPUT], 0),
+    long("emoji: long ones that start alike", Call::Emoji, emoji_alike, letter_a, [16, INPUT], 0),
+    long("emoji: that match, in random order", Call::Emoji, emoji_matching, letter_a, [16, INPUT], 0),
     long("screen form: emoji behind others", Call::Screen, emoji_last, letter_a, [16, WORKED], 0),
     long("screen form: an empty emoji behind others", Call::Screen, selectors_last, selectors_parted, [16, INPUT], 0),
     long("screen form: long emoji that start alike", Call::Screen, emoji_alike, letter_a, [16, WORKED], 0),
@@ -534,7 +542,7 @@ mod tests {
             let text = (long.text)(long.first);
             assert_eq!(text.len(), long.first, "{}", long.what);
             let due = match long.call {
-                Call::Name | Call::Report => long.number,
+                Call::Name | Call::Label | Call::Report => long.number,
                 Call::Respelled => 14,
                 _ => continue,
             };
