@@ -391,9 +391,13 @@ class Targets(unittest.TestCase):
             "  call void @llvm.memmove.p0.p0.i64(ptr %r0, ptr %a0, i64 %r2, i1 false)\n",
             "  %r3 = call i64 @llvm.ctpop.i64(i64 %r2)\n",
             "  store <4 x i32> zeroinitializer, ptr %a0, align 16\n",
+            "  store ptr %a0, ptr %r1, align 8\n",  # %r2 was loaded from there: a pointer that becomes a number
+            "  %r3 = load ptr, ptr %r1, align 8\n",
+            "  %r3 = getelementptr i8, ptr %r0, i64 4\n  store ptr %a0, ptr %r3, align 4\n",
         ):
             with self.assertRaises(header.Unknown, msg=other):
                 self.changed(MODULE.replace(line, line + other))
+        self.changed(MODULE.replace(line, line + "  store ptr %a0, ptr %r0, align 8\n"))
         for old, new in (
             (retarget.LAYOUT, retarget.LAYOUT.replace("i64:64", "i64:32")),
             (retarget.TRIPLE, "x86_64-pc-windows-msvc"),
