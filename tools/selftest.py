@@ -433,6 +433,12 @@ class Targets(unittest.TestCase):
             found.signature(call)
         self.assertEqual(set(run.KINDS), {c.name.removeprefix("wanlopheng_") for c in found.calls}, "the stack of every call is measured")
 
+    def test_functions_that_call_themselves_are_where_they_are_said_to_be(self):
+        for name in build.DEEP:
+            crate, *module, function = name.split("::")
+            source = (HERE.parent / "crates" / crate / "src" / f"{module[0] if module else 'lib'}.rt").read_text(encoding="utf-8")
+            self.assertRegex(source, rf"\bfn {function}\(")
+
     def test_frames(self):
         usage = "/tmp/m.ll:a\t100\tstatic\n/tmp/m.ll:low::c\t50\tstatic\n"
         self.assertEqual(build.frame_sizes("/tmp/m.c:7:24:wanlopheng_name\t40\tstatic\n"), {"wanlopheng_name": 48})
