@@ -55,6 +55,8 @@ SHAPES = [
     r"attributes #[1-9] = \{(?: (?:nocallback|nofree|nounwind|willreturn|cold|noreturn|memory\((?:argmem|inaccessiblemem): \w+\)))* \}",
     r'!llvm\.ident = !\{!0\}|!\d+ = !\{[^"{}]*\}|!0 = !\{!"rattle logic=[0-9a-f]+"\}',
 ]
+STEP = re.compile(rf"  (?P<to>%\w+) = getelementptr(?: inbounds)?(?: nuw)? i8, ptr (?P<from>{WORD}), i64 (?P<step>{WORD})")
+REACH = re.compile(rf"  (?:%\w+ = load (?P<kind>{ONE}|\{{ i64, i64 \}}), ptr |store (?P<stored>{ONE}) {WORD}, ptr )(?P<at>{WORD}),")
 SHAPE = re.compile("|".join(f"(?:{shape})" for shape in SHAPES))
 
 
@@ -66,6 +68,32 @@ def check(text):
     for due in (f'target datalayout = "{LAYOUT}"', f'target triple = "{TRIPLE}"', ATTRIBUTES):
         if text.count(due) != 1:
             raise Unknown(f"the module has no {due}")
+
+
+def check_slots(text):
+    """Refuses a module in which a function has a place once as a pointer and once as a number: so a pointer could become a number, or a number a
+    pointer, without a line that says so."""
+    known, pointers, numbers = {}, {}, {}  # a register's base and offset; for each base the offsets, and the offsets with their ends
+    for line in text.splitlines():
+        if line.startswith("define "):
+            known, pointers, numbers = {}, {}, {}
+        elif match := STEP.fullmatch(line):
+            base, offset = known.get(match["from"], (match["from"], 0))
+            step = match["step"]
+            known[match["to"]] = (match["to"], 0) if step.startswith("%") else (base, offset + int(step))
+        elif match := REACH.match(line):
+            base, offset = known.get(match["at"], (match["at"], 0))
+            kind = match["kind"] or match["stored"]
+            if kind == "ptr":
+                pointers.setdefault(base, set()).add(offset)
+            else:
+                bits = 128 if kind.startswith("{") else int(kind[1:])
+                numbers.setdefault(base, set()).add((offset, offset + max(1, bits // 8)))
+        elif line == "}":
+            for base, offsets in pointers.items():
+                mixed = [o for o in offsets if any(start < o + 8 and o < end for start, end in numbers.get(base, ()))]
+                if mixed:
+                    raise Unknown(f"a pointer at {base} + {mixed[0]} is a number too")
 
 
 def exports(text):
@@ -84,6 +112,7 @@ def retarget(text, header, layout, triple, probes, bits):
     """The module for a machine whose pointers have so many bits, and the calls that it has. `probes`: its back end knows how to touch each page
     of a large frame in turn."""
     check(text)
+    check_slots(text)
     here = exports(text)
     calls = [call for call in header.calls if call.name in here]
     if len(calls) != len(here):

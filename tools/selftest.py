@@ -391,9 +391,13 @@ class Targets(unittest.TestCase):
             "  call void @llvm.memmove.p0.p0.i64(ptr %r0, ptr %a0, i64 %r2, i1 false)\n",
             "  %r3 = call i64 @llvm.ctpop.i64(i64 %r2)\n",
             "  store <4 x i32> zeroinitializer, ptr %a0, align 16\n",
+            "  store ptr %a0, ptr %r1, align 8\n",  # %r2 was loaded from there: a pointer that becomes a number
+            "  %r3 = load ptr, ptr %r1, align 8\n",
+            "  %r3 = getelementptr i8, ptr %r0, i64 4\n  store ptr %a0, ptr %r3, align 4\n",
         ):
             with self.assertRaises(header.Unknown, msg=other):
                 self.changed(MODULE.replace(line, line + other))
+        self.changed(MODULE.replace(line, line + "  store ptr %a0, ptr %r0, align 8\n"))
         for old, new in (
             (retarget.LAYOUT, retarget.LAYOUT.replace("i64:64", "i64:32")),
             (retarget.TRIPLE, "x86_64-pc-windows-msvc"),
@@ -428,6 +432,12 @@ class Targets(unittest.TestCase):
         for call in found.calls:
             found.signature(call)
         self.assertEqual(set(run.KINDS), {c.name.removeprefix("wanlopheng_") for c in found.calls}, "the stack of every call is measured")
+
+    def test_functions_that_call_themselves_are_where_they_are_said_to_be(self):
+        for name in build.DEEP:
+            crate, *module, function = name.split("::")
+            source = (HERE.parent / "crates" / crate / "src" / f"{module[0] if module else 'lib'}.rt").read_text(encoding="utf-8")
+            self.assertRegex(source, rf"\bfn {function}\(")
 
     def test_frames(self):
         usage = "/tmp/m.ll:a\t100\tstatic\n/tmp/m.ll:low::c\t50\tstatic\n"

@@ -4,6 +4,10 @@ import { codepointsOf, textOf } from '../wanlopheng.mjs';
 const STOP = 0x2e;
 const JOINER = 0x200d;
 const SELECTOR = 0xfe0f;
+const KEYCAP = 0x20e3;
+const FLAG = 0x1f3f4;
+const LAST_TAG = 0xe007f;
+const ALPHA = 0x3b1;
 
 /** Of a refused name so many codepoints are looked through for tokens. */
 export const LOOKED_THROUGH = 1000;
@@ -44,10 +48,28 @@ export const hexBytes = (bytes) => Array.from(bytes, (b) => b.toString(16).padSt
 
 const INVISIBLE = /^[\p{C}\p{Z}\p{Default_Ignorable_Code_Point}]$/u;
 const MARK = /^\p{M}$/u;
+const PICTURE = /^\p{Extended_Pictographic}$/u;
+const TONE = /^\p{Emoji_Modifier}$/u;
+const isTag = (c) => c >= 0xe0020 && c <= LAST_TAG;
 const scalar = (c) => c < 0xd800 || (c > 0xdfff && c < 0x110000);
 
+/** Whether a joiner, a selector or a tag stands inside an emoji, where it is not seen as a character of its own: a selector once behind a character
+ * that can be an emoji (behind a digit only in a keycap), a joiner between two of them, tags between a flag and the last tag. */
+function holdsEmoji(codepoints, at) {
+    const is = (place, what) => scalar(codepoints[place] ?? 0) && what.test(String.fromCodePoint(codepoints[place] ?? 0));
+    if (isTag(codepoints[at])) {
+        let [first, last] = [at, at];
+        while (isTag(codepoints[first - 1])) first -= 1;
+        while (isTag(codepoints[last]) && codepoints[last] !== LAST_TAG) last += 1;
+        return codepoints[first - 1] === FLAG && codepoints[last] === LAST_TAG && codepoints.indexOf(LAST_TAG, first) >= at;
+    }
+    if (codepoints[at] === SELECTOR) return is(at - 1, PICTURE) || (is(at - 1, /^[#*0-9]$/) && codepoints[at + 1] === KEYCAP);
+    const before = codepoints[at - 1] === SELECTOR ? at - 2 : at - 1;
+    return codepoints[at] === JOINER && (is(before, PICTURE) || is(before, TONE)) && is(at + 1, PICTURE);
+}
+
 /** Pieces of a text to be shown one after another: characters, and numbers in the place of what cannot be seen, of marks that stand alone and of
- * what the table says to escape. A joiner or a selector between two characters that are shown holds an emoji together and stays. */
+ * what the table says to escape. A joiner or a selector that holds an emoji together stays. */
 export function shown(codepoints, contents = null) {
     const pieces = [];
     let open = false; // the last piece is a text that a mark or a joiner can join
@@ -58,10 +80,8 @@ export function shown(codepoints, contents = null) {
     };
     codepoints.forEach((c, at) => {
         const text = scalar(c) ? String.fromCodePoint(c) : '';
-        const next = codepoints[at + 1];
-        const joins = (c === JOINER && next !== undefined && next > 0xff && !MARK.test(String.fromCodePoint(Math.min(next, 0x10ffff)))) || c === SELECTOR;
         const plain = text !== '' && !INVISIBLE.test(text) && !MARK.test(text) && !contents?.isEscaped(c);
-        const joined = open && text !== '' && (joins || (MARK.test(text) && !INVISIBLE.test(text) && !contents?.isEscaped(c)));
+        const joined = open && text !== '' && (holdsEmoji(codepoints, at) || (MARK.test(text) && !INVISIBLE.test(text) && !contents?.isEscaped(c)));
         add(plain || joined ? text : numbered(c), !(plain || joined));
         open = (plain && c !== STOP) || joined;
     });
@@ -132,12 +152,15 @@ function kindOf(desk, label) {
     return groupName(desk, label.group);
 }
 
-/** The number of the Greek group, or one beyond the last group. */
-export const greekOf = (desk) => (desk.groups.includes('Greek') ? desk.groups.indexOf('Greek') : desk.contents.groups.length);
+/** The number of the Greek group: by its name, or, where the table came without names, the first group with alpha; else one beyond the last. */
+export function greekOf({ groups, contents }) {
+    if (groups.includes('Greek')) return groups.indexOf('Greek');
+    return (groups.length === 0 ? contents.groupsOf(ALPHA)[0] : undefined) ?? contents.groups.length;
+}
 
-/** The screen form (Item 1), where the engine has the call; else null. */
+/** The screen form (Item 1). */
 export function screenOf(desk, text) {
-    return typeof desk.table.screen === 'function' ? desk.table.screen(text, { ...desk.options, greek: greekOf(desk) }) : null;
+    return desk.table.screen(text, { ...desk.options, greek: greekOf(desk) });
 }
 
 /** The name's answer and its hash by one call; the hash's own 4, which only a table that is not sound can give, leaves the name's answer alone. */
@@ -164,18 +187,32 @@ function accepted(desk, text, codepoints, name) {
     };
 }
 
+/** The characters of a label's text, each once: what the mappings and NFC make of all that no emoji takes. */
+function charactersOf(desk, label) {
+    const texts = [[]];
+    for (let at = 0; at < label.length; ) {
+        const taken = emojiAt(desk, label, at, label.length);
+        if (taken > 0) texts.push([]);
+        else texts.at(-1).push(...desk.contents.fate(label[at]).to);
+        at += Math.max(taken, 1);
+    }
+    const formed = texts.flatMap((text) => {
+        const form = textOf(text) === null ? null : desk.table.nfc(textOf(text));
+        return form?.accepted ? form.codepoints : text;
+    });
+    return [...new Set(formed)];
+}
+
 /** What stands behind a 12: each character of the label's text with its groups, the characters in the fewest groups first. */
 function behind12(desk, label) {
-    const text = label.flatMap((c) => desk.contents.fate(c).to);
-    const own = [...new Set(text)].map((codepoint) => ({ codepoint, groups: desk.contents.groupsOf(codepoint).map((g) => groupName(desk, g)) }));
+    const own = charactersOf(desk, label).map((codepoint) => ({ codepoint, groups: desk.contents.groupsOf(codepoint).map((g) => groupName(desk, g)) }));
     return own.sort((a, b) => a.groups.length - b.groups.length);
 }
 
 /** What stands behind a 14: the groups in which the label could be respelled, and the characters that look like its confused ones. */
 function behind14(desk, label) {
     const list = desk.table.respelled(String.fromCodePoint(...label));
-    const text = [...new Set(label.flatMap((c) => desk.contents.fate(c).to))];
-    const alike = text.map((codepoint) => ({ codepoint, alike: desk.contents.lookalikes(codepoint) })).filter((entry) => entry.alike.length > 0);
+    const alike = charactersOf(desk, label).map((codepoint) => ({ codepoint, alike: desk.contents.lookalikes(codepoint) })).filter((entry) => entry.alike.length > 0);
     return { groups: list.accepted ? list.groups.map((g) => groupName(desk, g)) : [], alike };
 }
 

@@ -137,7 +137,7 @@ function showAccepted(found) {
         facts(
             ['Normal form', labels(found.codepoints, 'form'), copyButton('the normal form', form)],
             ['Codepoints', numbers(found.codepoints), copyButton('the codepoints', hex(found.codepoints))],
-            screen === null ? null : ['Screen form', screen.accepted ? [labels(screen.codepoints, 'form'), copyButton('the screen form', screen.form ?? '')] : `refusal ${screen.refusal.number}: ${screen.refusal.text}`],
+            ['Screen form', screen.accepted ? [labels(screen.codepoints, 'form'), copyButton('the screen form', screen.form ?? '')] : `refusal ${screen.refusal.number}: ${screen.refusal.text}`],
             found.hash === null ? null : ['Hash', h('code', {}, found.hash), copyButton('the hash', found.hash)],
         ),
         found.labels.length === 0 ? null : grid('Labels', ['No.', 'Label', 'Kind', 'Rare script (restricted)', 'Codepoints'], found.labels.slice(0, SHOWN).map((l, i) => [String(i), text(l.codepoints), l.kind, l.restricted === null ? '' : l.restricted ? 'yes' : 'no', numbers(l.codepoints)])),
@@ -270,6 +270,13 @@ function overList(prefix, job, tables, show) {
 
 // Many names.
 
+/** A file of names goes into the field; one that is not UTF-8 is said to be none, and not mended. */
+async function takeList(file) {
+    const read = state.library.readUtf8(new Uint8Array(await file.arrayBuffer()));
+    if (read.accepted) $('list').value = read.text.replace(/^\ufeff/, '');
+    fill('list-said', read.accepted ? `${file.name} is read.` : `${file.name} is not read: ${RULES[30][0]} The first fault is at byte ${read.refusal.place}. ${RULES[30][1]}`);
+}
+
 const ROWS = 100; // on one page of a long table
 const view = { by: 'index', down: false, number: null, page: 0 };
 
@@ -358,16 +365,14 @@ function showDifference(found) {
 
 // A payee book.
 
-/** The filed slots; with the screen form where the engine has the call. */
+/** The filed slots, with the screen forms by the table in use. */
 function slotTable(caption, words) {
-    const screens = screenOf(desk(), '') !== null;
     const rows = filed(words).map(({ slot, form, account }) => {
         const name = textOf(form);
-        const screen = name === null || !screens ? null : screenOf(desk(), name);
-        const shownScreen = screens ? [screen?.accepted ? labels(screen.codepoints) : ''] : [];
-        return [String(slot), labels(form), ...shownScreen, h('code', {}, accountText(account))];
+        const screen = name === null ? null : screenOf(desk(), name);
+        return [String(slot), labels(form), screen?.accepted ? labels(screen.codepoints) : 'none: the table refuses the name', h('code', {}, accountText(account))];
     });
-    return rows.length === 0 ? h('p', {}, 'No slot is filed.') : grid(caption, ['Slot', 'Name', ...(screens ? ['Screen form'] : []), 'Account'], rows);
+    return rows.length === 0 ? h('p', {}, 'No slot is filed.') : grid(caption, ['Slot', 'Name', 'Screen form', 'Account'], rows);
 }
 
 function movedTables(words) {
@@ -476,7 +481,7 @@ function listen() {
         state.difference = overList('compare', 'compare', tables, showDifference);
     });
     $('compare-save').addEventListener('click', () => save('differences.csv', csv(DIFFERENCE_HEAD, state.difference.rows.map((r) => [r.index + 1, r.name, told(r.first), told(r.second)]))));
-    chosen('list-file', async (file) => ($('list').value = await file.text()));
+    chosen('list-file', takeList);
     chosen('table-file', takeTable);
     dropped('table-drop', takeTable);
     chosen('book-file', takeDump);

@@ -7,7 +7,7 @@ import { fileURLToPath } from 'node:url';
 import vm from 'node:vm';
 import { BOOK_WORDS, MEANINGS, load } from '../wanlopheng.mjs';
 import * as books from './book.mjs';
-import { judge, RULES, screenOf, shown } from './judge.mjs';
+import { greekOf, judge, RULES, screenOf, shown } from './judge.mjs';
 import { arranged, cell, cellsOf, counts, csv, differs, namesOf, row, ROW_HEAD, told } from './lists.mjs';
 import { Contents, SOUNDNESS_RULES } from './table.mjs';
 import { work } from './worker.mjs';
@@ -47,13 +47,21 @@ test('an accepted name', async () => {
     assert.deepEqual(judge(desk, '').labels, []);
 });
 
-test('the screen form, where the engine has it', async () => {
+test('the screen form', async () => {
     const desk = await opened();
     const asked = screenOf({ ...desk, table: { screen: (name, options) => [name, options] }, options: { restrict: true } }, 'x');
     assert.deepEqual(asked, ['x', { restrict: true, greek: 1 }]);
-    assert.equal(screenOf({ ...desk, groups: [], table: { screen: (name, options) => options.greek } }, 'x'), desk.contents.groups.length);
-    if (typeof desk.table.screen !== 'function') return assert.equal(judge(desk, 'a').screen, null);
     assert.deepEqual(judge(desk, '👨‍❤‍👨').screen.codepoints, hex('1F468 200D 2764 FE0F 200D 1F468'));
+    assert.equal(judge(desk, 'ξδ.aξ').screen.form, 'ξδ.aΞ');
+    // A table without names of its groups: Greek is the first group with alpha; with names of which none is Greek, and with no alpha, none.
+    for (const path of ['data/full.tab', 'data/names.tab']) {
+        const named = await opened(path);
+        assert.equal(greekOf({ ...named, groups: [] }), greekOf(named), path);
+        assert.equal(named.groups[greekOf(named)], 'Greek');
+    }
+    assert.equal(judge({ ...desk, groups: [] }, 'ξδ.aξ').screen.form, 'ξδ.aΞ');
+    assert.equal(greekOf({ ...desk, groups: ['Latin'] }), desk.contents.groups.length);
+    assert.equal(greekOf({ groups: [], contents: { groups: [1, 2], groupsOf: () => [] } }), 2);
 });
 
 test('ignored characters count to a token, also before an emoji', async () => {
@@ -82,6 +90,8 @@ test('refusals in words, with their places', async () => {
     const mixed = judge(desk, 'aжb');
     assert.deepEqual(mixed.characters.map((c) => c.codepoint).toSorted((a, b) => a - b), [0x61, 0x62, 0x436]);
     assert.ok(mixed.characters.find((c) => c.codepoint === 0x436).groups.includes('Cyrillic'));
+    // The groups are those of the mapped, composed text: no keycap's digit, no accent by itself.
+    assert.deepEqual(judge(desk, '1️⃣E\u0301ж').characters.map((c) => c.codepoint).toSorted((a, b) => a - b), [0xe9, 0x436]);
     const alike = judge(desk, '0х');
     assert.ok(alike.groups.includes('Latin'));
     assert.deepEqual(alike.alike.map((a) => a.codepoint), [0x445]);
@@ -107,6 +117,14 @@ test('what cannot be seen stands as a number', async () => {
     assert.equal(pieces('202E 61 20'), '[U+202E]a[U+0020]');
     assert.equal(pieces('1F468 200D 1F4BB'), '👨‍💻');
     assert.equal(pieces('61 200D'), 'a[U+200D]');
+    assert.equal(pieces('4E00 200D 4E8C'), '一[U+200D]二');
+    assert.equal(pieces('627 200D 628'), '\u0627[U+200D]\u0628');
+    assert.equal(pieces('61 FE0F 31 FE0F'), 'a[U+FE0F]1[U+FE0F]');
+    assert.equal(pieces('2764 FE0F FE0F'), '❤\ufe0f[U+FE0F]');
+    assert.equal(pieces('31 FE0F 20E3'), '1\ufe0f\u20e3');
+    for (const whole of ['1F575 1F3FD 200D 2642 FE0F', '1F3F3 FE0F 200D 1F308', '1F44D 1F3FD 200D 1F44D', '1F3F4 E0067 E0062 E0065 E006E E0067 E007F']) assert.equal(pieces(whole), of(whole));
+    assert.equal(pieces('61 E0067 E007F 1F3F4 E0067'), 'a[U+E0067][U+E007F]🏴[U+E0067]');
+    assert.equal(pieces('1F3F4 E0067 E007F E0067 E007F'), `${of('1F3F4 E0067 E007F')}[U+E0067][U+E007F]`);
     assert.equal(pieces('D800 110000'), '[U+D800][U+110000]');
     assert.deepEqual(shown([0x61, 0x200d, 0x62], contents).map((p) => p.number), [false, true, false]);
 });
@@ -230,7 +248,7 @@ test('the page: its policy, its hashes, no way outside', () => {
     const worker = html.match(/<script type="text\/plain" id="worker">([^]*?)<\/script>/)[1];
     for (const source of [scripts.join('\n'), scripts[0] + worker]) new vm.Script(source);
     const text = html.replace(/<script type="text\/plain" id="(?:module|table)">[^]*?<\/script>/g, '');
-    assert.doesNotMatch(text, /\bhttps?:|\bwss?:|\bftp:|\bfetch\(['"`]|XMLHttpRequest|sendBeacon|EventSource|WebSocket|RTCPeer|localStorage|sessionStorage|indexedDB|document\.cookie|window\.open|location\.(?:href|assign|replace)|\bstyle="|\bon\w+="/);
+    assert.doesNotMatch(text, /\bhttps?:|\bwss?:|\bftp:|\bfetch\(|\bimport\(|XMLHttpRequest|sendBeacon|EventSource|WebSocket|RTCPeer|localStorage|sessionStorage|indexedDB|document\.cookie|window\.open|location\.(?:href|assign|replace)|\bstyle="|\bon\w+="/);
     for (const [, target] of text.matchAll(/\b(?:href|src|action)="([^"]*)"/g)) assert.match(target, /^#/);
     assert.doesNotMatch(text, /innerHTML|outerHTML|insertAdjacentHTML|document\.write|\beval\(|new Function/);
 });
