@@ -152,9 +152,12 @@ const PASS: usize = KB;
 /// Bytes of stack of Keccak-256, whole or a piece.
 const KECCAK: usize = 4 * KB;
 
-/// Bytes of a message that may stay in order after Keccak-256: a block, which the
-/// lanes of a sponge hold as it is until it is full.
+/// Bytes of a block of Keccak-256: the lanes of a sponge hold them as they are
+/// until it is full.
 const BLOCK: usize = 136;
+
+/// Bytes of a longer message that may stay in order: what one register holds.
+const LANE: usize = 8;
 
 /// A name, the setting, the words of the answer buffer, and the number that is
 /// due from the name call.
@@ -632,7 +635,8 @@ fn layout_alone() {
 /// A reset of a full book: nothing of a name that was filed, nor of its account.
 #[test]
 fn reset() {
-    let names: Vec<Vec<u32>> = (0..SLOTS as u32).map(|i| row(0x4E00 + 100 * i, 30)).collect();
+    // Above what the halves of an address are.
+    let names: Vec<Vec<u32>> = (0..SLOTS as u32).map(|i| row(0x2_1000 + 100 * i, 30)).collect();
     let mut area = filed(&names);
     area[FRONT + SLOT - 8..FRONT + SLOT].copy_from_slice(&ACCOUNT.words);
     let (mut answer, mut work) = (vec![7; WORKED], vec![7; WORK_WORDS]);
@@ -652,8 +656,8 @@ fn bytes_in_order(left: &Left, bytes: &[u8]) -> usize {
     (0..all.len()).filter_map(longest_at).max().unwrap_or(0)
 }
 
-/// The state goes by value, so that the bytes of a block that is not full stay: at
-/// most those, and of a message the first block alone, before it is permuted.
+/// The state goes by value, so that a message shorter than a block stays; of a
+/// longer one the first block is permuted, and nothing does.
 #[test]
 fn hashing() {
     let mut rng = gen::Rng::new(41);
@@ -669,7 +673,7 @@ fn hashing() {
         for (what, left) in [("keccak256", whole), ("in pieces", pieces)] {
             let stay = bytes_in_order(&left, part);
             println!("{what}, {length} bytes: {} bytes of stack, {stay} of the message in order", left.used);
-            assert!(left.used <= KECCAK && stay <= BLOCK, "{what}, {length} bytes");
+            assert!(left.used <= KECCAK && (length < BLOCK || stay <= LANE), "{what}, {length} bytes");
         }
     }
 }
