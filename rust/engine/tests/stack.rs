@@ -635,7 +635,8 @@ fn layout_alone() {
 /// A reset of a full book: nothing of a name that was filed, nor of its account.
 #[test]
 fn reset() {
-    let names: Vec<Vec<u32>> = (0..SLOTS as u32).map(|i| row(0x4E00 + 100 * i, 30)).collect();
+    // Above what the halves of an address are.
+    let names: Vec<Vec<u32>> = (0..SLOTS as u32).map(|i| row(0x2_1000 + 100 * i, 30)).collect();
     let mut area = filed(&names);
     area[FRONT + SLOT - 8..FRONT + SLOT].copy_from_slice(&ACCOUNT.words);
     let (mut answer, mut work) = (vec![7; WORKED], vec![7; WORK_WORDS]);
