@@ -466,7 +466,7 @@ fn refusals_of_later_calls() {
     let bytes = utf8(&han);
     let refused = [&han[..], &[0x40]].concat();
     let mut twice = filed(&[han.clone(), letters(20), han.clone()]);
-    let listed = filed(&[refused.clone()]);
+    let listed = filed(std::slice::from_ref(&refused));
     let unsound = TableBuilder {
         valid: vec![(0x4E00, 0x9FFF)],
         mapped: vec![(0x41, vec![0xD800])],
