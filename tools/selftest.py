@@ -440,8 +440,8 @@ class Targets(unittest.TestCase):
             self.assertRegex(source, rf"\bfn {function}\(")
 
     def test_frames(self):
-        usage = "/tmp/m.ll:a\t100\tstatic\n/tmp/m.ll:low::c\t50\tstatic\n"
-        self.assertEqual(build.frame_sizes("/tmp/m.c:7:24:wanlopheng_name\t40\tstatic\n"), {"wanlopheng_name": 48})
+        usage = "out/m.ll:a\t100\tstatic\nout/m.ll:low::c\t50\tstatic\n"
+        self.assertEqual(build.frame_sizes("out/m.c:7:24:wanlopheng_name\t40\tstatic\n"), {"wanlopheng_name": 48})
         text = ('define void @a() {\n  call void @"low::b"()\n  call void @"low::c"()\n}\ndefine void @"low::b"() {\n  call void @"low::c"()\n}\n'
                 'define void @"low::c"() {\n}\n')
         self.assertEqual(build.frames(usage, text), {"a": 166, "low::b": 58, "low::c": 58})
