@@ -8,7 +8,7 @@ use ending::finish;
 use limits::MOST_WORKED;
 use sections::Layout;
 use sections::Sections;
-use unpaired::PAIR_WORDS;
+use unpaired::KNOWN_WORDS;
 ghost use mathlib.Core.Path.{_≡_};
 ghost use lib.ListN.{length};
 ghost use Rattle.sections.specs.Laid.{Laid};
@@ -103,7 +103,7 @@ fn nfc_front(text: &[u32], words: &[u32], answer: &mut [u32], work: &mut [u32]) 
     let FormAnswer::Formed(n) = arranged else {
         return arranged;
     };
-    let mut unpaired = [0u32; PAIR_WORDS];
+    let mut unpaired = [0u32; KNOWN_WORDS];
     let left = compose(words, ix, &mut unpaired, &mut answer[..n], &work[..n]);
     FormAnswer::Formed(left)
 }

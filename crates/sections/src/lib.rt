@@ -1,9 +1,37 @@
 // The places of the sections among the words of a table, and lookups by them.
 pub mod lookup;
 
+use heads::Marks;
 use table::Span;
 
-// Where the sections stand among the words of a table, without the counts that lead them.
+// Which sections were found to be sorted. 02, Item 11: "which sections are sorted without overlap". A flag may be false where it is so, and is
+// never true where it is not.
+pub struct Sorted {
+    pub valid: bool,
+    pub ignored: bool,
+    pub fenced: bool,
+    pub marks: bool,
+    pub nsm: bool,
+    pub mapped: bool,
+    pub decompositions: bool,
+    pub emoji: bool,
+    pub exclusions: bool,
+    pub classes: bool,
+    pub groups: bool,
+    pub escape: bool,
+    pub quick: bool,
+}
+
+// Places of records from which a search may start, in the sections whose records differ in length; and the numbers of the emoji at theirs.
+pub struct Starts {
+    pub mapped: Marks,
+    pub decompositions: Marks,
+    pub emoji: Marks,
+    pub numbers: Marks,
+}
+
+// Where the sections stand among the words of a table, without the counts that lead them; and what the layout pass found of them: which are
+// sorted, where a search may start, and whether every second item of a composition pair is in the quick-check set.
 pub struct Sections {
     pub valid: Span,
     pub ignored: Span,
@@ -18,6 +46,10 @@ pub struct Sections {
     pub groups: Span,
     pub wholes: Span,
     pub escape: Span,
+    pub quick: Span,
+    pub sorted: Sorted,
+    pub starts: Starts,
+    pub seconds: bool,
 }
 
 // What the layout pass finds.

@@ -6,6 +6,7 @@ use rule_4::rule4;
 use rule_5::rule5;
 use rule_6::rule6;
 use rule_7::rule7;
+use rule_8::rule8;
 use rules_1_3::rule1;
 use rules_1_3::rule3;
 use sections::Layout;
@@ -41,6 +42,9 @@ fn rules(words: &[u32], ix: Sections) -> Soundness
     }
     if !rule7::keeps_rule7(words, ix) {
         return Soundness::Broken(7);
+    }
+    if !rule8::keeps_rule8(words, ix) {
+        return Soundness::Broken(8);
     }
     Soundness::Sound
 }

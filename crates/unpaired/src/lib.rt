@@ -1,12 +1,15 @@
 // Composition pairs among the decomposition records. Which records are no composition pairs is found once in a call: `unpaired` is lent by the
-// call and has a bit for each record that was found to be none.
+// call and has a bit for each record that was found to be none, and behind them one that says that rule 8 was found to hold.
 use bit_sets::has;
 use bit_sets::put;
 use sections::Sections;
 use text::class;
 
-// The words of that set: 131,073 words hold at most 43,691 records.
-pub const PAIR_WORDS: usize = 1366;
+// The words of that set: 131,073 words hold at most 43,691 records, which need 1,366.
+pub const KNOWN_WORDS: usize = 1367;
+
+// The bit that says that text outside the quick-check set whose classes stand in order is its own NFC.
+pub const QUICK_PLACE: u32 = 43712;
 
 ghost use mathlib.Core.Path.{_≡_};
 ghost use Prim.Native.Nat.{_<_};
@@ -15,7 +18,7 @@ ghost use Rattle.table.specs.Layout.{theTable};
 ghost use Rattle.unpaired.specs.Unpaired.{mayCompose, pairPlaces, isPairAt, Unpaired, Asked};
 
 // Whether a decomposition of head to two items, the first of them a, is a composition pair.
-fn may_compose(head: u32, words: &[u32], ix: Sections, a: u32) -> bool
+pub fn may_compose(head: u32, words: &[u32], ix: Sections, a: u32) -> bool
     requires { ⌜ Laid (now words) ix ⌝ }
     ensures { λ r. ⌜ r ≡ mayCompose (theTable (now (words .entry))) head a ⌝ }
 {

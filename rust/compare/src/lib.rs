@@ -13,5 +13,5 @@ pub use again::{check_again, check_joining};
 pub use engine::Engine;
 pub use harness::{compare, say, Counts, Report, Settings};
 pub use older::check_older;
-pub use plain_engine::{Indexed, Plain};
+pub use plain_engine::{Indexed, Passed, Plain};
 pub use tally::Tally;

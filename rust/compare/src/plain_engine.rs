@@ -1,8 +1,9 @@
-//! The plain version as an engine, and the same rules over the index.
+//! The plain version as an engine, and the same rules over the index and by
+//! the pass.
 
 use crate::engine::Engine;
 use plain::calls::{check_work, label_by, name_by};
-use plain::{parse, Index, Label, Name, Refusal, Soundness};
+use plain::{parse, Index, Label, Name, Pass, Refusal, Soundness};
 
 /// The public calls of the plain version.
 pub struct Plain;
@@ -41,6 +42,32 @@ impl Engine for Indexed {
     }
     fn label(&self, label: &[u32], table: &[u32], answer: &mut [u32], work: &mut [u32]) -> Result<Label, Refusal> {
         with_index(table, work, |index, work| label_by(index, 0, label, answer, work))
+    }
+    fn soundness(&self, table: &[u32]) -> Soundness {
+        Plain.soundness(table)
+    }
+    fn unpack(&self, file: &[u8], answer: &mut [u32]) -> Result<usize, Refusal> {
+        Plain.unpack(file, answer)
+    }
+}
+
+/// The job by the pass over a table, or with refusal 1 or 2.
+fn with_pass<R>(words: &[u32], work: &mut [u32], job: impl FnOnce(Result<&Pass, Refusal>, &mut [u32]) -> R) -> R {
+    let Some(pass) = Pass::read(words) else {
+        return job(Err(Refusal::new(1, 0)), work);
+    };
+    job(check_work(work).map(|()| &pass), work)
+}
+
+/// The plain rules over `Pass`: searches by halves, in a call by itself.
+pub struct Passed;
+
+impl Engine for Passed {
+    fn name(&self, name: &[u32], table: &[u32], answer: &mut [u32], work: &mut [u32]) -> Result<Name, Refusal> {
+        with_pass(table, work, |pass, work| name_by(pass, 0, name, answer, work))
+    }
+    fn label(&self, label: &[u32], table: &[u32], answer: &mut [u32], work: &mut [u32]) -> Result<Label, Refusal> {
+        with_pass(table, work, |pass, work| label_by(pass, 0, label, answer, work))
     }
     fn soundness(&self, table: &[u32]) -> Soundness {
         Plain.soundness(table)

@@ -3,7 +3,7 @@
 //! 01 in the comments). It is the reference that the proved engine is compared
 //! with and the baseline for its speed, so it is clear before it is fast.
 //!
-//! * `table`: words to thirteen sections, and back.
+//! * `table`: words to fourteen sections, and back.
 //! * `lookup`: what the rules ask a table. `Table` answers by reading from the
 //!   front; `Index` gives the same answers faster.
 //! * `text`: Hangul, classes, decomposition, ordering, composition.
@@ -11,13 +11,14 @@
 //! * `label`: the rules of one label.
 //! * `groups`: the search for 12 as a call.
 //! * `calls`: the public calls on words and buffers.
-//! * `soundness`: the seven rules of the soundness check.
+//! * `soundness`: the eight rules of the soundness check.
 //! * `emoji`: which emoji it was.
 //! * `file`: table files.
 //! * `book`: the payee book.
 //! * `keccak`: Keccak-256.
 //! * `lists`: slots that a new table would file differently, groups behind 14.
 //! * `namehash`: the name hash of EIP-137.
+//! * `pass`: the same lookups by what one pass over the words finds.
 //! * `report`: the report of what was typed.
 //! * `screen`: the screen form of a name.
 //! * `trim`: an input without the blanks at its ends.
@@ -33,6 +34,7 @@ pub mod label;
 pub mod lists;
 pub mod lookup;
 pub mod namehash;
+pub mod pass;
 pub mod ranges;
 pub mod report;
 pub mod screen;
@@ -50,6 +52,7 @@ pub use file::{pack, pack_as, unpack};
 pub use keccak::keccak256;
 pub use label::LabelForm;
 pub use lookup::{Index, Lookup};
+pub use pass::Pass;
 pub use ranges::Ranges;
 pub use report::report;
 pub use screen::screen;
@@ -63,7 +66,7 @@ pub use utf8::{name_bytes, utf8_read, utf8_write};
 /// The numbers that 01 and 02 name.
 pub mod limits {
     /// Words of a table.
-    pub const TABLE_WORDS: usize = 131_073;
+    pub const TABLE_WORDS: usize = 131_074;
     /// Groups of a table.
     pub const GROUPS: usize = 256;
     /// Words that a work area needs.

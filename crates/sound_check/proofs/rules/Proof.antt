@@ -96,17 +96,35 @@ returns-7 c =
       sym (c .before .keeps-rule7 .ensures) ∙ not-true _ (c .if7 .taken),
     )
 
+keeps-rule8-requires : tie.Need-keeps-rule8-requires
+keeps-rule8-requires c κs = c .before .before .before .before .before .before .before .before .before .before .before .before .before .before .before .pre
+
 returns-8 : tie.Need-returns-8
 returns-8 c =
     rw (
       lowest-is _,
-      sym (c .before .before .before .before .before .before .before .before .before .before .before .before .before .keeps-rule1 .ensures) ∙ not-false _ (c .before .before .before .before .before .before .before .before .before .before .before .before .if1 .left),
-      sym (c .before .before .before .before .before .before .before .before .before .before .before .keeps-rule2 .ensures) ∙ not-false _ (c .before .before .before .before .before .before .before .before .before .before .if2 .left),
-      sym (c .before .before .before .before .before .before .before .before .before .keeps-rule3 .ensures) ∙ not-false _ (c .before .before .before .before .before .before .before .before .if3 .left),
-      sym (c .before .before .before .before .before .before .before .keeps-rule4 .ensures) ∙ not-false _ (c .before .before .before .before .before .before .if4 .left),
-      sym (c .before .before .before .before .before .keeps-rule5 .ensures) ∙ not-false _ (c .before .before .before .before .if5 .left),
-      sym (c .before .before .before .keeps-rule6 .ensures) ∙ not-false _ (c .before .before .if6 .left),
-      sym (c .before .keeps-rule7 .ensures) ∙ not-false _ (c .if7 .left),
+      sym (c .before .before .before .before .before .before .before .before .before .before .before .before .before .before .before .keeps-rule1 .ensures) ∙ not-false _ (c .before .before .before .before .before .before .before .before .before .before .before .before .before .before .if1 .left),
+      sym (c .before .before .before .before .before .before .before .before .before .before .before .before .before .keeps-rule2 .ensures) ∙ not-false _ (c .before .before .before .before .before .before .before .before .before .before .before .before .if2 .left),
+      sym (c .before .before .before .before .before .before .before .before .before .before .before .keeps-rule3 .ensures) ∙ not-false _ (c .before .before .before .before .before .before .before .before .before .before .if3 .left),
+      sym (c .before .before .before .before .before .before .before .before .before .keeps-rule4 .ensures) ∙ not-false _ (c .before .before .before .before .before .before .before .before .if4 .left),
+      sym (c .before .before .before .before .before .before .before .keeps-rule5 .ensures) ∙ not-false _ (c .before .before .before .before .before .before .if5 .left),
+      sym (c .before .before .before .before .before .keeps-rule6 .ensures) ∙ not-false _ (c .before .before .before .before .if6 .left),
+      sym (c .before .before .before .keeps-rule7 .ensures) ∙ not-false _ (c .before .before .if7 .left),
+      sym (c .before .keeps-rule8 .ensures) ∙ not-true _ (c .if8 .taken),
+    )
+
+returns-9 : tie.Need-returns-9
+returns-9 c =
+    rw (
+      lowest-is _,
+      sym (c .before .before .before .before .before .before .before .before .before .before .before .before .before .before .before .keeps-rule1 .ensures) ∙ not-false _ (c .before .before .before .before .before .before .before .before .before .before .before .before .before .before .if1 .left),
+      sym (c .before .before .before .before .before .before .before .before .before .before .before .before .before .keeps-rule2 .ensures) ∙ not-false _ (c .before .before .before .before .before .before .before .before .before .before .before .before .if2 .left),
+      sym (c .before .before .before .before .before .before .before .before .before .before .before .keeps-rule3 .ensures) ∙ not-false _ (c .before .before .before .before .before .before .before .before .before .before .if3 .left),
+      sym (c .before .before .before .before .before .before .before .before .before .keeps-rule4 .ensures) ∙ not-false _ (c .before .before .before .before .before .before .before .before .if4 .left),
+      sym (c .before .before .before .before .before .before .before .keeps-rule5 .ensures) ∙ not-false _ (c .before .before .before .before .before .before .if5 .left),
+      sym (c .before .before .before .before .before .keeps-rule6 .ensures) ∙ not-false _ (c .before .before .before .before .if6 .left),
+      sym (c .before .before .before .keeps-rule7 .ensures) ∙ not-false _ (c .before .before .if7 .left),
+      sym (c .before .keeps-rule8 .ensures) ∙ not-false _ (c .if8 .left),
     )
 
 pub rules-spec : {M : Type 1} → statement M
@@ -127,4 +145,6 @@ rules-spec =
     returns-6
     keeps-rule7-requires
     returns-7
-    returns-8)
+    keeps-rule8-requires
+    returns-8
+    returns-9)

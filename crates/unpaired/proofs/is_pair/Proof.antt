@@ -36,7 +36,7 @@ returns-3 : tie.Need-returns-3
 returns-3 c =
     let s = c .before .before .before .before .before .before .before .before .before .before .before in
     let m : false ≡ _ = sym (c .before .before .before .before .if2 .left) ∙ c .before .before .before .before .before .may-compose .ensures in
-    record { is = m; unpaired = unpaired-more _ _ _ (s .pre .1 .0 .0) _ (s .pre .1 .1 ∙ sym m) (c .before .before .put .ensures) }
+    record { is = m; unpaired = unpaired-more _ _ _ (s .pre .1 .0 .0) (s .pre .1 .0 .1) _ (s .pre .1 .1 ∙ sym m) (c .before .before .put .ensures) }
 
 pub is-pair-spec : {M : Type 1} → statement M
 is-pair-spec =

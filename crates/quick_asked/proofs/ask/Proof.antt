@@ -1,0 +1,36 @@
+-- `ask` meets its contract: rule 8 is noted where it is found to hold. Assumes nothing.
+use borrow.Author.Needs.{needs}
+use borrow.Author.Tests.{not-false}
+use Rattle.quick_local.specs.Laws.{found-rules}
+use Rattle.unpaired.proofs.Noting.{unpaired-quick}
+use Rattle.quick_asked.proofs.ask.Statement.{statement}
+use Rattle.quick_asked.proofs.ask.Tie as tie
+
+returns : tie.Need-returns
+returns c = c .before .before .before .pre .1
+
+finds-requires : tie.Need-finds-requires
+finds-requires c κs = search needs
+
+returns-2 : tie.Need-returns-2
+returns-2 c = c .before .before .before .before .before .pre .1
+
+put-requires : tie.Need-put-requires
+put-requires c κs = search needs
+
+same-length : tie.Need-same-length
+same-length c = search needs
+
+returns-3 : tie.Need-returns-3
+returns-3 c = unpaired-quick _ _ _ (c .before .before .before .before .before .before .before .before .before .pre .1) (found-rules _ (c .before .before .before .before .before .finds .ensures (not-false _ (c .before .before .before .before .if2 .left))) .2) (c .before .before .put .ensures)
+
+pub ask-spec : {M : Type 1} → statement M
+ask-spec =
+    tie.close
+    (tie.spec
+    returns
+    finds-requires
+    returns-2
+    put-requires
+    same-length
+    returns-3)

@@ -1,0 +1,27 @@
+// Whether a call leaves text that needs no NFC as it is: rules 6 to 8 are looked for where the input is so long that this saves more than the
+// look costs.
+use bit_sets::put;
+use quick_found::finds;
+use sections::Sections;
+use unpaired::QUICK_PLACE;
+ghost use Rattle.sections.specs.Laid.{Laid};
+ghost use Rattle.table.specs.Layout.{theTable};
+ghost use Rattle.unpaired.specs.Unpaired.{Unpaired};
+
+// The shortest input for which they are looked for.
+const QUICK_FROM: usize = 512;
+
+// Notes that rules 6 to 8 hold, if they are found to, for an input of n codepoints.
+pub fn ask(words: &[u32], ix: Sections, unpaired: &mut [u32], n: usize)
+    requires { ⌜ Laid (now words) ix ⌝ }
+    requires { ⌜ Unpaired (theTable (now words)) (now unpaired) ⌝ }
+    ensures { λ _. ⌜ Unpaired (theTable (now (words .entry))) (now (unpaired .exit)) ⌝ }
+{
+    if n < QUICK_FROM {
+        return;
+    }
+    if !finds(words, ix) {
+        return;
+    }
+    put(unpaired, QUICK_PLACE);
+}

@@ -1,0 +1,4 @@
+pub mod Filter
+pub mod Slot
+pub mod Walk
+pub mod Fit
