@@ -1,5 +1,5 @@
 -- Laws of a walk over entries of one length that sees whether they fit and stand apart. Assumes nothing.
-use Prim.Native.Nat.{ℕ, zero, suc, _+_, _-_, _*_, _/_, _%_, _<_, _≤_}
+use Prim.Native.Nat.{ℕ, _+_, _-_, _*_, _/_, _%_, _<_, _≤_}
 use native.Mathlib.Numerals.{add-one}
 use native.Mathlib.Nat.{suc-mul, zero-mul, div-add-mod'}
 use native.Mathlib.Omega.{arith}
@@ -19,27 +19,8 @@ use Rattle.halving.specs.declared.Order.{Order}
 use Rattle.halving.specs.Order.{isFault, isSorted, OrderOf}
 use Rattle.halving.specs.Halving.{Apart, orderIf}
 use Rattle.halving.specs.Stride.{entry-fits}
+use Rattle.halving.specs.Tested.{chained}
 use Rattle.halving.proofs.Halves.{positive}
-
--- entries each of which is apart from the next are apart
-module _ (step last : ℕ) (ws : List ℕ) where
-  module _ (w : (k : ℕ) → k < length ws / step → getD ws (k * step) 0 ≤ getD ws (k * step + last) 0)
-      (n : (k : ℕ) → k + 1 < length ws / step → getD ws (k * step + last) 0 < getD ws ((k + 1) * step) 0) where
-    far : (d i : ℕ) → i + 1 + d < length ws / step → getD ws (i * step + last) 0 < getD ws ((i + 1 + d) * step) 0
-    far zero i h =
-        let here : i + 1 + 0 ≡ i + 1 = omega arith in
-        rw here (n i (omega arith))
-    far (suc d) i h =
-        let here : i + 1 + suc d ≡ i + 1 + d + 1 = omega (arith, add-one d) in
-        let room : i + 1 + d + 1 < length ws / step = omega (arith, add-one d) in
-        rw here (omega (arith, far d i (omega arith), w (i + 1 + d) (omega arith), n (i + 1 + d) room))
-
-    pub chained : Apart step last ws
-    chained =
-        record {
-          whole = w;
-          apart = λ i j h l. let here : i + 1 + (j - (i + 1)) ≡ j = omega arith in rw here at (far (j - (i + 1)) i (omega arith));
-        }
 
 -- The first i entries are seen, one at least: f, the test of a section, goes on behind them.
 pub record Seen (f : List ℕ → Bool) (step last : ℕ) (ws : List ℕ) (fits apart : Bool) (end i : ℕ) : Type 0 where
