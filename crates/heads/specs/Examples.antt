@@ -41,10 +41,10 @@ sample-known =
     record {
       parses = refl;
       marks =
-        record {
-          a = record { p = λ h. first; q = λ h. first; r = λ h. first; s = λ h. first };
-          b = record { p = λ h. first; q = λ h. first; r = λ h. first; s = λ h. second };
-        };
+          record {
+            a = record { p = λ h. first; q = λ h. first; r = λ h. first; s = λ h. first };
+            b = record { p = λ h. first; q = λ h. first; r = λ h. first; s = λ h. second };
+          };
       rise = λ e. refl;
     }
 
