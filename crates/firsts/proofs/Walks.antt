@@ -13,7 +13,7 @@ use borrow.Author.Tests.{le-leb}
 use Rattle.lists.specs.Lists.{isSome}
 use Rattle.lists.specs.Tests.{not-so, never}
 use Rattle.table.specs.Layout.{mostItems, inFront, countFits, sequences}
-use Rattle.table.proofs.Lookups.{false-true, drop-next}
+use Rattle.table.proofs.Lookups.{both, false-true, drop-next}
 use Rattle.table.proofs.Fuels.{sequences-next}
 use Rattle.table.proofs.Records.{sequences-end}
 use Rattle.halving.specs.declared.Order.{Order}
@@ -105,7 +105,7 @@ module _ (ws : List ℕ) (here back : Start) (floor : ℕ) (flag : Bool) (f g : 
       let e : isSome (sequences (length ws) ws) ≡ false
       = not-so (isSome (sequences (length ws) ws)) (λ h. let x = from-here ws (here .place) (here .number) (p .seen h .from) i in broken (x .low) (x .high) (x .fits)) in
       record {
-        order = rw t (record { fault = rw e; sorted = λ h. absurd (false-true h) });
+        order = rw t (record { fault = rw e; sorted = λ h. absurd (false-true h); found = λ h a. never (isSome (sequences (length ws) ws)) h e });
         marks = λ h. never (isSome (sequences (length ws) ws)) h e;
       }
 
@@ -144,6 +144,6 @@ module _ (ws : List ℕ) (here back : Start) (floor : ℕ) (flag : Bool) (f g : 
       let done : s .from .left ≡ [] = sequences-end ws (here .place) (s .from .left) (s .from .walk) i in
       let rise : (flag && true) ≡ steady 0 (sequencesIn ws) = rw done at (s .rise) in
       record {
-        order = record { fault = fault ∙ rw e; sorted = λ h. sym rise ∙ rw (← sorted, h) };
+        order = record { fault = fault ∙ rw e; sorted = λ h. sym rise ∙ rw (← sorted, h); found = λ h a. sorted ∙ both flag true (rise ∙ a) .0 };
         marks = λ h. s .marks;
       }

@@ -1,15 +1,16 @@
 -- Laws of a walk over entries of one length that sees whether they fit and stand apart. Assumes nothing.
-use Prim.Native.Nat.{ℕ, zero, suc, _+_, _-_, _*_, _/_, _%_, _<_, _≤_}
+use Prim.Native.Nat.{ℕ, _+_, _-_, _*_, _/_, _%_, _<_, _≤_}
 use native.Mathlib.Numerals.{add-one}
 use native.Mathlib.Nat.{suc-mul, zero-mul, div-add-mod'}
 use native.Mathlib.Omega.{arith}
 use mathlib.Core.Path.{_≡_, refl, sym, _∙_, ap}
 use mathlib.Core.Bool.{Bool, true, false, not, _&&_, false≢true}
+use mathlib.Core.Logic.{_↔_}
 use mathlib.Core.List.{List, [], _∷_}
 use mathlib.Core.Option.{Option, none, some}
 use lib.ListN.{length, getD, drop, length-drop}
 use lib.Dec.{leb, ltb, eqb}
-use borrow.Author.Tests.{leb-true, ltb-true, ltb-false}
+use borrow.Author.Tests.{leb-true, ltb-true, ltb-false, lt-ltb}
 use Rattle.lists.specs.Lists.{isSome}
 use Rattle.lists.specs.Laws.{both-left, both-right}
 use Rattle.table.specs.Layout.{onlyIf, inFront, ranges, classRanges, mostClass}
@@ -18,27 +19,8 @@ use Rattle.halving.specs.declared.Order.{Order}
 use Rattle.halving.specs.Order.{isFault, isSorted, OrderOf}
 use Rattle.halving.specs.Halving.{Apart, orderIf}
 use Rattle.halving.specs.Stride.{entry-fits}
+use Rattle.halving.specs.Tested.{chained}
 use Rattle.halving.proofs.Halves.{positive}
-
--- entries each of which is apart from the next are apart
-module _ (step last : ℕ) (ws : List ℕ) where
-  module _ (w : (k : ℕ) → k < length ws / step → getD ws (k * step) 0 ≤ getD ws (k * step + last) 0)
-      (n : (k : ℕ) → k + 1 < length ws / step → getD ws (k * step + last) 0 < getD ws ((k + 1) * step) 0) where
-    far : (d i : ℕ) → i + 1 + d < length ws / step → getD ws (i * step + last) 0 < getD ws ((i + 1 + d) * step) 0
-    far zero i h =
-        let here : i + 1 + 0 ≡ i + 1 = omega arith in
-        rw here (n i (omega arith))
-    far (suc d) i h =
-        let here : i + 1 + suc d ≡ i + 1 + d + 1 = omega (arith, add-one d) in
-        let room : i + 1 + d + 1 < length ws / step = omega (arith, add-one d) in
-        rw here (omega (arith, far d i (omega arith), w (i + 1 + d) (omega arith), n (i + 1 + d) room))
-
-    pub chained : Apart step last ws
-    chained =
-        record {
-          whole = w;
-          apart = λ i j h l. let here : i + 1 + (j - (i + 1)) ≡ j = omega arith in rw here at (far (j - (i + 1)) i (omega arith));
-        }
 
 -- The first i entries are seen, one at least: f, the test of a section, goes on behind them.
 pub record Seen (f : List ℕ → Bool) (step last : ℕ) (ws : List ℕ) (fits apart : Bool) (end i : ℕ) : Type 0 where
@@ -48,6 +30,7 @@ pub record Seen (f : List ℕ → Bool) (step last : ℕ) (ws : List ℕ) (fits 
   pub so : f ws ≡ fits && f (drop (i * step) ws)
   pub each : fits ≡ true → (k : ℕ) → k < i → getD ws (k * step) 0 ≤ getD ws (k * step + last) 0
   pub next : apart ≡ true → (k : ℕ) → k + 1 < i → getD ws (k * step + last) 0 < getD ws ((k + 1) * step) 0
+  pub found : Apart step last ws → apart ≡ true
 
 -- the entry at i fits where t is true
 pub record Entry (f : List ℕ → Bool) (step last : ℕ) (ws : List ℕ) (i : ℕ) (t : Bool) : Type 0 where
@@ -68,8 +51,13 @@ module _ {f : List ℕ → Bool} {step last : ℕ} {test : List ℕ → ℕ → 
       (record {
         fault = faulty (eqb (length ws % step) 0) ∙ ap not (sym e);
         sorted = λ x. record { whole = λ i l. absurd (omega arith); apart = λ i j k l. absurd (omega arith) };
+        found = λ x a. right (eqb (length ws % step) 0) (sym e ∙ x);
       })
     where
+      right : (a : Bool) → a ≡ true → isSorted (orderIf a true) ≡ true
+      right true x = refl
+      right false x = x
+
       faulty : (a : Bool) → isFault (orderIf a true) ≡ not a
       faulty true = refl
       faulty false = refl
@@ -87,6 +75,7 @@ module _ {f : List ℕ → Bool} {step last : ℕ} {test : List ℕ → ℕ → 
         so = rw one (e .so);
         each = λ q k l. let z : k ≡ 0 = omega arith in rw (z, zero-mul) (e .each q);
         next = λ q k l. absurd (omega arith);
+        found = λ a. refl;
       }
 
   module _ (fits apart : Bool) (end i : ℕ) (w : Seen f step last ws fits apart end i) where
@@ -101,8 +90,13 @@ module _ {f : List ℕ → Bool} {step last : ℕ} {test : List ℕ → ℕ → 
           so = w .so ∙ ap (λ (b : Bool). fits && b) (e .so) ∙ rw step-next (joined fits t (f (drop (i * step + step) ws)));
           each = λ q k l. each-on (both-left fits t q) (both-right fits t q) k (ltb k i) refl l;
           next = λ q k l. next-on (both-left apart (ltb end (getD ws (i * step) 0)) q) (both-right apart (ltb end (getD ws (i * step) 0)) q) k (ltb (k + 1) i) refl l;
+          found = λ a. rw (w .found a, lt-ltb end (getD ws (i * step) 0) (ahead a));
         }
       where
+        -- entries that are apart: the one at i starts above the one before it
+        ahead : Apart step last ws → end < getD ws (i * step) 0
+        ahead a = omega (arith, w .before, a .apart (i - 1) i (omega (arith, w .some)) h)
+
         t : Bool
         t = test ws (i * step)
 
@@ -144,8 +138,13 @@ module _ {f : List ℕ → Bool} {step last : ℕ} {test : List ℕ → ℕ → 
           fault = faulty whole fits apart ∙ ap not (sym (w .so ∙ ap (λ (b : Bool). fits && b) e));
           sorted = λ x. let r = right whole fits apart x in
               chained step last ws (λ k l. w .each (r .0) k (omega (arith, w .inside))) (λ k l. w .next (r .1) k (omega (arith, w .inside)));
+          found = λ x a. let p : fits && whole ≡ true = sym (w .so ∙ ap (λ (b : Bool). fits && b) e) ∙ x in
+              all-right whole fits apart (both-right fits whole p) (both-left fits whole p) (w .found a);
         })
       where
+        all-right : (a b d : Bool) → a ≡ true → b ≡ true → d ≡ true → isSorted (orderIf (a && b) d) ≡ true
+        all-right a b d p q r = rw (p, q, r)
+
         whole : Bool
         whole = eqb (length ws % step) 0
 
@@ -207,15 +206,27 @@ triples =
 pub record Rises (ws : List ℕ) (rise : Bool) (i : ℕ) : Type 0 where
   pub some : 1 ≤ i
   pub next : rise ≡ true → (k : ℕ) → k + 1 < i → getD ws k 0 < getD ws (k + 1) 0
+  pub found : Apart 1 0 ws → rise ≡ true
 
 module _ (ws : List ℕ) where
   pub rises-start : Rises ws true 1
-  rises-start = record { some = omega arith; next = λ q k l. absurd (omega arith) }
+  rises-start = record { some = omega arith; next = λ q k l. absurd (omega arith); found = λ a. refl }
 
   module _ (rise : Bool) (i : ℕ) (w : Rises ws rise i) where
-    pub rises-on : Rises ws (rise && ltb (getD ws (i - 1) 0) (getD ws i 0)) (i + 1)
-    rises-on = record { some = omega arith; next = λ q k l. on (both-left rise (ltb (getD ws (i - 1) 0) (getD ws i 0)) q) (both-right rise (ltb (getD ws (i - 1) 0) (getD ws i 0)) q) k (ltb (k + 1) i) refl l }
+    pub rises-on : i < length ws → Rises ws (rise && ltb (getD ws (i - 1) 0) (getD ws i 0)) (i + 1)
+    rises-on h =
+        record {
+          some = omega arith;
+          next = λ q k l. on (both-left rise (ltb (getD ws (i - 1) 0) (getD ws i 0)) q) (both-right rise (ltb (getD ws (i - 1) 0) (getD ws i 0)) q) k (ltb (k + 1) i) refl l;
+          found = λ a. rw (w .found a, lt-ltb (getD ws (i - 1) 0) (getD ws i 0) (ahead a));
+        }
       where
+        ahead : Apart 1 0 ws → getD ws (i - 1) 0 < getD ws i 0
+        ahead a =
+            let one : (i - 1) * 1 + 0 ≡ i - 1 = omega arith in
+            let two : i * 1 ≡ i = omega arith in
+            rw (one, two) at (a .apart (i - 1) i (omega (arith, w .some)) (omega arith))
+
         on : rise ≡ true → ltb (getD ws (i - 1) 0) (getD ws i 0) ≡ true → (k : ℕ) (b : Bool) → ltb (k + 1) i ≡ b → k + 1 < i + 1
             → getD ws k 0 < getD ws (k + 1) 0
         on q r k true x l = w .next q k (ltb-true (k + 1) i x)
@@ -226,16 +237,16 @@ module _ (ws : List ℕ) where
             let s : ltb (getD ws k 0) (getD ws (k + 1) 0) ≡ true = rw (prior, same) at r in
             ltb-true (getD ws k 0) (getD ws (k + 1) 0) s
 
-    pub rises-stop : length ws ≤ i → rise ≡ true → Apart 1 0 ws
-    rises-stop h q = chained 1 0 ws (λ k l. here k) (λ k l. on k (omega arith))
+    pub rises-stop : length ws ≤ i → (rise ≡ true) ↔ Apart 1 0 ws
+    rises-stop h = (λ q. chained 1 0 ws (λ k l. here k) (λ k l. on q k (omega arith)), w .found)
       where
         here : (k : ℕ) → getD ws (k * 1) 0 ≤ getD ws (k * 1 + 0) 0
         here k =
             let same : k * 1 + 0 ≡ k * 1 = omega arith in
             rw same (omega arith)
 
-        on : (k : ℕ) → k + 1 < length ws → getD ws (k * 1 + 0) 0 < getD ws ((k + 1) * 1) 0
-        on k l =
+        on : rise ≡ true → (k : ℕ) → k + 1 < length ws → getD ws (k * 1 + 0) 0 < getD ws ((k + 1) * 1) 0
+        on q k l =
             let same : k * 1 + 0 ≡ k = omega arith in
             let next : (k + 1) * 1 ≡ k + 1 = omega arith in
             rw (same, next) (w .next q k (omega arith))

@@ -14,7 +14,8 @@ isSorted Fault = false
 isSorted AsGiven = false
 isSorted Sorted = true
 
--- what a walk over a section answers: a fault exactly where the words do not fit, and sorted only where they are
+-- what a walk over a section answers: a fault exactly where the words do not fit, and of words that fit, sorted exactly where they are
 pub record OrderOf (fits : Bool) (Ascending : Type 0) (r : Order) : Type 0 where
   pub fault : isFault r ≡ not fits
   pub sorted : isSorted r ≡ true → Ascending
+  pub found : fits ≡ true → Ascending → isSorted r ≡ true

@@ -2,6 +2,7 @@
 use std::num::wrapping_sub_u64;
 ghost use mathlib.Core.Path.{_≡_};
 ghost use mathlib.Core.Bool.{true};
+ghost use mathlib.Core.Logic.{_↔_};
 ghost use Prim.Native.Nat.{_≤_};
 ghost use Rattle.lists.specs.Lists.{mem, isSome};
 ghost use Rattle.table.specs.Layout.{ranges, classRanges};
@@ -157,7 +158,7 @@ pub fn triples_order(part: &[u32]) -> Order
 
 // Whether each of the items is above those before it.
 pub fn items_rise(items: &[u32]) -> bool
-    ensures { λ r. ⌜ (r ≡ true → Apart 1 0 (now (items .entry))) ⌝ }
+    ensures { λ r. ⌜ (r ≡ true) ↔ Apart 1 0 (now (items .entry)) ⌝ }
 {
     let mut rise = true;
     let mut i: usize = 1;

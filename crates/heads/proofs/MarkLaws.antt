@@ -1,8 +1,8 @@
 -- Marks stand where records do: at the start, and with one more that does. Assumes nothing.
 use Prim.Native.Nat.{ℕ, _≤_, _<_}
 use native.Mathlib.Omega.{arith}
-use mathlib.Core.Path.{_≡_, refl, sym, _∙_, ap}
-use mathlib.Core.Bool.{Bool, true, false, not, cond}
+use mathlib.Core.Path.{_≡_, refl}
+use mathlib.Core.Bool.{Bool, true, false, cond}
 use mathlib.Core.List.{List, []}
 use mathlib.Core.Option.{Option, none, some}
 use lib.ListN.{length, getD}
@@ -15,11 +15,9 @@ use Rattle.table.specs.Part.{recordsIn, headsIn, HeadedAt}
 use Rattle.table.proofs.Lookups.{false-true}
 use Rattle.table.proofs.Records.{records-start}
 use Rattle.table.proofs.Searches.{headed-wider}
-use Rattle.halving.specs.Order.{isFault, isSorted}
-use Rattle.heads.specs.declared.HeadsOrder.{HeadsOrder}
 use Rattle.heads.specs.declared.Four.{Four}
 use Rattle.heads.specs.declared.Marks.{Marks}
-use Rattle.heads.specs.Heads.{RecordsFrom, Stands, FourStand, MarksStand, noMarks, mostPlace, withMark, StartsAt, HeadsFound, HeadsKnown}
+use Rattle.heads.specs.Heads.{RecordsFrom, Stands, FourStand, MarksStand, noMarks, mostPlace, withMark, StartsAt}
 
 -- the records of a section that is well formed
 pub heads-are : (ws : List ℕ) (most : ℕ) → most ≤ mostItems → isSome (headed (length ws) most ws) ≡ true → headed (length ws) most ws ≡ some (headsIn ws)
@@ -75,15 +73,3 @@ start-first ws c w = record { from = w; low = λ i. absurd (omega arith) }
 
 pub start-mark : (ws : List ℕ) (c at : ℕ) → Stands ws at → at < length ws → getD ws at 0 ≤ c → StartsAt ws c at
 start-mark ws c at s h i = record { from = s h; low = λ j. (h, i) }
-
--- What the walk found is what a search asks for.
-pub found-known : (ws : List ℕ) (most : ℕ) (r : HeadsOrder) → most ≤ mostItems → HeadsFound ws most r → isFault (r .order) ≡ false
-    → HeadsKnown ws (isSorted (r .order)) (r .marks)
-found-known ws most r i f e =
-    let fits : isSome (headed (length ws) most ws) ≡ true = good (isSome (headed (length ws) most ws)) (sym (f .order .fault) ∙ e) in
-    let wide : headed (length ws) mostItems ws ≡ some (headsIn ws) = headed-wider (length ws) most mostItems ws (headsIn ws) i (heads-are ws most i fits) in
-    record { parses = ap isSome wide; marks = f .marks fits; rise = f .order .sorted }
-  where
-    good : (b : Bool) → not b ≡ false → b ≡ true
-    good true h = refl
-    good false h = sym h

@@ -104,7 +104,7 @@ module _ (ws : List ℕ) (most at floor : ℕ) (flag : Bool) (m : Marks) (p : He
       let e : isSome (headed (length ws) most ws) ≡ false
       = not-so (isSome (headed (length ws) most ws)) (λ h. let x = headed-step most ws at (p .seen h .left) (p .seen h .walk) i in broken (x .low) (x .high) (x .fits)) in
       record {
-        order = record { fault = ap isFault o ∙ rw e; sorted = λ h. absurd (false-true (sym (ap isSorted o) ∙ h)) };
+        order = record { fault = ap isFault o ∙ rw e; sorted = λ h. absurd (false-true (sym (ap isSorted o) ∙ h)); found = λ h a. never (isSome (headed (length ws) most ws)) h e };
         marks = λ h. never (isSome (headed (length ws) most ws)) h e;
       }
 
@@ -143,7 +143,7 @@ module _ (ws : List ℕ) (most at floor : ℕ) (flag : Bool) (m : Marks) (p : He
       let done : s .left ≡ [] = headed-end most ws at (s .left) (s .walk) i in
       let rise : (flag && true) ≡ rising 0 (headsIn ws) = rw done at (s .rise) in
       record {
-        order = record { fault = fault ∙ rw e; sorted = λ h. sym rise ∙ rw (← sorted, h) };
+        order = record { fault = fault ∙ rw e; sorted = λ h. sym rise ∙ rw (← sorted, h); found = λ h a. sorted ∙ both flag true (rise ∙ a) .0 };
         marks = λ h. s .marks;
       }
 

@@ -92,6 +92,10 @@ pub first-true : (a b : Bool) → (a && b) ≡ true → a ≡ true
 first-true true b e = refl
 first-true false b e = e
 
+pub both-true : (a b : Bool) → a ≡ true → b ≡ true → (a && b) ≡ true
+both-true true b p q = q
+both-true false b p q = p
+
 pub whole-fits : (ws : List ℕ) → wholeSize ws ≤ length ws
 unfolding wholeSize
 whole-fits ws =

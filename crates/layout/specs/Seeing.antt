@@ -9,8 +9,8 @@ use Rattle.table.specs.Layout.{mostItems, mostParts, mostGroups, ranges, classR
 use Rattle.table.specs.Spans.{within}
 use Rattle.table.specs.GroupPart.{groupsIn}
 use Rattle.halving.specs.Halving.{Apart}
-use Rattle.heads.specs.Heads.{HeadsKnown}
-use Rattle.firsts.specs.Firsts.{FirstsKnown}
+use Rattle.heads.specs.Heads.{HeadsRise, HeadsKnown}
+use Rattle.firsts.specs.Firsts.{FirstsSteady, FirstsKnown}
 use Rattle.sections.specs.declared.Sections.{Sections}
 use Rattle.sections.specs.declared.Sorted.{Sorted}
 use Rattle.sections.specs.declared.Starts.{Starts}
@@ -22,10 +22,11 @@ use Rattle.layout.specs.declared.Sets.{Sets}
 use Rattle.layout.specs.declared.Others.{Others}
 use Rattle.layout.specs.Walk.{wholesFit, groupsWithin}
 
--- it is seen whether the section is well formed, and where it is seen to be sorted, it is
+-- it is seen whether the section is well formed, and where it is, whether it is sorted
 pub record Sees (wellFormed : Bool) (Ascending : Type 0) (r : Seen) : Type 0 where
   pub fits : r .fits ≡ wellFormed
   pub sorted : r .sorted ≡ true → Ascending
+  pub found : wellFormed ≡ true → Ascending → r .sorted ≡ true
 
 abbrev pub SeesPairs : List ℕ → Seen → Type 0
 SeesPairs part = Sees (isSome (ranges part)) (Apart 2 1 part)
@@ -33,10 +34,12 @@ SeesPairs part = Sees (isSome (ranges part)) (Apart 2 1 part)
 pub record SeesHeads (part : List ℕ) (most : ℕ) (r : HeadsSeen) : Type 0 where
   pub fits : r .fits ≡ isSome (headed (length part) most part)
   pub known : r .fits ≡ true → HeadsKnown part (r .sorted) (r .marks)
+  pub found : r .fits ≡ true → HeadsRise part → r .sorted ≡ true
 
 pub record SeesFirsts (part : List ℕ) (r : FirstsSeen) : Type 0 where
   pub fits : r .fits ≡ isSome (sequences (length part) part)
   pub known : r .fits ≡ true → FirstsKnown part (r .sorted) (r .places) (r .numbers)
+  pub found : r .fits ≡ true → FirstsSteady part → r .sorted ≡ true
 
 pub record SetsFound (ws : List ℕ) (ix : Sections) (s : Sets) : Type 0 where
   pub valid : SeesPairs (within (ix .valid) ws) (s .valid)
@@ -109,5 +112,4 @@ foundOf ix s o =
       quick = ix .quick;
       sorted = sortedOf s o;
       starts = startsOf o;
-      seconds = false;
     }

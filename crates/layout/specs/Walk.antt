@@ -1,5 +1,5 @@
 -- How the layout pass walks the wholes and the groups: the size of the one that comes next. Assumes nothing.
-use Prim.Native.Nat.{ℕ, _+_}
+use Prim.Native.Nat.{ℕ, _+_, _<_}
 use mathlib.Core.Path.{_≡_}
 use mathlib.Core.Bool.{Bool, true, _&&_, cond}
 use mathlib.Core.List.{List}
@@ -35,6 +35,7 @@ groupPairs ws = take (getD ws 1 0) (drop 2 ws)
 pub record GroupSized (ws : List ℕ) (r : GroupSeen) : Type 0 where
   pub size : r .size ≡ groupSize ws
   pub sorted : r .sorted ≡ true → Apart 2 1 (groupPairs ws)
+  pub found : 0 < r .size → Apart 2 1 (groupPairs ws) → r .sorted ≡ true
 
 -- the words are wholes
 unfoldable pub wholesFit : List ℕ → Bool

@@ -31,13 +31,13 @@ ghost use Prim.Native.Nat.{_≤_};
 ghost use mathlib.Core.Path.{_≡_};
 ghost use mathlib.Core.Bool.{not};
 ghost use Rattle.lists.specs.Lists.{isSome};
-ghost use Rattle.table.specs.Layout.{mostItems, mostGroups, ranges, classRanges, excluded, tableOf};
+ghost use Rattle.table.specs.Layout.{mostItems, mostGroups, ranges, classRanges, excluded};
 ghost use Rattle.table.specs.Spans.{within, Fits};
 ghost use Rattle.table.specs.GroupPart.{groupsIn};
 ghost use Rattle.halving.specs.Order.{isFault, isSorted};
 ghost use Rattle.halving.specs.Halving.{Apart};
 ghost use Rattle.sections.specs.Known.{noneSorted, noStarts, behindCount, GroupsApart};
-ghost use Rattle.sections.specs.Laid.{spanAt, sectionsOf, AllFit, LaidOut, partsOf};
+ghost use Rattle.sections.specs.Laid.{spanAt, sectionsOf, AllFit, LaidOut};
 ghost use Rattle.layout.specs.Walk.{wholeSize, wholesFit, GroupSized, groupsWithin};
 ghost use Rattle.layout.specs.Seeing.{Sees, SeesHeads, SeesFirsts, SetsFound, OthersFound, allFit, sortedOf, startsOf, foundOf};
 
@@ -181,7 +181,6 @@ fn places(words: &[u32]) -> Sections
         quick: quick,
         sorted: sorted,
         starts: starts,
-        seconds: false,
     }
 }
 
@@ -536,7 +535,6 @@ fn found_of(ix: Sections, s: Sets, o: Others) -> Sections
         quick: quick,
         sorted: sorted,
         starts: starts,
-        seconds: false,
     }
 }
 

@@ -145,7 +145,7 @@ pub sections-chain : (ws : List ℕ) (a b c d e f g h i j k l m n : Span) →
     m ≡ spanAt ws (l .to) →
     n ≡ spanAt ws (m .to) →
     (x : Sorted) (y : Starts) → x ≡ noneSorted → y ≡ noStarts →
-    record { valid = a; ignored = b; fenced = c; marks = d; nsm = e; mapped = f; decompositions = g; emoji = h; exclusions = i; classes = j; groups = k; wholes = l; escape = m; quick = n; sorted = x; starts = y; seconds = false } ≡ sectionsOf ws
+    record { valid = a; ignored = b; fenced = c; marks = d; nsm = e; mapped = f; decompositions = g; emoji = h; exclusions = i; classes = j; groups = k; wholes = l; escape = m; quick = n; sorted = x; starts = y } ≡ sectionsOf ws
 unfolding sectionsOf
 sections-chain ws a b c d e f g h i j k l m n a₁ b₁ c₁ d₁ e₁ f₁ g₁ h₁ i₁ j₁ k₁ l₁ m₁ n₁ x y x₁ y₁ = rw (x₁, y₁, n₁, m₁, l₁, k₁, j₁, i₁, h₁, g₁, f₁, e₁, d₁, c₁, b₁, a₁)
 

@@ -10,7 +10,6 @@ use Rattle.table.specs.Spans.{within}
 use Rattle.table.specs.GroupPart.{groupsIn, GroupsPart, groupAt}
 use Rattle.table.proofs.Records.{group-reads}
 use Rattle.table.proofs.GroupWalks.{GroupWalk, group-start, group-here, group-on}
-use Rattle.halving.specs.Halving.{Apart}
 use Rattle.sections.specs.Known.{GroupsApart, PairsKnown}
 use Rattle.sections.proofs.LaidParts.{ranges-spelled}
 

@@ -2,14 +2,15 @@
 use Prim.Native.Nat.{ℕ, _+_}
 use mathlib.Core.Path.{_≡_}
 use mathlib.Core.Bool.{Bool, true, false}
+use mathlib.Core.Logic.{_↔_}
 use mathlib.Core.List.{List, [], _∷_}
 use Rattle.table.specs.declared.Span.{Span}
 use Rattle.table.specs.Table.{Range, Group}
 use Rattle.table.specs.Spans.{within}
 use Rattle.table.specs.GroupPart.{groupsIn}
 use Rattle.halving.specs.Halving.{Apart}
-use Rattle.heads.specs.Heads.{noMarks, HeadsKnown}
-use Rattle.firsts.specs.Firsts.{FirstsKnown}
+use Rattle.heads.specs.Heads.{noMarks, HeadsRise, HeadsKnown}
+use Rattle.firsts.specs.Firsts.{FirstsSteady, FirstsKnown}
 use Rattle.sections.specs.declared.Sorted.{Sorted}
 use Rattle.sections.specs.declared.Starts.{Starts}
 use Rattle.sections.specs.declared.Sections.{Sections}
@@ -59,6 +60,7 @@ PairsKnown part sorted = sorted ≡ true → Apart 2 1 part
 abbrev pub behindCount : Span → Span
 behindCount s = record { from = s .from + 1; to = s .to }
 
+-- what a lookup may rely on: a flag is true only where its section is sorted, and a search may start at each place
 pub record Known (ws : List ℕ) (ix : Sections) : Type 0 where
   pub valid : PairsKnown (within (ix .valid) ws) (ix .sorted .valid)
   pub ignored : PairsKnown (within (ix .ignored) ws) (ix .sorted .ignored)
@@ -73,5 +75,20 @@ pub record Known (ws : List ℕ) (ix : Sections) : Type 0 where
   pub groups : GroupsKnown (within (ix .groups) ws) (ix .sorted .groups)
   pub escape : PairsKnown (within (ix .escape) ws) (ix .sorted .escape)
   pub quick : PairsKnown (within (ix .quick) ws) (ix .sorted .quick)
-  -- not looked for yet
-  pub seconds : ix .seconds ≡ false
+
+-- 02, Item 11: "which sections are sorted without overlap". A flag is true exactly where its section is so: ranges and items each above the one
+-- before, heads each above the one before, first items of emoji that do not fall and are not FE0F, and the ranges of every group.
+pub record AllSeen (ws : List ℕ) (ix : Sections) : Type 0 where
+  pub valid : (ix .sorted .valid ≡ true) ↔ Apart 2 1 (within (ix .valid) ws)
+  pub ignored : (ix .sorted .ignored ≡ true) ↔ Apart 2 1 (within (ix .ignored) ws)
+  pub fenced : (ix .sorted .fenced ≡ true) ↔ Apart 2 1 (within (ix .fenced) ws)
+  pub marks : (ix .sorted .marks ≡ true) ↔ Apart 2 1 (within (ix .marks) ws)
+  pub nsm : (ix .sorted .nsm ≡ true) ↔ Apart 2 1 (within (ix .nsm) ws)
+  pub mapped : (ix .sorted .mapped ≡ true) ↔ HeadsRise (within (ix .mapped) ws)
+  pub decompositions : (ix .sorted .decompositions ≡ true) ↔ HeadsRise (within (ix .decompositions) ws)
+  pub emoji : (ix .sorted .emoji ≡ true) ↔ FirstsSteady (within (ix .emoji) ws)
+  pub exclusions : (ix .sorted .exclusions ≡ true) ↔ Apart 1 0 (within (behindCount (ix .exclusions)) ws)
+  pub classes : (ix .sorted .classes ≡ true) ↔ Apart 3 1 (within (ix .classes) ws)
+  pub groups : (ix .sorted .groups ≡ true) ↔ GroupsApart (groupsIn (within (ix .groups) ws))
+  pub escape : (ix .sorted .escape ≡ true) ↔ Apart 2 1 (within (ix .escape) ws)
+  pub quick : (ix .sorted .quick ≡ true) ↔ Apart 2 1 (within (ix .quick) ws)

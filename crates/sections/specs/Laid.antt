@@ -10,7 +10,7 @@ use Rattle.lists.specs.Lists.{isSome}
 use Rattle.table.specs.declared.Span.{Span}
 use Rattle.table.specs.Layout.{parse}
 use Rattle.table.specs.Spans.{within, Fits}
-use Rattle.sections.specs.Known.{noneSorted, noStarts, Known}
+use Rattle.sections.specs.Known.{noneSorted, noStarts, Known, AllSeen}
 use Rattle.sections.specs.declared.Sections.{Sections}
 use Rattle.sections.specs.declared.Layout.{Layout}
 use Rattle.sections.specs.declared.Layout.the-variants.{Fault, Found}
@@ -55,7 +55,6 @@ sectionsOf ws =
       quick = quick;
       sorted = noneSorted;
       starts = noStarts;
-      seconds = false;
     }
 
 -- the places alone
@@ -78,7 +77,6 @@ bare ix =
       quick = ix .quick;
       sorted = noneSorted;
       starts = noStarts;
-      seconds = false;
     }
 
 -- where the last section ends
@@ -127,7 +125,8 @@ pub record Laid (ws : List ℕ) (ix : Sections) : Type 0 where
   pub places : bare ix ≡ sectionsOf ws
   pub known : Known ws ix
 
--- what the layout pass answers: a fault exactly where the words are not a table
+-- what the layout pass answers: a fault exactly where the words are not a table, and else the places and every section that is sorted
 pub record LaidOut (ws : List ℕ) (r : Layout) : Type 0 where
   pub fault : r ≡ Fault → parse ws ≡ none
   pub found : (ix : Sections) → r ≡ Found ix → Laid ws ix
+  pub seen : (ix : Sections) → r ≡ Found ix → AllSeen ws ix

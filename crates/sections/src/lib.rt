@@ -4,8 +4,8 @@ pub mod lookup;
 use heads::Marks;
 use table::Span;
 
-// Which sections were found to be sorted. 02, Item 11: "which sections are sorted without overlap". A flag may be false where it is so, and is
-// never true where it is not.
+// Which sections were found to be sorted. 02, Item 11: "which sections are sorted without overlap". To a lookup a flag may be false where it is
+// so, and is never true where it is not; the layout pass finds each that is.
 pub struct Sorted {
     pub valid: bool,
     pub ignored: bool,
@@ -31,7 +31,7 @@ pub struct Starts {
 }
 
 // Where the sections stand among the words of a table, without the counts that lead them; and what the layout pass found of them: which are
-// sorted, and where a search may start. `seconds` is not looked for, and is false.
+// sorted, and where a search may start.
 pub struct Sections {
     pub valid: Span,
     pub ignored: Span,
@@ -49,7 +49,6 @@ pub struct Sections {
     pub quick: Span,
     pub sorted: Sorted,
     pub starts: Starts,
-    pub seconds: bool,
 }
 
 // What the layout pass finds.

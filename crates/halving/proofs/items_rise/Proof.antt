@@ -37,7 +37,7 @@ loop-less : tie.Need-loop-less Inv-loop μ-loop
 loop-less c = search needs
 
 loop-again : tie.Need-loop-again Inv-loop μ-loop
-loop-again c = rises-on _ _ _ (c .before .before .before .loop .inv)
+loop-again c = rises-on _ _ _ (c .before .before .before .loop .inv) (c .before .before .loop-test .taken)
 
 returns : tie.Need-returns Inv-loop μ-loop
 returns c = rises-stop _ _ _ (c .before .loop .inv) (c .loop-test .left)

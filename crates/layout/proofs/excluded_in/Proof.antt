@@ -41,10 +41,10 @@ items-rise-requires : tie.Need-items-rise-requires
 items-rise-requires c κs = search needs
 
 returns : tie.Need-returns
-returns c = let t = c .before .before in record { fits = sym (t .if1 .taken) ∙ t .before .excluded-fit .ensures; sorted = c .items-rise .ensures }
+returns c = let t = c .before .before in record { fits = sym (t .if1 .taken) ∙ t .before .excluded-fit .ensures; sorted = c .items-rise .ensures .0; found = λ h a. c .items-rise .ensures .1 a }
 
 returns-2 : tie.Need-returns-2
-returns-2 c = record { fits = sym (c .if1 .left) ∙ c .before .excluded-fit .ensures; sorted = λ q. absurd (false-true q) }
+returns-2 c = let e = sym (c .if1 .left) ∙ c .before .excluded-fit .ensures in record { fits = e; sorted = λ q. absurd (false-true q); found = λ h a. e ∙ h }
 
 pub excluded-in-spec : {M : Type 1} → statement M
 excluded-in-spec =
