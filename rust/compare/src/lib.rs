@@ -11,7 +11,7 @@ pub mod tally;
 
 pub use again::{check_again, check_joining};
 pub use engine::Engine;
-pub use harness::{compare, say, Counts, Report, Settings};
+pub use harness::{compare, compare_all, compare_over, say, Counts, Report, Settings};
 pub use older::check_older;
-pub use plain_engine::{Indexed, Passed, Plain};
+pub use plain_engine::{Indexed, Passed, Plain, Slow};
 pub use tally::Tally;

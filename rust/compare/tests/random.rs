@@ -1,23 +1,19 @@
 //! The random comparison and demand 3, on the plain engine.
 
 use compare::screens::{check_coming_back, check_screens, indexed, plain_normal, plainly};
-use compare::{check_again, check_joining, check_older, compare, say, Indexed, Passed, Plain, Settings};
+use compare::{check_again, check_joining, check_older, compare, compare_all, say};
+use compare::{Indexed, Passed, Plain, Settings, Slow};
 use gen::Rng;
 use plain::{parse, Index, Lookup, Pass, Table};
 
-/// The generators reach everything that the comparison asks for, and the index
-/// gives what reading from the front gives.
-#[test]
-fn counts_are_reached() {
-    let settings = Settings::default();
-    assert!(settings.tables >= 2_000 && settings.tables * settings.names_per_table as u64 >= 200_000);
-    compare(&Plain, &Indexed, &settings).check();
-}
-
-/// Searching by halves gives what reading from the front gives.
+/// The generators reach everything that the comparison asks for; searching by
+/// halves, leaving text as it is and the index give what reading from the front
+/// gives.
 #[test]
 fn the_pass_changes_nothing() {
-    compare(&Plain, &Passed, &Settings::default()).check();
+    let settings = Settings::default();
+    assert!(settings.tables >= 2_000 && settings.tables * settings.names_per_table as u64 >= 200_000);
+    compare_all(&Slow, &[&Plain, &Passed, &Indexed], &settings).check();
 }
 
 /// The worked length of a name without a disallowed codepoint, whatever else is

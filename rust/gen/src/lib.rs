@@ -2,6 +2,7 @@
 //! table has, and of table files. The same seed gives the same things.
 
 mod damage;
+pub mod disturbed;
 mod draft;
 pub mod files;
 pub mod names;
