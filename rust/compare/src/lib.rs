@@ -8,6 +8,7 @@ pub mod older;
 pub mod plain_engine;
 pub mod screens;
 pub mod tally;
+pub mod tiny;
 
 pub use again::{check_again, check_joining};
 pub use engine::Engine;
@@ -15,3 +16,4 @@ pub use harness::{compare, compare_all, compare_over, say, Counts, Report, Setti
 pub use older::check_older;
 pub use plain_engine::{Indexed, Passed, Plain, Slow};
 pub use tally::Tally;
+pub use tiny::check_tiny;

@@ -11,6 +11,7 @@ pub mod rng;
 pub mod screens;
 pub mod small;
 pub mod tables;
+pub mod tiny;
 mod unsound;
 pub mod wholes;
 pub mod worst;

@@ -178,6 +178,17 @@ impl<'t> Pass<'t> {
         self.rules = rules_found(self);
     }
 
+    /// Whether every second item of a pair is known to be in the quick-check set,
+    /// and the pairs have an index: finds both.
+    pub fn look_for_pairs(&self) -> (bool, bool) {
+        (self.seconds(), self.pairs().is_some())
+    }
+
+    /// Whether a pair with this second item is ruled out without the index.
+    pub fn rules_out(&self, second: u32) -> bool {
+        self.seconds() && !self.quick_check.holds(second)
+    }
+
     /// The index of the pairs.
     pub(crate) fn pairs(&self) -> Option<&PairIndex<'t>> {
         self.pairs.get_or_init(|| PairIndex::new(self.decompositions)).as_ref()
@@ -297,7 +308,7 @@ impl Lookup for Pass<'_> {
         self.classes.covering(c).map_or(0, |entry| entry[2])
     }
     fn composite(&self, a: u32, b: u32) -> Option<u32> {
-        if self.seconds() && !self.quick_check.holds(b) {
+        if self.rules_out(b) {
             return None;
         }
         match self.pairs() {
