@@ -82,6 +82,13 @@ impl CallCounts {
     }
 }
 
+impl std::ops::AddAssign<&CallCounts> for CallCounts {
+    fn add_assign(&mut self, other: &CallCounts) {
+        self.accepted += other.accepted;
+        self.refused += &other.refused;
+    }
+}
+
 impl fmt::Display for CallCounts {
     fn fmt(&self, f: &mut fmt::Formatter) -> fmt::Result {
         write!(f, "accepted {}; refused{}", self.accepted, self.refused)
@@ -146,6 +153,27 @@ impl Counts {
     }
 }
 
+impl std::ops::AddAssign<&Counts> for Counts {
+    fn add_assign(&mut self, other: &Counts) {
+        self.tables += other.tables;
+        self.names += other.names;
+        self.name_calls += &other.name_calls;
+        self.label_calls += &other.label_calls;
+        self.accepted_names += other.accepted_names;
+        self.longest_names += other.longest_names;
+        self.lengthened_names += other.lengthened_names;
+        self.with_rules += other.with_rules;
+        self.their_labels += other.their_labels;
+        self.kept_labels += other.kept_labels;
+        self.accepted_longest_names += other.accepted_longest_names;
+        self.kinds.iter_mut().zip(other.kinds).for_each(|(kind, more)| *kind += more);
+        self.sound += other.sound;
+        self.broken += &other.broken;
+        self.unpack_calls += &other.unpack_calls;
+        self.differences += other.differences;
+    }
+}
+
 impl fmt::Display for Counts {
     fn fmt(&self, f: &mut fmt::Formatter) -> fmt::Result {
         writeln!(f, "tables {}, names {}, accepted {}", self.tables, self.names, self.accepted_names)?;
@@ -178,6 +206,12 @@ impl Report {
         if self.differences.len() < settings.keep {
             self.differences.push(text());
         }
+    }
+
+    /// What both met, and the differences of both.
+    pub fn add(&mut self, other: Report) {
+        self.counts += &other.counts;
+        self.differences.extend(other.differences);
     }
 
     /// Prints what was met, and the differences.

@@ -6,6 +6,7 @@ use crate::pairs::PairIndex;
 use crate::pass::Pass;
 use crate::records::Records;
 use crate::text::{is_jamo, is_syllable};
+use std::cell::Cell;
 
 /// The codepoints of the other sections that are put into a filter at most.
 const MOST_SAID: u32 = 8_192;
@@ -17,18 +18,45 @@ fn is_hangul(c: u32) -> bool {
     is_jamo(c) || is_syllable(c)
 }
 
-/// A bit for each 32,768 codepoints: where it is clear, none of them is in.
+/// 32,768 bits, one for many codepoints: where it is clear, none of them is in.
 struct Filter(Box<[u64; 512]>);
+
+/// The word and the bit of a codepoint, far from those of its neighbours in
+/// other blocks.
+fn place(c: u32) -> (usize, u32) {
+    let mixed = c.wrapping_mul(0x9E37_79B1) >> 17;
+    (mixed as usize / 64, mixed % 64)
+}
 
 impl Filter {
     fn new() -> Filter {
         Filter(Box::new([0; 512]))
     }
     fn put(&mut self, c: u32) {
-        self.0[c as usize / 64 % 512] |= 1 << (c % 64);
+        let (word, bit) = place(c);
+        self.0[word] |= 1 << bit;
     }
     fn may_hold(&self, c: u32) -> bool {
-        self.0[c as usize / 64 % 512] >> (c % 64) & 1 == 1
+        let (word, bit) = place(c);
+        self.0[word] >> bit & 1 == 1
+    }
+}
+
+/// Heads in ascending order, asked only where the filter does not know better.
+struct Heads {
+    filter: Filter,
+    heads: Vec<u32>,
+}
+
+impl Heads {
+    fn new(records: Records<1>, places: impl Iterator<Item = usize>) -> Heads {
+        let heads: Vec<u32> = places.map(|at| records.key(at)).collect();
+        let mut filter = Filter::new();
+        heads.iter().for_each(|&c| filter.put(c));
+        Heads { filter, heads }
+    }
+    fn hold(&self, c: u32) -> bool {
+        self.filter.may_hold(c) && self.heads.binary_search(&c).is_ok()
     }
 }
 
@@ -38,7 +66,7 @@ pub(crate) fn rules_found(p: &Pass) -> bool {
     if !sorted || p.quick_check.words.is_empty() || !classes_spare_hangul(p) || !heads_allowed(p) {
         return false;
     }
-    let heads = filter_of(p.decompositions, p.decompositions.places());
+    let heads = Heads::new(p.decompositions, p.decompositions.places());
     let (Some(said), Some(pairs)) = (said(p), p.pairs()) else {
         return false;
     };
@@ -55,21 +83,16 @@ fn heads_allowed(p: &Pass) -> bool {
     p.decompositions.all().all(|(head, _)| head >= 0x80 && !is_hangul(head))
 }
 
-fn filter_of(records: Records<1>, places: impl Iterator<Item = usize>) -> Filter {
-    let mut filter = Filter::new();
-    places.for_each(|at| filter.put(records.key(at)));
-    filter
-}
-
-/// Rule 6: four rounds decompose fully. After three levels of heads whose items
-/// may be heads of the level before, none is left: three rounds leave no head,
-/// and a syllable, which is no head, takes the fourth.
-fn shallow(records: Records<1>, heads: &Filter) -> bool {
-    let has = |filter: &Filter, at: usize| records.items(at).iter().any(|&c| filter.may_hold(c));
+/// Rule 6: four rounds decompose fully. Of the heads with an item that is a head,
+/// those with an item that is such a head, and of these the same again, there is
+/// none left: three rounds leave no head, and a syllable, which is no head, takes
+/// the fourth.
+fn shallow(records: Records<1>, heads: &Heads) -> bool {
+    let has = |heads: &Heads, at: usize| records.items(at).iter().any(|&c| heads.hold(c));
     let mut level: Vec<usize> = records.places().filter(|&at| has(heads, at)).collect();
     for _ in 0..2 {
-        let filter = filter_of(records, level.iter().copied());
-        level.retain(|&at| has(&filter, at));
+        let of_level = Heads::new(records, level.iter().copied());
+        level.retain(|&at| has(&of_level, at));
     }
     level.is_empty()
 }
@@ -99,25 +122,34 @@ fn holds_second_jamo(p: &Pass) -> bool {
 /// something outside the set, behind whose own decomposition the second item
 /// stays the last one. So its full decomposition starts as that of the first
 /// item does, and composes to the first item and then to the head.
-fn records_fit(p: &Pass, pairs: &PairIndex, heads: &Filter, said: &Filter) -> bool {
+fn records_fit(p: &Pass, pairs: &PairIndex, heads: &Heads, said: &Filter) -> bool {
     if pairs.equals {
         return false;
     }
-    let in_set = |c: u32| said.may_hold(c) && p.quick_check.holds(c);
+    // The range that held the last head, or the last second item, mostly holds the next.
+    let (of_heads, of_seconds) = (Cell::new((1, 0)), Cell::new((1, 0)));
+    let in_set = |c: u32, held: &Cell<(u32, u32)>| {
+        let (first, last) = held.get();
+        if first <= c && c <= last {
+            return true;
+        }
+        let range = if said.may_hold(c) { p.quick_check.covering(c) } else { None };
+        range.inspect(|range| held.set((range[0], range[1]))).is_some()
+    };
     let may_compose = |head: u32, a: u32| !(said.may_hold(head) || said.may_hold(a)) || p.may_compose(head, a);
     p.decompositions.all().all(|(head, items)| match *items {
         [a, b] if may_compose(head, a) => {
-            let second = in_set(b) && !is_hangul(b) && !heads.may_hold(b);
-            second && (in_set(head) || !in_set(a) && stays_last(p, heads, a, b))
+            let second = in_set(b, &of_seconds) && !is_hangul(b) && !heads.hold(b);
+            second && (in_set(head, &of_heads) || !in_set(a, &of_heads) && stays_last(p, heads, a, b))
         }
-        _ => in_set(head),
+        _ => in_set(head, &of_heads),
     })
 }
 
 /// Whether ordering leaves `b` behind all that `a` decomposes to, if the last of
 /// that is the last item of `a`.
-fn stays_last(p: &Pass, heads: &Filter, a: u32, b: u32) -> bool {
-    if !heads.may_hold(a) {
+fn stays_last(p: &Pass, heads: &Heads, a: u32, b: u32) -> bool {
+    if !heads.hold(a) {
         return true;
     }
     let class = p.class(b);

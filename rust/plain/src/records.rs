@@ -148,6 +148,23 @@ impl<'t, const HEAD: usize> Records<'t, HEAD> {
             Some(found)
         })
     }
+    /// The first record from one on whose key is at least `c`, or the end. Records
+    /// of equal count are passed in a loop of their own, as in `pass_run`.
+    fn at_least(&self, start: (usize, usize), c: u32) -> (usize, usize) {
+        let (mut at, mut number) = start;
+        while at < self.words.len() {
+            let count = self.words[at + HEAD] as usize;
+            let end = self.words.len() - HEAD - count;
+            while at < end && self.words[at + HEAD] as usize == count {
+                if c <= self.key(at) {
+                    return (at, number);
+                }
+                at += HEAD + 1 + count;
+                number += 1;
+            }
+        }
+        (at, number)
+    }
     /// The place of each record.
     pub(crate) fn places(self) -> impl Iterator<Item = usize> + use<'t, HEAD> {
         self.from((0, 0)).map(|(at, _)| at)
@@ -157,13 +174,12 @@ impl<'t, const HEAD: usize> Records<'t, HEAD> {
 impl<'t> Records<'t, 1> {
     /// The items of the first record with this head.
     pub(crate) fn find(&self, c: u32) -> Option<&'t [u32]> {
-        let start = if self.sorted { self.marks.last(|place, _| self.key(place) <= c) } else { (0, 0) };
-        let mut places = self.from(start).map(|(at, _)| at);
-        let at = match self.sorted {
-            true => places.find(|&at| self.key(at) >= c).filter(|&at| self.key(at) == c),
-            false => places.find(|&at| self.key(at) == c),
-        };
-        Some(self.items(at?))
+        if !self.sorted {
+            return self.places().find(|&at| self.key(at) == c).map(|at| self.items(at));
+        }
+        let start = self.marks.last(|place, _| self.key(place) <= c);
+        let (at, _) = self.at_least(start, c);
+        (at < self.words.len() && self.key(at) == c).then(|| self.items(at))
     }
     /// Each record as its head and its items.
     pub(crate) fn all(self) -> impl Iterator<Item = (u32, &'t [u32])> {
@@ -181,7 +197,10 @@ impl<'t> Records<'t, 0> {
     /// takes: at least one codepoint, and of equals the first.
     pub(crate) fn find(&self, rest: &[u32]) -> Option<(usize, usize)> {
         let &first = rest.first()?;
-        let start = if self.sorted { self.marks.last(|place, _| self.key(place) < first) } else { (0, 0) };
+        let start = match self.sorted {
+            true => self.at_least(self.marks.last(|place, _| self.key(place) < first), first),
+            false => (0, 0),
+        };
         let mut best: Option<(usize, usize)> = None;
         for (at, number) in self.from(start) {
             let key = self.key(at);

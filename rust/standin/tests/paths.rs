@@ -8,6 +8,7 @@ use plain::{parse, FE0F};
 use standin::bulk::Vocabulary;
 use standin::paths::Counted;
 use standin::{cases, names_reduction, source, Made};
+use std::collections::HashSet;
 
 /// Cuts of the kinds that `maketable` makes.
 const CUTS: [&str; 5] = [
@@ -93,7 +94,20 @@ fn the_proved_pass_finds_them_too() {
         let [by_items, by_head] = [tries(pairs().map(|(_, d)| (d[0], d[1]))), tries(pairs().map(|(h, _)| (*h, 2)))];
         println!("{what}: decompositions of {words} words, the set {quick}, classes {classes}, tries {by_items:?} {by_head:?}");
         assert!(by_items.is_some_and(|most| most <= 32) && by_head.is_some_and(|most| most <= 32), "{what}");
+        assert!(t.decompositions.iter().all(|(_, items)| items.len() <= 2), "{what}: more than two items");
+        assert!(stand_in_levels(&t.decompositions), "{what}: too deep");
     }
+}
+
+/// Whether the heads stand at most three deep by the filters of `quick_found`.
+fn stand_in_levels(records: &[(u32, Vec<u32>)]) -> bool {
+    let place = |c: u32| (c % 32_768 + c / 32_768 * 12_345) % 32_768;
+    let mut level: Vec<&(u32, Vec<u32>)> = records.iter().collect();
+    for _ in 0..3 {
+        let filter: HashSet<u32> = level.iter().map(|(head, _)| place(*head)).collect();
+        level = records.iter().filter(|(_, items)| items.iter().any(|&c| filter.contains(&place(c)))).collect();
+    }
+    level.is_empty()
 }
 
 /// The slots that one of these asks at most to find a place in the index of
