@@ -12,11 +12,11 @@ use std::collections::HashSet;
 
 /// Cuts of the kinds that `maketable` makes.
 const CUTS: [&str; 5] = [
-    "--groups Latin --emoji 0",
+    "--groups Latin --emoji 40",
     "--groups Arabic,Tamil,Korean --emoji 1000",
     "--groups Egyp,Cher,Greek --drop 370..3A9 --unmap 0..FFFF",
     "--groups Bopomofo,Hebrew,Japanese --emoji 1F468-200D-1F4BB,30..39",
-    "--groups Latin,Devanagari,Bengali,Korean --unmap 0..10FFFF",
+    "--groups Latin,Devanagari,Bengali,Korean --unmap 0..FFFF",
 ];
 
 /// The full-size table, names.tab and the cuts.
