@@ -46,7 +46,7 @@ pub fn check_older(engine: &dyn Engine, first_seed: u64, tables: u64) {
             let mut rng = Rng::new(seed);
             let made = gen::table(&mut rng);
             let mut old = join_sections(&made.builder.sections()[..count]);
-            if rng.percent(30) {
+            if rng.percent(40) {
                 let place = rng.below(old.len());
                 old[place] = old[place].wrapping_add(*rng.pick(&[1, 2, u32::MAX]));
             }

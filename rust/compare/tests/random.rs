@@ -1,23 +1,46 @@
 //! The random comparison and demand 3, on the plain engine.
 
 use compare::screens::{check_coming_back, check_screens, indexed, plain_normal, plainly};
-use compare::{check_again, check_joining, check_older, compare, say, Indexed, Passed, Plain, Settings};
+use compare::{check_again, check_joining, check_older, check_tiny, compare, compare_all, compare_over, say};
+use compare::{Indexed, Passed, Plain, Settings, Slow};
 use gen::Rng;
 use plain::{parse, Index, Lookup, Pass, Table};
 
-/// The generators reach everything that the comparison asks for, and the index
-/// gives what reading from the front gives.
-#[test]
-fn counts_are_reached() {
-    let settings = Settings::default();
-    assert!(settings.tables >= 2_000 && settings.tables * settings.names_per_table as u64 >= 200_000);
-    compare(&Plain, &Indexed, &settings).check();
-}
-
-/// Searching by halves gives what reading from the front gives.
+/// The generators reach everything that the comparison asks for; searching by
+/// halves, leaving text as it is and the index give what reading from the front
+/// gives.
 #[test]
 fn the_pass_changes_nothing() {
-    compare(&Plain, &Passed, &Settings::default()).check();
+    let settings = Settings::default();
+    assert!(settings.tables >= 2_000 && settings.tables * settings.names_per_table as u64 >= 200_000);
+    compare_all(&Slow, &[&Plain, &Passed, &Indexed], &settings).check();
+}
+
+/// The same with every section searched by halves and text left as it is, and
+/// with one section at a time out of order, overlapping, doubled or damaged.
+#[test]
+fn disturbed_sections() {
+    let settings = Settings {
+        first_seed: 9_000_000,
+        tables: 700,
+        names_per_table: 20,
+        lengthened_per_table: 1,
+        files_per_table: 0,
+        more_soundness: 0,
+        keep: 5,
+    };
+    let report = compare_over(&Slow, &[&Plain, &Passed], &settings, gen::disturbed::disturbed_table);
+    report.show();
+    assert!(report.counts.differences == 0 && 4 * report.counts.with_rules > report.counts.lengthened_names);
+}
+
+/// Small tables: what the pass finds of rules 6 to 8 is so, and nothing differs.
+#[test]
+fn small_random_tables() {
+    let counts = check_tiny(10_000_000, 40_000);
+    say(counts);
+    assert!(10 * counts.found > counts.tables && 2 * counts.found > counts.keep_rules, "{counts}");
+    assert!(counts.kept > counts.tables && 2 * counts.kept > counts.normal, "{counts}");
 }
 
 /// The worked length of a name without a disallowed codepoint, whatever else is

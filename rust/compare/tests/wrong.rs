@@ -395,7 +395,15 @@ impl Engine for Assembled {
 
 /// What the tests run over: a tenth of the whole comparison.
 fn settings() -> Settings {
-    Settings { first_seed: 7_000, tables: 200, names_per_table: 100, files_per_table: 1, more_soundness: 0, keep: 3 }
+    Settings {
+        first_seed: 7_000,
+        tables: 200,
+        names_per_table: 100,
+        lengthened_per_table: 0,
+        files_per_table: 1,
+        more_soundness: 0,
+        keep: 3,
+    }
 }
 
 /// With nothing wrong the assembled engine is the plain one; and the source's

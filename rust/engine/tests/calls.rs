@@ -2,7 +2,7 @@
 
 mod proved;
 
-use compare::{check_again, check_joining, check_older, compare, Engine, Plain, Settings};
+use compare::{check_again, check_joining, check_older, compare, compare_over, Engine, Plain, Settings, Slow};
 use engine::{Refusal, Soundness};
 use gen::worst::DEEP;
 use plain::limits::{INPUT, WORKED, WORK_WORDS};
@@ -13,6 +13,25 @@ use proved::Proved;
 #[test]
 fn random_names_and_tables() {
     compare(&Plain, &Proved, &Settings::default()).check();
+}
+
+/// Tables of which all is found that a pass can find, with one section at a time
+/// out of order, overlapping, doubled or damaged; more of their names are so long
+/// that rules 6 to 8 are looked for. By the slow ways too.
+#[test]
+fn disturbed_sections() {
+    let settings = Settings {
+        first_seed: 9_100_000,
+        tables: 700,
+        names_per_table: 20,
+        lengthened_per_table: 2,
+        files_per_table: 0,
+        more_soundness: 0,
+        keep: 5,
+    };
+    let report = compare_over(&Plain, &[&Proved, &Slow], &settings, gen::disturbed::disturbed_table);
+    report.show();
+    assert!(report.counts.differences == 0 && report.counts.kept_labels > settings.tables / 2);
 }
 
 /// Demand 3, first half, run.

@@ -57,7 +57,7 @@ fn mixed(b: &TableBuilder) -> u64 {
 }
 
 /// Sorts what can be searched by halves. Entries that overlap stay so.
-fn sort_sections(b: &mut TableBuilder) {
+pub(crate) fn sort_sections(b: &mut TableBuilder) {
     let groups = b.groups.iter_mut().map(|(_, pairs)| pairs);
     let lists =
         [&mut b.valid, &mut b.ignored, &mut b.fenced, &mut b.marks, &mut b.nsm, &mut b.escape, &mut b.quick_check];

@@ -5,7 +5,7 @@
 //!
 //! * `table`: words to fourteen sections, and back.
 //! * `lookup`: what the rules ask a table. `Table` answers by reading from the
-//!   front; `Index` gives the same answers faster.
+//!   front; `Index` gives the same answers faster, and so does `Pass`.
 //! * `text`: Hangul, classes, decomposition, ordering, composition.
 //! * `tokens`: emoji matching and the walk over one label.
 //! * `label`: the rules of one label.
@@ -18,9 +18,12 @@
 //! * `keccak`: Keccak-256.
 //! * `lists`: slots that a new table would file differently, groups behind 14.
 //! * `namehash`: the name hash of EIP-137.
-//! * `pass`: the same lookups by what one pass over the words finds.
+//! * `pass`: the same lookups by what one pass over the words finds, with the
+//!   searches of `records`, the index of `pairs` and the finds of `quick`.
 //! * `report`: the report of what was typed.
 //! * `screen`: the screen form of a name.
+//! * `slow`: the calls by reading from the front, which the others are compared
+//!   with.
 //! * `trim`: an input without the blanks at its ends.
 //! * `utf8`: bytes to codepoints and back, and the byte form of the name call.
 
@@ -34,10 +37,14 @@ pub mod label;
 pub mod lists;
 pub mod lookup;
 pub mod namehash;
+mod pairs;
 pub mod pass;
+mod quick;
 pub mod ranges;
+mod records;
 pub mod report;
 pub mod screen;
+pub mod slow;
 pub mod soundness;
 pub mod table;
 pub mod text;
@@ -52,7 +59,7 @@ pub use file::{pack, pack_as, unpack};
 pub use keccak::keccak256;
 pub use label::LabelForm;
 pub use lookup::{Index, Lookup};
-pub use pass::Pass;
+pub use pass::{Found, Pass};
 pub use ranges::Ranges;
 pub use report::report;
 pub use screen::screen;

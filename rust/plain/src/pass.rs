@@ -2,175 +2,18 @@
 //! sorted without overlap, and a few places in those with records of unequal
 //! length; searches go by halves or from such a place where a section is
 //! sorted, and from its front where it is not. The answers are those of
-//! `Table`, on every table.
+//! `Table`, on every table. What only some names need is found when it is first
+//! asked for: whether every second item is in the quick-check set, an index of
+//! the pairs, and, where it is told to look, whether rules 6 to 8 hold.
 
+use crate::limits;
 use crate::lookup::Lookup;
+use crate::pairs::PairIndex;
+use crate::quick::rules_found;
+use crate::records::{Entries, Records};
 use crate::table::Whole;
 use crate::text::{is_jamo, is_syllable};
-use crate::tokens::match_emoji;
-use crate::{limits, FE0F};
-
-/// Entries of `STEP` words, the first two of them first and last.
-#[derive(Clone, Copy, Debug)]
-struct Entries<'t, const STEP: usize> {
-    words: &'t [u32],
-    sorted: bool,
-}
-
-impl<'t, const STEP: usize> Entries<'t, STEP> {
-    /// `None` where they are no whole entries, or a first is over its last.
-    fn read(words: &'t [u32]) -> Option<Self> {
-        if !words.len().is_multiple_of(STEP) {
-            return None;
-        }
-        let (mut fits, mut sorted, mut end) = (true, true, None);
-        for entry in words.chunks_exact(STEP) {
-            fits &= entry[0] <= entry[1];
-            sorted &= end.is_none_or(|last| last < entry[0]);
-            end = Some(entry[1]);
-        }
-        fits.then_some(Entries { words, sorted })
-    }
-
-    /// The first entry that covers `c`.
-    fn covering(&self, c: u32) -> Option<&'t [u32]> {
-        if !self.sorted {
-            return self.words.chunks_exact(STEP).find(|e| e[0] <= c && c <= e[1]);
-        }
-        let mut low = 0;
-        let mut count = self.words.len() / STEP;
-        while count > 0 {
-            let half = count / 2;
-            if self.words[(low + half) * STEP] <= c {
-                low += half + 1;
-                count -= half + 1;
-            } else {
-                count = half;
-            }
-        }
-        let entry = &self.words[low.checked_sub(1)? * STEP..][..STEP];
-        (c <= entry[1]).then_some(entry)
-    }
-
-    fn holds(&self, c: u32) -> bool {
-        self.covering(c).is_some()
-    }
-}
-
-/// Eight places among records, each with its record's number, the last ones
-/// that were set.
-#[derive(Clone, Copy, Debug, Default)]
-struct Marks([(u32, u32); 8]);
-
-impl Marks {
-    fn put(&mut self, place: usize, number: usize) {
-        self.0.rotate_left(1);
-        self.0[7] = (place as u32, number as u32);
-    }
-    /// The last mark that passes, or the front.
-    fn last(&self, passes: impl Fn(usize, usize) -> bool) -> (usize, usize) {
-        let mut places = self.0.iter().map(|&(place, number)| (place as usize, number as usize));
-        places.rfind(|&(place, number)| place > 0 && passes(place, number)).unwrap_or((0, 0))
-    }
-}
-
-/// Records of a head, a count and items, or, without a head, of a count and
-/// items.
-#[derive(Clone, Copy, Debug)]
-struct Records<'t, const HEAD: usize> {
-    words: &'t [u32],
-    sorted: bool,
-    marks: Marks,
-}
-
-impl<'t, const HEAD: usize> Records<'t, HEAD> {
-    fn read(words: &'t [u32], most: u32) -> Option<Self> {
-        let gap = words.len() / 9 + 1;
-        let (mut at, mut number, mut next) = (0, 0, gap);
-        let (mut sorted, mut before) = (true, None);
-        let mut marks = Marks::default();
-        while at < words.len() {
-            if next <= at {
-                marks.put(at, number);
-                next = at + gap;
-            }
-            let count = *words.get(at + HEAD)?;
-            if count < 1 || count > most || count as usize > words.len() - at - HEAD - 1 {
-                return None;
-            }
-            // The head, or the first item: heads ascend, first items do not fall and are not FE0F.
-            let key = words[at + 1 - HEAD];
-            sorted &= match HEAD {
-                0 => key != FE0F && before.is_none_or(|b| b <= key),
-                _ => before.is_none_or(|b| b < key),
-            };
-            before = Some(key);
-            at += HEAD + 1 + count as usize;
-            number += 1;
-        }
-        Some(Records { words, sorted, marks })
-    }
-
-    fn key(&self, at: usize) -> u32 {
-        self.words[at + 1 - HEAD]
-    }
-    fn items(&self, at: usize) -> &'t [u32] {
-        &self.words[at + HEAD + 1..][..self.words[at + HEAD] as usize]
-    }
-    /// The place and the number of each record from one on.
-    fn from(self, start: (usize, usize)) -> impl Iterator<Item = (usize, usize)> + use<'t, HEAD> {
-        let (mut at, mut number) = start;
-        std::iter::from_fn(move || {
-            let found = (at < self.words.len()).then_some((at, number))?;
-            at += HEAD + 1 + self.words[at + HEAD] as usize;
-            number += 1;
-            Some(found)
-        })
-    }
-}
-
-impl<'t> Records<'t, 1> {
-    fn find(&self, c: u32) -> Option<&'t [u32]> {
-        let start = if self.sorted { self.marks.last(|place, _| self.key(place) <= c) } else { (0, 0) };
-        let mut places = self.from(start).map(|(at, _)| at);
-        let at = match self.sorted {
-            true => places.find(|&at| self.key(at) >= c).filter(|&at| self.key(at) == c),
-            false => places.find(|&at| self.key(at) == c),
-        };
-        Some(self.items(at?))
-    }
-    /// Each record as its head and its items.
-    fn all(self) -> impl Iterator<Item = (u32, &'t [u32])> {
-        self.from((0, 0)).map(move |(at, _)| (self.key(at), self.items(at)))
-    }
-}
-
-impl<'t> Records<'t, 0> {
-    fn by_number(&self, number: usize) -> &'t [u32] {
-        let start = self.marks.last(|_, n| n <= number);
-        let at = self.from(start).find(|&(_, n)| n == number).expect("a record of this number").0;
-        self.items(at)
-    }
-    fn find(&self, rest: &[u32]) -> Option<(usize, usize)> {
-        let &first = rest.first()?;
-        let start = if self.sorted { self.marks.last(|place, _| self.key(place) < first) } else { (0, 0) };
-        let mut best: Option<(usize, usize)> = None;
-        for (at, number) in self.from(start) {
-            let key = self.key(at);
-            if self.sorted && key > first {
-                break;
-            }
-            if key != first && key != FE0F {
-                continue;
-            }
-            match match_emoji(self.items(at), rest) {
-                Some(taken) if taken > best.map_or(0, |(_, most)| most) => best = Some((number, taken)),
-                _ => {}
-            }
-        }
-        best
-    }
-}
+use std::cell::OnceCell;
 
 /// A table as one pass finds it.
 #[derive(Debug)]
@@ -181,17 +24,73 @@ pub struct Pass<'t> {
     marks: Entries<'t, 2>,
     nsm: Entries<'t, 2>,
     mapped: Records<'t, 1>,
-    decompositions: Records<'t, 1>,
+    pub(crate) decompositions: Records<'t, 1>,
     emoji: Records<'t, 0>,
-    exclusions: &'t [u32],
-    exclusions_sorted: bool,
-    classes: Entries<'t, 3>,
+    pub(crate) exclusions: &'t [u32],
+    pub(crate) exclusions_sorted: bool,
+    pub(crate) classes: Entries<'t, 3>,
     groups: Vec<(u32, Entries<'t, 2>)>,
     wholes: &'t [u32],
     escape: Entries<'t, 2>,
-    quick_check: Entries<'t, 2>,
+    pub(crate) quick_check: Entries<'t, 2>,
     /// Every second item of a composition pair is in the quick-check set.
-    seconds: bool,
+    seconds: OnceCell<bool>,
+    /// `None` where they find no room.
+    pairs: OnceCell<Option<PairIndex<'t>>>,
+    /// Rules 6 to 8 were looked for, and found to hold.
+    rules: bool,
+}
+
+/// What a pass found of a table: where its searches are the fast ones.
+#[derive(Clone, Copy, Debug, PartialEq, Eq)]
+pub struct Found {
+    pub valid: bool,
+    pub ignored: bool,
+    pub fenced: bool,
+    pub marks: bool,
+    pub nsm: bool,
+    pub mapped: bool,
+    pub decompositions: bool,
+    pub emoji: bool,
+    pub exclusions: bool,
+    pub classes: bool,
+    /// Every one of them.
+    pub groups: bool,
+    pub escape: bool,
+    pub quick_check: bool,
+    /// Every second item of a pair is in the quick-check set.
+    pub seconds: bool,
+    /// The pairs have an index.
+    pub pairs: bool,
+    /// Rules 6 to 8 hold, and the quick-check set isn't empty.
+    pub rules: bool,
+}
+
+impl Found {
+    /// Each with its name.
+    pub fn named(&self) -> [(&'static str, bool); 16] {
+        [
+            ("valid", self.valid),
+            ("ignored", self.ignored),
+            ("fenced", self.fenced),
+            ("marks", self.marks),
+            ("NSM", self.nsm),
+            ("mapped", self.mapped),
+            ("decompositions", self.decompositions),
+            ("emoji", self.emoji),
+            ("exclusions", self.exclusions),
+            ("classes", self.classes),
+            ("groups", self.groups),
+            ("should-escape", self.escape),
+            ("quick-check", self.quick_check),
+            ("second items", self.seconds),
+            ("pairs", self.pairs),
+            ("rules 6 to 8", self.rules),
+        ]
+    }
+    pub fn all(&self) -> bool {
+        self.named().iter().all(|&(_, found)| found)
+    }
 }
 
 /// The sections, one behind the other, and nothing after.
@@ -251,7 +150,7 @@ impl<'t> Pass<'t> {
         if !fits || !wholes_fit(part[11]) {
             return None;
         }
-        let mut pass = Pass {
+        Some(Pass {
             valid: Entries::read(part[0])?,
             ignored: Entries::read(part[1])?,
             fenced: Entries::read(part[2])?,
@@ -267,23 +166,72 @@ impl<'t> Pass<'t> {
             wholes: part[11],
             escape: Entries::read(part[12])?,
             quick_check: Entries::read(part[13])?,
-            seconds: false,
-        };
-        pass.seconds = pass.seconds_in_set();
-        Some(pass)
+            seconds: OnceCell::new(),
+            pairs: OnceCell::new(),
+            rules: false,
+        })
     }
 
-    fn is_excluded(&self, c: u32) -> bool {
+    /// Looks for rules 6 to 8: where they are found, text that needs no NFC is
+    /// left as it is.
+    pub fn look_for_rules(&mut self) {
+        self.rules = rules_found(self);
+    }
+
+    /// Whether every second item of a pair is known to be in the quick-check set,
+    /// and the pairs have an index: finds both.
+    pub fn look_for_pairs(&self) -> (bool, bool) {
+        (self.seconds(), self.pairs().is_some())
+    }
+
+    /// Whether a pair with this second item is ruled out without the index.
+    pub fn rules_out(&self, second: u32) -> bool {
+        self.seconds() && !self.quick_check.holds(second)
+    }
+
+    /// The index of the pairs.
+    pub(crate) fn pairs(&self) -> Option<&PairIndex<'t>> {
+        self.pairs.get_or_init(|| PairIndex::new(self.decompositions)).as_ref()
+    }
+
+    fn seconds(&self) -> bool {
+        *self.seconds.get_or_init(|| self.seconds_in_set())
+    }
+
+    /// All that there is to find.
+    pub fn found(&self) -> Found {
+        Found {
+            valid: self.valid.sorted,
+            ignored: self.ignored.sorted,
+            fenced: self.fenced.sorted,
+            marks: self.marks.sorted,
+            nsm: self.nsm.sorted,
+            mapped: self.mapped.sorted,
+            decompositions: self.decompositions.sorted,
+            emoji: self.emoji.sorted,
+            exclusions: self.exclusions_sorted,
+            classes: self.classes.sorted,
+            groups: self.groups.iter().all(|(_, pairs)| pairs.sorted),
+            escape: self.escape.sorted,
+            quick_check: self.quick_check.sorted,
+            seconds: self.seconds(),
+            pairs: self.pairs().is_some(),
+            rules: rules_found(self),
+        }
+    }
+
+    pub(crate) fn is_excluded(&self, c: u32) -> bool {
         match self.exclusions_sorted {
             true => self.exclusions.binary_search(&c).is_ok(),
             false => self.exclusions.contains(&c),
         }
     }
 
-    /// 01: "the two-item decompositions whose head isn't excluded and whose head
-    /// and first item have class 0".
-    fn is_pair(&self, head: u32, items: &[u32]) -> bool {
-        items.len() == 2 && !self.is_excluded(head) && self.class(head) == 0 && self.class(items[0]) == 0
+    /// Whether a decomposition of `head` to `a` and another is a composition
+    /// pair: 01: "whose head isn't excluded and whose head and first item have
+    /// class 0".
+    pub(crate) fn may_compose(&self, head: u32, a: u32) -> bool {
+        !self.is_excluded(head) && self.class(head) == 0 && self.class(a) == 0
     }
 
     /// Whether every second item of a composition pair is in the set, as far as
@@ -296,7 +244,7 @@ impl<'t> Pass<'t> {
         // The range that held the last one mostly holds the next.
         let mut held = (1, 0);
         self.decompositions.all().all(|(head, items)| {
-            let [_, second] = *items else {
+            let [first, second] = *items else {
                 return true;
             };
             if held.0 <= second && second <= held.1 {
@@ -307,17 +255,27 @@ impl<'t> Pass<'t> {
                     held = (range[0], range[1]);
                     true
                 }
-                None => !self.is_pair(head, items),
+                None => !self.may_compose(head, first),
             }
         })
     }
 
-    /// The composition pairs with these items, the first of them.
-    fn pair_among_all(&self, a: u32, b: u32) -> Option<u32> {
-        self.decompositions
-            .all()
-            .find(|(head, items)| *items == [a, b] && self.is_pair(*head, items))
-            .map(|(head, _)| head)
+    /// The same without the index.
+    fn composite_among_all(&self, a: u32, b: u32) -> Option<u32> {
+        let mut records = self.decompositions.all();
+        records.find(|(head, items)| *items == [a, b] && self.may_compose(*head, a)).map(|(head, _)| head)
+    }
+
+    /// Whether no codepoint of the text is in the quick-check set, and their
+    /// classes stand in order.
+    fn needs_no_nfc(&self, text: &[u32]) -> bool {
+        let mut before = 0;
+        text.iter().all(|&c| {
+            let class = self.class(c);
+            let in_order = class == 0 || before <= class;
+            before = class;
+            in_order && !self.quick_check.holds(c)
+        })
     }
 }
 
@@ -350,10 +308,16 @@ impl Lookup for Pass<'_> {
         self.classes.covering(c).map_or(0, |entry| entry[2])
     }
     fn composite(&self, a: u32, b: u32) -> Option<u32> {
-        if self.seconds && !self.quick_check.holds(b) {
+        if self.rules_out(b) {
             return None;
         }
-        self.pair_among_all(a, b)
+        match self.pairs() {
+            Some(index) => index.find(a, b, |head| self.may_compose(head, a)),
+            None => self.composite_among_all(a, b),
+        }
+    }
+    fn keeps(&self, text: &[u32]) -> bool {
+        self.rules && self.needs_no_nfc(text)
     }
     fn find_emoji(&self, rest: &[u32]) -> Option<(usize, usize)> {
         self.emoji.find(rest)
