@@ -16,6 +16,7 @@ use scanning::Scanned;
 use scanning::scan;
 use sections::Sections;
 use unpaired::KNOWN_WORDS;
+use unpaired::index::index_pairs;
 ghost use Prim.Native.Nat.{_≤_};
 ghost use lib.ListN.{length};
 ghost use Rattle.limits.specs.Limits.{mostInput, leastWork};
@@ -59,6 +60,7 @@ fn judge_one(
         return LabelAnswer::Refused(Refusal::Disallowed(at));
     }
     let mut unpaired = [0u32; KNOWN_WORDS];
+    index_pairs(words, ix, &mut unpaired);
     ask(words, ix, &mut unpaired, input.len());
     let judged = judge_label(words, ix, input, 0, 0, 0, &mut unpaired, w, memo);
     match judged {

@@ -14,6 +14,7 @@ use refiling::Change;
 use refiling::refile;
 use sections::Sections;
 use unpaired::KNOWN_WORDS;
+use unpaired::index::index_pairs;
 ghost use Prim.Native.Nat.{_≤_, _*_};
 ghost use mathlib.Core.Path.{_≡_};
 ghost use mathlib.Core.Bool.{false};
@@ -104,6 +105,7 @@ fn list_area(area: &[u32], words: &[u32], ix: Sections, list: &mut [u32], w: &mu
     ensures { λ r. ⌜ SlotsListed (now (words .entry)) (slotsIn (now (area .entry))) (now (list .entry)) (now (list .exit)) (now (w .entry)) (now (w .exit)) r ⌝ }
 {
     let mut unpaired = [0u32; KNOWN_WORDS];
+    index_pairs(words, ix, &mut unpaired);
     let mut memo = [0u32; MEMO];
     list_slots(&area[FRONT..], words, ix, list, &mut unpaired, w, &mut memo)
 }

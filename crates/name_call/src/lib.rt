@@ -14,6 +14,7 @@ use one_label::judge_label;
 use quick_asked::ask;
 use sections::Sections;
 use unpaired::KNOWN_WORDS;
+use unpaired::index::index_pairs;
 ghost use Prim.Native.Nat.{_≤_};
 ghost use lib.ListN.{length};
 ghost use Rattle.limits.specs.Limits.{mostInput, leastWork};
@@ -39,6 +40,7 @@ fn judge_labels(
     ensures { λ r. ⌜ NameJudged (now (name .entry)) (labelsVerdict setting (theTable (now (words .entry))) 0 0 0 (labelsOf (now (name .entry)))) (now (answer .entry)) (now (answer .exit)) (now (w .entry)) (now (w .exit)) r ⌝ }
 {
     let mut unpaired = [0u32; KNOWN_WORDS];
+    index_pairs(words, ix, &mut unpaired);
     ask(words, ix, &mut unpaired, name.len());
     let mut at = 0;
     let mut done = 0;

@@ -9,6 +9,7 @@ use limits::MOST_WORKED;
 use sections::Layout;
 use sections::Sections;
 use unpaired::KNOWN_WORDS;
+use unpaired::index::index_pairs;
 ghost use mathlib.Core.Path.{_≡_};
 ghost use lib.ListN.{length};
 ghost use Rattle.sections.specs.Laid.{Laid};
@@ -104,6 +105,7 @@ fn nfc_front(text: &[u32], words: &[u32], answer: &mut [u32], work: &mut [u32]) 
         return arranged;
     };
     let mut unpaired = [0u32; KNOWN_WORDS];
+    index_pairs(words, ix, &mut unpaired);
     let left = compose(words, ix, &mut unpaired, &mut answer[..n], &work[..n]);
     FormAnswer::Formed(left)
 }

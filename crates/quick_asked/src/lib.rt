@@ -1,9 +1,9 @@
 // Whether a call leaves text that needs no NFC as it is: rules 6 to 8 are looked for where the input is so long that this saves more than the
 // look costs.
-use bit_sets::put;
 use quick_found::finds;
 use sections::Sections;
 use unpaired::QUICK_PLACE;
+use unpaired::put_bit;
 ghost use Rattle.sections.specs.Laid.{Laid};
 ghost use Rattle.table.specs.Layout.{theTable};
 ghost use Rattle.unpaired.specs.Unpaired.{Unpaired};
@@ -23,5 +23,5 @@ pub fn ask(words: &[u32], ix: Sections, unpaired: &mut [u32], n: usize)
     if !finds(words, ix) {
         return;
     }
-    put(unpaired, QUICK_PLACE);
+    put_bit(unpaired, QUICK_PLACE);
 }

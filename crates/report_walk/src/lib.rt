@@ -7,6 +7,7 @@ use sections::Layout;
 use sections::Sections;
 use token_walk::next_token;
 use unpaired::KNOWN_WORDS;
+use unpaired::index::index_pairs;
 ghost use Prim.Native.Nat.{_≤_};
 ghost use lib.ListN.{length};
 ghost use Rattle.lists.specs.Laws.{Every};
@@ -68,6 +69,7 @@ fn report_labels(words: &[u32], ix: Sections, name: &[u32], out: &mut [u8], w: &
     ensures { λ r. ⌜ Adds (now (out .entry)) (now (out .exit)) (report (theTable (now (words .entry))) (now (name .entry))) nothing r ⌝ }
 {
     let mut unpaired = [0u32; KNOWN_WORDS];
+    index_pairs(words, ix, &mut unpaired);
     let mut sink = Sink { at: 0, full: false };
     let mut at = 0;
     while at <= name.len() {

@@ -10,6 +10,7 @@ use table::lookup::counted;
 use text::hangul::is_trailing;
 use text::hangul::is_vowel;
 use unpaired::KNOWN_WORDS;
+use unpaired::index::index_pairs;
 ghost use mathlib.Core.Path.{_≡_};
 ghost use Prim.Native.Nat.{_≤_, _<_, _+_, _-_};
 ghost use lib.ListN.{length};
@@ -348,6 +349,7 @@ pub fn keeps_rule8(words: &[u32], ix: Sections) -> bool
     }
     let held = seconds_held_of(words, ix, ix.decompositions);
     let mut unpaired = [0u32; KNOWN_WORDS];
+    index_pairs(words, ix, &mut unpaired);
     if !run_passes(words, ix, &mut unpaired, held, 0x1161, 0x1176) {
         return false;
     }

@@ -1,7 +1,7 @@
 -- `list_area`: nothing is known of the table at first but its sections. Assumes nothing.
+use mathlib.Core.Path.{sym}
 use denote.Ref.{now}
 use borrow.Author.Needs.{needs}
-use Rattle.unpaired.proofs.Noting.{unpaired-none}
 use Rattle.memo.proofs.MemoLaws.{memo-new}
 use Rattle.moved.proofs.MovedLaws.{area-slots, area-listed}
 use Rattle.moved.proofs.list_area.Statement.{statement}
@@ -17,7 +17,7 @@ part-list-slots-end : tie.Need-part-list-slots-end
 part-list-slots-end c = search needs
 
 slice-aggregate-list-slots : tie.Need-slice-aggregate-list-slots
-slice-aggregate-list-slots c = search needs
+slice-aggregate-list-slots c = sym (c .index-pairs .ensures .size)
 
 slice-aggregate-list-slots-2 : tie.Need-slice-aggregate-list-slots-2
 slice-aggregate-list-slots-2 c = search needs
@@ -25,7 +25,7 @@ slice-aggregate-list-slots-2 c = search needs
 list-slots-requires : tie.Need-list-slots-requires
 list-slots-requires c κs =
     let p = c .before .before .before .before .before .before .before .before .before .pre in
-    (area-slots (now (c .before .before .before .before .before .before .before .before .before .args .area)) (p .0 .0) (p .0 .1), record { laid = p .1 .0; pairs = unpaired-none _; enough = p .1 .1; remembered = memo-new _ })
+    (area-slots (now (c .before .before .before .before .before .before .before .before .before .args .area)) (p .0 .0) (p .0 .1), record { laid = p .1 .0; pairs = c .index-pairs .ensures; enough = p .1 .1; remembered = memo-new _ })
 
 same-length : tie.Need-same-length
 same-length c = c .before .before .before .before .before .before .list-slots .ensures .holds .same

@@ -15,14 +15,14 @@ finds-requires c κs = search needs
 returns-2 : tie.Need-returns-2
 returns-2 c = c .before .before .before .before .before .pre .1
 
-put-requires : tie.Need-put-requires
-put-requires c κs = search needs
+put-bit-requires : tie.Need-put-bit-requires
+put-bit-requires c κs = search needs
 
 same-length : tie.Need-same-length
 same-length c = search needs
 
 returns-3 : tie.Need-returns-3
-returns-3 c = unpaired-quick _ _ _ (c .before .before .before .before .before .before .before .before .before .pre .1) (found-rules _ (c .before .before .before .before .before .finds .ensures (not-false _ (c .before .before .before .before .if2 .left))) .2) (c .before .before .put .ensures)
+returns-3 c = unpaired-quick _ _ _ (c .before .before .before .before .before .before .before .before .before .pre .1) (found-rules _ (c .before .before .before .before .before .finds .ensures (not-false _ (c .before .before .before .before .if2 .left))) .2) (c .before .before .put-bit .ensures)
 
 pub ask-spec : {M : Type 1} → statement M
 ask-spec =
@@ -31,6 +31,6 @@ ask-spec =
     returns
     finds-requires
     returns-2
-    put-requires
+    put-bit-requires
     same-length
     returns-3)

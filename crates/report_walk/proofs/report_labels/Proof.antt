@@ -6,7 +6,6 @@ use lib.ListN.{length}
 use borrow.Author.Needs.{needs}
 use Rattle.table.specs.Layout.{theTable}
 use Rattle.unpaired.specs.Unpaired.{Unpaired}
-use Rattle.unpaired.proofs.Noting.{unpaired-none}
 use Rattle.name.proofs.Parting.{label-length}
 use Rattle.report_walk.proofs.Reporting.{Labelled, labelled-start, labelled-walks, labelled-more, labelled-end}
 use Rattle.report_walk.proofs.report_labels.Statement.{statement}
@@ -22,7 +21,7 @@ abbrev μ-loop : tie.MeasureT-loop
 loop-holds : tie.Need-loop-holds Inv-loop μ-loop
 loop-holds c =
     let p = c .before .before .before .before .pre in
-    (labelled-start _ _ _ (p .1 .0 .2) (p .1 .1), (unpaired-none _, refl))
+    (labelled-start _ _ _ (p .1 .0 .2) (p .1 .1), (c .index-pairs .ensures, refl))
 
 label-end-requires : tie.Need-label-end-requires Inv-loop μ-loop
 label-end-requires c κs = search needs

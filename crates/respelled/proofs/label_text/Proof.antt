@@ -1,7 +1,6 @@
 -- `label_text`: the tokens in normal form, and their text alone. Assumes nothing.
 use native.Mathlib.Omega.{arith}
-use mathlib.Core.Path.{_∙_}
-use Rattle.unpaired.proofs.Noting.{unpaired-none}
+use mathlib.Core.Path.{sym, _∙_}
 use borrow.Author.Needs.{needs}
 use Rattle.respelled.proofs.ListLaws.{not-disallowed, worked-few, text-stands}
 use Rattle.respelled.proofs.label_text.Statement.{statement}
@@ -17,13 +16,13 @@ enum-known-scanned : tie.Need-enum-known-scanned
 enum-known-scanned c = search needs
 
 slice-aggregate-normalise : tie.Need-slice-aggregate-normalise
-slice-aggregate-normalise c = search needs
+slice-aggregate-normalise c = sym (c .index-pairs .ensures .size)
 
 normalise-requires : tie.Need-normalise-requires
 normalise-requires c κs =
     let p = c .before .before .before .before .before .before .before .before .before .before .before .before .pre in
     let s = c .before .before .before .before .before .before .before .scan .ensures in
-    (p .0, (unpaired-none _, (omega (arith, p .1 .0 .0, s .same), worked-few _ _ (p .1 .1) _ _ _ s _ (c .before .before .before .scanned .given .1))))
+    (p .0, (c .index-pairs .ensures, (omega (arith, p .1 .0 .0, s .same), worked-few _ _ (p .1 .1) _ _ _ s _ (c .before .before .before .scanned .given .1))))
 
 text-alone-requires : tie.Need-text-alone-requires
 text-alone-requires c κs =

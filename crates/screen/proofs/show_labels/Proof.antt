@@ -6,7 +6,6 @@ use mathlib.Core.Logic.{⊎-elim}
 use lib.ListN.{length}
 use Rattle.table.specs.Layout.{theTable}
 use Rattle.unpaired.specs.Unpaired.{Unpaired}
-use Rattle.unpaired.proofs.Noting.{unpaired-none}
 use Rattle.memo.specs.Memo.{Memo}
 use Rattle.name.proofs.Parting.{label-length}
 use Rattle.screen.proofs.Passing.{Passed, pass-start, pass-empty, pass-done, pass-refused, pass-barred, pass-walks, pass-worked, pass-room, pass-more}
@@ -23,7 +22,7 @@ abbrev μ-loop : tie.MeasureT-loop
     length name + 1 - at
 
 loop-holds : tie.Need-loop-holds Inv-loop μ-loop
-loop-holds c = (⊎-elim (λ w. rw (w .1) (pass-empty _ _ _ _ _ _ (w .0 .taken))) (λ w. rw (w .1) (pass-start _ _ _ _ _ _ (omega arith))) (c .if1 .came), (unpaired-none _, c .before .before .before .before .before .before .pre .1 .1))
+loop-holds c = (⊎-elim (λ w. rw (w .1) (pass-empty _ _ _ _ _ _ (w .0 .taken))) (λ w. rw (w .1) (pass-start _ _ _ _ _ _ (omega arith))) (c .if1 .came), (c .index-pairs .ensures, c .before .before .before .before .before .before .pre .1 .1))
 
 label-end-requires : tie.Need-label-end-requires Inv-loop μ-loop
 label-end-requires c κs = search needs

@@ -4,7 +4,6 @@ use borrow.Author.Tests.{not-true, not-false}
 use Rattle.lists.specs.Lists.{all}
 use Rattle.sections.proofs.SectionLaws.{laid-fits}
 use Rattle.sound_parts.proofs.SectionsHold.{decompositions-hold, decompositions-are}
-use Rattle.unpaired.proofs.Noting.{unpaired-none}
 use Rattle.rule_8.specs.Records.{secondHeldIn}
 use Rattle.rule_8.proofs.SetLaws.{set-empty, set-some}
 use Rattle.rule_8.proofs.RunLaws.{rule8-empty, vowels-fail, trailings-fail, syllables-fail, records-decide}
@@ -19,10 +18,10 @@ seconds-held-of-requires : tie.Need-seconds-held-of-requires
 seconds-held-of-requires c κs = (c .before .before .before .before .pre, (laid-fits _ _ (c .before .before .before .before .pre) .decompositions, decompositions-hold _ _ (c .before .before .before .before .pre)))
 
 slice-aggregate-run-passes : tie.Need-slice-aggregate-run-passes
-slice-aggregate-run-passes c = search needs
+slice-aggregate-run-passes c = sym (c .index-pairs .ensures .size)
 
 run-passes-requires : tie.Need-run-passes-requires
-run-passes-requires c κs = (c .before .before .before .before .before .before .pre, (unpaired-none _, (λ e. sym (ap (all (secondHeldIn _)) (decompositions-are _ _ (c .before .before .before .before .before .before .pre))) ∙ sym (c .before .seconds-held-of .ensures) ∙ e)))
+run-passes-requires c κs = (c .before .before .before .before .before .before .pre, (c .index-pairs .ensures, (λ e. sym (ap (all (secondHeldIn _)) (decompositions-are _ _ (c .before .before .before .before .before .before .pre))) ∙ sym (c .before .seconds-held-of .ensures) ∙ e)))
 
 returns-2 : tie.Need-returns-2
 returns-2 c = vowels-fail _ (set-some _ _ (c .before .before .before .before .before .before .before .before .before .pre) (c .before .before .before .before .before .if1 .left)) (sym (not-true _ (c .if2 .taken)) ∙ c .before .before .run-passes .ensures .is)
