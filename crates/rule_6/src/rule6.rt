@@ -7,6 +7,7 @@ use sound_choices::choices::find_first;
 use sound_parts::spared::classes_spare_of;
 use sound_parts::spared::plain_head;
 use sound_rounds::rounds::choose_rounds;
+use sound_rounds::rounds::no_syllables;
 use sound_rounds::rounds::reach;
 use table::Items;
 use table::Span;
@@ -29,10 +30,13 @@ ghost use Rattle.sound_parts.specs.Parts.{Holds, asHeaded};
 ghost use Rattle.bit_sets.specs.Sets.{has, windowWords};
 ghost use Rattle.sound_choices.specs.Rounds.{headsOf, startOf, Holding};
 ghost use Rattle.sound_rounds.specs.Reached.{PartsOf, RoundsChosen};
-ghost use Rattle.rule_2.specs.Windows.{Passes};
+ghost use Rattle.rule_2.specs.Windows.{Passes, WordPasses};
 ghost use Rattle.rule_6.specs.Heads.{isStable, stableAt, settled, headFits, headsFit};
 
 const WINDOW: u32 = 0x10000;
+
+// The words of a window's set.
+const WORDS: u32 = 2048;
 
 // Whether c decomposes no further.
 fn is_stable(words: &[u32], ix: Sections, c: u32) -> bool
@@ -131,7 +135,48 @@ fn stable_at(words: &[u32], ix: Sections, heads: &[u32], set: &[u32], base: u32,
     is_stable(words, ix, base + d)
 }
 
-// The same for every place.
+// The same for the 32 places of the word i.
+fn stable_places(words: &[u32], ix: Sections, heads: &[u32], set: &[u32], base: u32, i: u32) -> bool
+    requires { ⌜ Laid (now words) ix ⌝ }
+    requires { ⌜ Holding base (now heads) (headsOf (theTable (now words) .decompositions)) ⌝ }
+    requires { ⌜ length (now set) ≡ windowWords ⌝ }
+    requires { ⌜ base < 0x110000 ⌝ }
+    requires { ⌜ i < windowWords ⌝ }
+    ensures { λ r. ⌜ WordPasses (stableAt (theTable (now (words .entry))) base (now (set .entry))) i r ⌝ }
+{
+    let mut d = i * 32;
+    let end = d + 32;
+    while d < end {
+        if !stable_at(words, ix, heads, set, base, d) {
+            return false;
+        }
+        d += 1;
+    }
+    true
+}
+
+// The same, at once where the set holds none of them, or none can change.
+fn stable_word(words: &[u32], ix: Sections, heads: &[u32], set: &[u32], base: u32, i: u32) -> bool
+    requires { ⌜ Laid (now words) ix ⌝ }
+    requires { ⌜ Holding base (now heads) (headsOf (theTable (now words) .decompositions)) ⌝ }
+    requires { ⌜ length (now set) ≡ windowWords ⌝ }
+    requires { ⌜ base < 0x110000 ⌝ }
+    requires { ⌜ i < windowWords ⌝ }
+    ensures { λ r. ⌜ WordPasses (stableAt (theTable (now (words .entry))) base (now (set .entry))) i r ⌝ }
+{
+    let k = i as usize;
+    if set[k] == 0 {
+        return true;
+    }
+    if heads[k] == 0 {
+        if no_syllables(base + i * 32) {
+            return true;
+        }
+    }
+    stable_places(words, ix, heads, set, base, i)
+}
+
+// The same for every word.
 fn stable_in(words: &[u32], ix: Sections, heads: &[u32], set: &[u32], base: u32) -> bool
     requires { ⌜ Laid (now words) ix ⌝ }
     requires { ⌜ Holding base (now heads) (headsOf (theTable (now words) .decompositions)) ⌝ }
@@ -139,12 +184,12 @@ fn stable_in(words: &[u32], ix: Sections, heads: &[u32], set: &[u32], base: u32)
     requires { ⌜ base < 0x110000 ⌝ }
     ensures { λ r. ⌜ Passes (stableAt (theTable (now (words .entry))) base (now (set .entry))) 0x10000 r ⌝ }
 {
-    let mut d: u32 = 0;
-    while d < WINDOW {
-        if !stable_at(words, ix, heads, set, base, d) {
+    let mut i: u32 = 0;
+    while i < WORDS {
+        if !stable_word(words, ix, heads, set, base, i) {
             return false;
         }
-        d += 1;
+        i += 1;
     }
     true
 }

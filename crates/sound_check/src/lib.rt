@@ -1,6 +1,7 @@
 // The soundness check of a name table: the rules, asked in their order.
 use answers::Soundness;
 use layout::layout;
+use quick_found::finds;
 use rule_2::rule2;
 use rule_4::rule4;
 use rule_5::rule5;
@@ -17,7 +18,8 @@ ghost use Rattle.sections.specs.Laid.{Laid};
 ghost use Rattle.table.specs.Layout.{theTable};
 ghost use Rattle.soundness.specs.Soundness.{lowestBroken, soundnessOf};
 
-// The lowest rule that a table breaks.
+// The lowest rule that a table breaks. Rules 6 to 8 are first looked for by a few walks over the sections, which may miss them: then each is
+// asked by itself.
 fn rules(words: &[u32], ix: Sections) -> Soundness
     requires { ⌜ Laid (now words) ix ⌝ }
     ensures { λ r. ⌜ brokenRule r ≡ lowestBroken (theTable (now (words .entry))) ⌝ }
@@ -36,6 +38,9 @@ fn rules(words: &[u32], ix: Sections) -> Soundness
     }
     if !rule5::keeps_rule5(words, ix) {
         return Soundness::Broken(5);
+    }
+    if finds(words, ix) {
+        return Soundness::Sound;
     }
     if !rule6::keeps_rule6(words, ix) {
         return Soundness::Broken(6);
