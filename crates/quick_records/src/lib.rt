@@ -1,9 +1,9 @@
 // What rules 7 and 8 ask of each decomposition.
 use quick_filters::filters::may_hold;
 use quick_filters::filters::note_runs;
-use quick_levels::index_records;
 use quick_filters::slots::SLOTS;
 use quick_filters::slots::find_slot;
+use quick_levels::index_records;
 use sections::Sections;
 use sections::lookup::in_quick_check;
 use text::class::class_of;
