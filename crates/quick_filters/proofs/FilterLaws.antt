@@ -2,32 +2,91 @@
 use Prim.Native.Nat.{ℕ, _+_, _*_, _%_, _≤_, _<_}
 use native.Mathlib.Omega.{arith}
 use mathlib.Core.Path.{_≡_, refl, sym, _∙_}
-use mathlib.Core.Bool.{Bool, true, false, _||_}
+use mathlib.Core.Bool.{Bool, true, false, _&&_, _||_}
 use mathlib.Core.List.{List}
 use lib.ListN.{length, getD, drop}
 use lib.Dec.{leb, eqb}
 use borrow.Author.Tests.{eq-eqb, leb-true, leb-false}
+use Rattle.lists.specs.Laws.{both-left, both-right}
 use Rattle.lists.specs.Tests.{never, not-so}
 use Rattle.bit_sets.specs.Sets.{has, Put}
 use Rattle.halving.specs.Halving.{FirstCovers}
-use Rattle.quick_filters.specs.Filter.{filterWords, placeOf, holds, Grown, Noted, RunNoted, Skips, RunsNoted}
+use Rattle.quick_filters.specs.Filter.{filterWords, placeOf, strewnOf, lastOf, holds, Grown, Noted, RunNoted, Skips, RunsNoted}
 
 or-right : (a b : Bool) → b ≡ true → (a || b) ≡ true
 or-right true b e = refl
 or-right false b e = e
 
-pub put-noted : (old new : List ℕ) (c : ℕ) → length old ≡ filterWords → Put old new (λ e. eqb e (placeOf c)) → Noted old new c
-put-noted old new c room p =
-    record {
-      grown = record {
-        room = p .room;
-        kept = λ x h. p .each (placeOf x) (small x) ∙ or-right (eqb (placeOf x) (placeOf c)) (holds old x) h;
-      };
-      here = p .each (placeOf c) (small c) ∙ rw (eq-eqb (placeOf c) (placeOf c) refl);
-    }
-  where
-    small : (x : ℕ) → placeOf x < length old * 32
-    small x = omega arith
+all-three : (a b c : Bool) → a ≡ true → b ≡ true → c ≡ true → (a && b && c) ≡ true
+all-three a b c p q r = rw (p, q, r)
+
+-- a place that is put into a set, and those that were in it
+module _ (old new : List ℕ) (d : ℕ) (room : length old ≡ filterWords) (p : Put old new (λ e. eqb e d)) where
+  put-room : length new ≡ filterWords
+  put-room = p .room ∙ room
+
+  put-keeps : (x : ℕ) → x < 32768 → has old x ≡ true → has new x ≡ true
+  put-keeps x s h = p .each x (omega arith) ∙ or-right (eqb x d) (has old x) h
+
+  put-here : d < 32768 → has new d ≡ true
+  put-here s = p .each d (omega arith) ∙ rw (eq-eqb d d refl)
+
+-- the three bits
+place-small : (c : ℕ) → placeOf c < 32768
+place-small c = omega arith
+
+strewn-small : (c : ℕ) → strewnOf c < 32768
+strewn-small c = omega arith
+
+last-small : (c : ℕ) → lastOf c < 32768
+last-small c = omega arith
+
+module _ (old a b new : List ℕ) (c : ℕ) (room : length old ≡ filterWords) (p : Put old a (λ e. eqb e (placeOf c))) (q : Put a b (λ e. eqb e (strewnOf c))) (r : Put b new (λ e. eqb e (lastOf c))) where
+  room-a : length a ≡ filterWords
+  room-a = put-room old a (placeOf c) room p
+
+  room-b : length b ≡ filterWords
+  room-b = put-room a b (strewnOf c) room-a q
+
+  -- what is in a set stays when the others are put into it
+  from-b : (x : ℕ) → x < 32768 → has b x ≡ true → has new x ≡ true
+  from-b = put-keeps b new (lastOf c) room-b r
+
+  from-a : (x : ℕ) → x < 32768 → has a x ≡ true → has new x ≡ true
+  from-a x s h = from-b x s (put-keeps a b (strewnOf c) room-a q x s h)
+
+  from-old : (x : ℕ) → x < 32768 → has old x ≡ true → has new x ≡ true
+  from-old x s h = from-a x s (put-keeps old a (placeOf c) room p x s h)
+
+  pub put-noted : Noted old new c
+  unfolding holds
+  put-noted =
+      record {
+        grown = record {
+          room = r .room ∙ q .room ∙ p .room;
+          kept = λ x h.
+              let one = has old (placeOf x) in
+              let two = has old (strewnOf x) in
+              let three = has old (lastOf x) in
+              all-three (has new (placeOf x)) (has new (strewnOf x)) (has new (lastOf x)) (from-old (placeOf x) (place-small x) (both-left one two (both-left (one && two) three h))) (from-old (strewnOf x) (strewn-small x) (both-right one two (both-left (one && two) three h))) (from-old (lastOf x) (last-small x) (both-right (one && two) three h));
+        };
+        here = all-three (has new (placeOf c)) (has new (strewnOf c)) (has new (lastOf c)) (from-a (placeOf c) (place-small c) (put-here old a (placeOf c) room p (place-small c))) (from-b (strewnOf c) (strewn-small c) (put-here a b (strewnOf c) room-a q (strewn-small c))) (put-here b new (lastOf c) room-b r (last-small c));
+      }
+
+-- what the bits say, asked in turn
+module _ (set : List ℕ) (c : ℕ) (x : Bool) (p : x ≡ has set (placeOf c)) where
+  pub held-not : x ≡ false → false ≡ holds set c
+  unfolding holds
+  held-not e = rw (← p, e)
+
+  module _ (y : Bool) (q : y ≡ has set (strewnOf c)) (i : x ≡ true) where
+    pub held-neither : y ≡ false → false ≡ holds set c
+    unfolding holds
+    held-neither e = rw (← p, i, ← q, e)
+
+    pub held-last : (z : Bool) → y ≡ true → z ≡ has set (lastOf c) → z ≡ holds set c
+    unfolding holds
+    held-last z j r = rw (← p, i, ← q, j, ← r)
 
 pub grown-none : (old : List ℕ) → Grown old old
 grown-none old = record { room = refl; kept = λ x h. h }

@@ -1,6 +1,6 @@
 -- An index of places in a part by the two words that stand there: a slot holds one more than the place of the first word, or 0. A search starts
 -- at the slot that the words give and goes on to the next while slots are full. Assumes nothing.
-use Prim.Native.Nat.{ℕ, _+_, _-_, _*_, _%_, _<_}
+use Prim.Native.Nat.{ℕ, _+_, _-_, _*_, _/_, _%_, _<_}
 use mathlib.Core.Path.{_≡_}
 use mathlib.Core.Logic.{_⊎_}
 use mathlib.Core.Bool.{Bool, true, false}
@@ -16,7 +16,7 @@ slotCount = 2048
 
 -- the slot where a search for x, y starts
 abbrev pub hashOf : ℕ → ℕ → ℕ
-hashOf x y = (x % 2048 * 83 + y % 2048) % 2048
+hashOf x y = (x % 65536 * 40503 + y % 65536 * 10007) % 65536 / 32
 
 -- what the slot holds that is asked after j others
 abbrev pub asked : List ℕ → ℕ → ℕ → ℕ → ℕ

@@ -1,16 +1,28 @@
-// Filters: a bit for each of 32,768 classes of codepoints. Where the bit is clear, the codepoint is no member.
+// Filters: sets of 32,768 bits, three for each member. Where one of its bits is clear, a codepoint is no member.
 use bit_sets::has;
 use bit_sets::put;
 ghost use mathlib.Core.Path.{_≡_};
 ghost use Prim.Native.Nat.{_<_, _≤_};
 ghost use lib.ListN.{length};
-ghost use Rattle.quick_filters.specs.Filter.{filterWords, placeOf, holds, Noted, RunNoted, RunsNoted};
+ghost use Rattle.quick_filters.specs.Filter.{filterWords, placeOf, strewnOf, lastOf, holds, Noted, RunNoted, RunsNoted};
 
-// The bit of c.
+// The bits of c.
 fn place(c: u32) -> u32
     ensures { λ r. ⌜ (r ≡ placeOf c) × (r < 32768) ⌝ }
 {
     (c % 32768 + c / 32768 * 12345) % 32768
+}
+
+fn strewn_place(c: u32) -> u32
+    ensures { λ r. ⌜ (r ≡ strewnOf c) × (r < 32768) ⌝ }
+{
+    (c % 65536 * 40503 + c / 65536 * 10007) % 65536 / 2
+}
+
+fn last_place(c: u32) -> u32
+    ensures { λ r. ⌜ (r ≡ lastOf c) × (r < 32768) ⌝ }
+{
+    (c % 65536 * 25717 + c / 65536 * 18211) % 65536 / 2
 }
 
 // Whether c may be a member.
@@ -18,7 +30,13 @@ pub fn may_hold(set: &[u32], c: u32) -> bool
     requires { ⌜ length (now set) ≡ filterWords ⌝ }
     ensures { λ r. ⌜ r ≡ holds (now (set .entry)) c ⌝ }
 {
-    has(set, place(c))
+    if !has(set, place(c)) {
+        return false;
+    }
+    if !has(set, strewn_place(c)) {
+        return false;
+    }
+    has(set, last_place(c))
 }
 
 // Makes c a member.
@@ -27,6 +45,8 @@ pub fn note(set: &mut [u32], c: u32)
     ensures { λ _. ⌜ Noted (now (set .entry)) (now (set .exit)) c ⌝ }
 {
     put(set, place(c));
+    put(set, strewn_place(c));
+    put(set, last_place(c));
 }
 
 // Makes the codepoints from `from` to `to` members.

@@ -7,13 +7,13 @@ ghost use Rattle.quick_filters.specs.Slot.{mostLooked, slotCount, hashOf
 // The number of slots, and of those that a search asks at most.
 pub const SLOTS: usize = 2048;
 
-const TRIES: u32 = 32;
+const TRIES: u32 = 64;
 
 // The slot where a search for x, y starts.
 fn hash(x: u32, y: u32) -> u32
     ensures { λ r. ⌜ r ≡ hashOf x y ⌝ }
 {
-    (x % 2048 * 83 + y % 2048) % 2048
+    (x % 65536 * 40503 + y % 65536 * 10007) % 65536 / 32
 }
 
 // Whether x, y are the words at the place of a slot.

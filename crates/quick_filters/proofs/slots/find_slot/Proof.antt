@@ -12,7 +12,7 @@ abbrev Inv-loop : tie.InvT-loop
 Inv-loop part slots x y start j₀ j = Asked part slots x y j × (start ≡ hashOf x y)
 
 abbrev μ-loop : tie.MeasureT-loop
-μ-loop part slots x y start j₀ j = 32 - j
+μ-loop part slots x y start j₀ j = 64 - j
 
 hash-requires : tie.Need-hash-requires Inv-loop μ-loop
 hash-requires c κs = search needs
