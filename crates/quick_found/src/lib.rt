@@ -20,13 +20,17 @@ ghost use Rattle.quick_records.specs.Fit.{PartOf, SetOf, Looked, JamoHeld, Deco
 // The longest section of decompositions that is looked at.
 const MOST_LOOKED: usize = 16384;
 
-// Whether the sections are sorted and not too long, and the set isn't empty.
+// Whether the sections are sorted and not too long, and the set isn't empty. Those that a scan of a label asks are to be sorted too: a label that
+// does not turn out to be left as it is until late is scanned twice, and only by halves that costs little beside the rest.
 fn may_look(ix: Sections) -> bool
     requires { ⌜ ix .decompositions .from ≤ ix .decompositions .to ⌝ }
     ensures { λ r. ⌜ (r ≡ true → Looked ix) ⌝ }
 {
     let sorted = ix.sorted;
     if !(sorted.decompositions & sorted.classes & sorted.exclusions & sorted.quick) {
+        return false;
+    }
+    if !(sorted.valid & sorted.ignored & sorted.mapped & sorted.emoji) {
         return false;
     }
     if ix.quick.to <= ix.quick.from {

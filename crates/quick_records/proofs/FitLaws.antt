@@ -157,8 +157,8 @@ module _ (ws : List ℕ) (ix : Sections) (l : Laid ws ix) (a b c d : List ℕ) (
       none k false e = sym (class-ranges k (within (ix .classes) ws) (theTable ws .classes) (laid-reads ws ix l .classes)) ∙ e
 
 -- nothing is kept yet
-pub good-none : (t : Table) → Good t (replicate 256 0)
-good-none t = record { room = length-replicate {A = ℕ} 256 0; each = λ i n. absurd (n (zeros 256 i)) }
+pub good-none : (t : Table) → Good t (replicate 257 0)
+good-none t = record { room = length-replicate {A = ℕ} 257 0; each = λ i s n. absurd (n (zeros 257 i)) }
   where
     zeros : (k i : ℕ) → _≡_ {A = ℕ} (getD (replicate k 0) i 0) 0
     zeros zero i = refl

@@ -46,10 +46,14 @@ pub record Cleared (t : Table) (set : List ℕ) : Type 0 where
   pub room : length set ≡ filterWords
   pub clear : (c : ℕ) → holds set c ≡ false → ClearOf t c
 
--- second items that were found to fit
+-- second items that were found to fit; and a last word, how often a codepoint was asked for among the heads
 pub record Good (t : Table) (good : List ℕ) : Type 0 where
-  pub room : length good ≡ 256
-  pub each : (i : ℕ) → (getD good i 0 ≡ 0 → ⊥) → SecondFits t (getD good i 0)
+  pub room : length good ≡ 257
+  pub each : (i : ℕ) → i < 256 → (getD good i 0 ≡ 0 → ⊥) → SecondFits t (getD good i 0)
+
+pub record HeadAsked (t : Table) (good : List ℕ) (b : ℕ) (r : Bool) : Type 0 where
+  pub kept : Good t good
+  pub none : r ≡ true → isHead t b ≡ false
 
 pub record SecondAsked (t : Table) (good : List ℕ) (b : ℕ) (r : Bool) : Type 0 where
   pub kept : Good t good
