@@ -1,6 +1,1 @@
-pub mod FilterLaws
-pub mod SlotLaws
-pub mod WalkLaws
-pub mod SecondLaws
-pub mod FitLaws
 pub mod TopLaws

@@ -30,10 +30,11 @@ use Rattle.sound_parts.specs.Parts.{allTriples, sparesTriple}
 use Rattle.sound_parts.proofs.Walks.{triples-all}
 use Rattle.sound_parts.proofs.SectionsHold.{decompositions-hold, decompositions-are}
 use Rattle.quick_local.specs.Local.{isHead, Levels, Local}
-use Rattle.quick_found.specs.Filter.{filterWords, holds}
-use Rattle.quick_found.specs.Walk.{mostLooked, Each, Few, HeadsNoted, HeadNoted, wordOf, Apart, Indexed}
-use Rattle.quick_found.specs.Fit.{PartOf, HeadsHeld, Good, ByHead, Fitting, Looked, JamoHeld, Decomposed}
-use Rattle.quick_found.proofs.FitLaws.{set-of}
+use Rattle.quick_filters.specs.Filter.{filterWords, holds}
+use Rattle.quick_filters.specs.Slot.{mostLooked}
+use Rattle.quick_levels.specs.Walk.{Each, Few, HeadsNoted, HeadNoted, wordOf, Apart, Indexed}
+use Rattle.quick_records.specs.Fit.{PartOf, HeadsHeld, Good, ByHead, Fitting, Looked, JamoHeld, Decomposed}
+use Rattle.quick_records.proofs.FitLaws.{set-of}
 
 two-long : (s : List ℕ) → isTwo s ≡ true → length s ≡ 2
 two-long [] e = absurd (false≢true e)
@@ -55,18 +56,6 @@ some-none : (x : Range) (b : Bool) (o : Option (List Range)) → onlyIf b (inFro
 some-none x true none e = let z : _≡_ {A = ℕ} 0 1 = cc in omega arith
 some-none x true (some rs) e = let z : _≡_ {A = ℕ} 0 1 = cc in omega arith
 some-none x false o e = let z : _≡_ {A = ℕ} 0 1 = cc in omega arith
-
--- nothing is kept yet
-pub good-none : (t : Table) → Good t (replicate 256 0)
-good-none t = record { room = length-replicate {A = ℕ} 256 0; each = λ i n. absurd (n (zeros 256 i)) }
-  where
-    zeros : (k i : ℕ) → _≡_ {A = ℕ} (getD (replicate k 0) i 0) 0
-    zeros zero i = refl
-    zeros (suc k) zero = refl
-    zeros (suc k) (suc i) = zeros k i
-
-pub by-head : (t : Table) (part slots : List ℕ) → PartOf t part → rising 0 (t .decompositions) ≡ true → Each Few (t .decompositions) → classOf t 0 ≡ 0 → Indexed part 0 slots → ByHead t part slots
-by-head t part slots p r f z i = record { of = p; index = i; rises = r; few = f; zero = z }
 
 -- the heads that were noted
 module _ (t : Table) (part old new : List ℕ) (p : PartOf t part) (r : Bool) (ok : r ≡ true) (n : HeadsNoted part old new r) where

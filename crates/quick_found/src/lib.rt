@@ -1,15 +1,10 @@
 // Rules 6 to 8 found to hold in a few steps a word, or not found. 02, Item 11: "The fast path is taken only where the set isn't empty and that
 // pass found rules 6 to 8 to hold".
-pub mod filters;
-pub mod levels;
-pub mod records;
-pub mod slots;
-
-use levels::items_once;
-use levels::note_heads;
-use levels::stand_in_levels;
-use records::covers_run;
-use records::records_fit;
+use quick_levels::items_once;
+use quick_levels::note_heads;
+use quick_levels::stand_in_levels;
+use quick_records::covers_run;
+use quick_records::records_fit;
 use sections::Sections;
 use sound_parts::spared::classes_spare_of;
 ghost use mathlib.Core.Path.{_≡_};
@@ -20,18 +15,22 @@ ghost use Rattle.sections.specs.Laid.{Laid};
 ghost use Rattle.table.specs.Layout.{theTable};
 ghost use Rattle.heads.specs.Heads.{rising};
 ghost use Rattle.quick_local.specs.Local.{Local};
-ghost use Rattle.quick_found.specs.Fit.{PartOf, SetOf, Looked, JamoHeld, Decomposed};
+ghost use Rattle.quick_records.specs.Fit.{PartOf, SetOf, Looked, JamoHeld, Decomposed};
 
 // The longest section of decompositions that is looked at.
 const MOST_LOOKED: usize = 16384;
 
-// Whether the sections are sorted and not too long, and the set isn't empty.
+// Whether the sections are sorted and not too long, and the set isn't empty. Those that a scan of a label asks are to be sorted too: a label that
+// does not turn out to be left as it is until late is scanned twice, and only by halves that costs little beside the rest.
 fn may_look(ix: Sections) -> bool
     requires { ⌜ ix .decompositions .from ≤ ix .decompositions .to ⌝ }
     ensures { λ r. ⌜ (r ≡ true → Looked ix) ⌝ }
 {
     let sorted = ix.sorted;
     if !(sorted.decompositions & sorted.classes & sorted.exclusions & sorted.quick) {
+        return false;
+    }
+    if !(sorted.valid & sorted.ignored & sorted.mapped & sorted.emoji) {
         return false;
     }
     if ix.quick.to <= ix.quick.from {

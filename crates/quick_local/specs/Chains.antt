@@ -32,7 +32,7 @@ use Rattle.quick_local.specs.Depth.{Replaced, Within, single-cases, no-h
 use Rattle.quick_local.specs.Once.{no-hangul}
 
 -- where nothing was found, no member passes
-first-none : {A : Type 0} (p : A → Bool) {x : A} {s : List A} → List·Memᴰ x s → p x ≡ true → firstWith p s ≡ none → ⊥
+pub first-none : {A : Type 0} (p : A → Bool) {x : A} {s : List A} → List·Memᴰ x s → p x ≡ true → firstWith p s ≡ none → ⊥
 first-none p {x} (List·Memᴰ·head {x = y} {xs = s} e) k f = Option·none-ne-some x (sym (rw (← e, k) at f))
 first-none p (List·Memᴰ·tail {x = y} {xs = s} m) k f = go (p y) f (first-none p m k)
   where

@@ -8,10 +8,10 @@ use Rattle.heads.specs.Heads.{rising}
 use Rattle.table.specs.Table.{Table, Headed, Range, ClassRange}
 use Rattle.text.specs.Decomposition.{classOf}
 use Rattle.text.specs.Composition.{isPair, nfc}
-use Rattle.text.specs.QuickCheck.{Quick}
+use Rattle.text.specs.QuickCheck.{inOrder, Quick}
 use Rattle.soundness.specs.Pairs.{rule6, rule7}
 use Rattle.quick_local.specs.Local.{outside, Local}
-use Rattle.quick_local.specs.Laws.{found-rules}
+use Rattle.quick_local.specs.Laws.{found-rules, left-where-found}
 use Rattle.quick_local.specs.Tested.{secondsFit, outersFit, onceFit, tested-local}
 
 abbrev record2 : ℕ → ℕ → ℕ → Headed
@@ -75,6 +75,11 @@ sample-rules = found-rules sample sample-local
 pub sample-own : map (nfc sample) ((0x1E69 ∷ []) ∷ (0x2FFC ∷ []) ∷ (0xAC01 ∷ []) ∷ (0x344 ∷ []) ∷ (0x958 ∷ []) ∷ []) ≡ (0x1E69 ∷ []) ∷ (0x2FFC ∷ []) ∷ (0xAC01 ∷ []) ∷ (0x308 ∷ 0x301 ∷ []) ∷ (0x915 ∷ 0x93C ∷ []) ∷ []
 unfolding nfc sample
 sample-own = refl
+
+-- text outside the set, with its classes in order: 1E69, 308 and a syllable are left as they are
+pub sample-left : nfc sample (0x1E69 ∷ 0x308 ∷ 0xAC01 ∷ []) ≡ 0x1E69 ∷ 0x308 ∷ 0xAC01 ∷ []
+unfolding sample inOrder classOf
+sample-left = left-where-found sample sample-local (0x1E69 ∷ 0x308 ∷ 0xAC01 ∷ []) refl refl
 
 -- A second item that is a head: 1EE9 is 65 344. It is not composed again.
 unfoldable pub second-head : Table

@@ -39,12 +39,12 @@ ask-requires : tie.Need-ask-requires
 ask-requires c κs = (c .before .before .before .before .before .before .before .before .before .before .before .pre .0, c .before .before .index-pairs .ensures)
 
 slice-aggregate-judge-label : tie.Need-slice-aggregate-judge-label
-slice-aggregate-judge-label c = sym (c .before .before .ask .ensures .size)
+slice-aggregate-judge-label c = sym (c .before .before .ask .ensures .0 .size)
 
 judge-label-requires : tie.Need-judge-label-requires
 judge-label-requires c κs =
     let p = c .before .before .before .before .before .before .before .before .before .before .before .before .before .before .before .before .pre in
-    (p .0, (c .before .before .before .before .ask .ensures, ((p .1 .0 .0, p .1 .0 .1, omega arith, omega arith), p .1 .1)))
+    (p .0, (c .before .before .before .before .ask .ensures .0, ((p .1 .0 .0, p .1 .0 .1, omega arith, omega arith), p .1 .1)))
 
 enum-known-judged : tie.Need-enum-known-judged
 enum-known-judged c = search needs

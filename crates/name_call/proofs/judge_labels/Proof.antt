@@ -36,7 +36,7 @@ ask-requires c κs = (c .before .before .before .before .before .before .before 
 
 loop-holds : tie.Need-loop-holds Inv-loop μ-loop
 loop-holds c =
-    (⊎-elim (λ w. rw (w .1) (pass-empty _ _ _ _ _ (w .0 .taken))) (λ w. rw (w .1) (pass-start _ _ _ _ _ (omega arith))) (c .if1 .came), (c .before .before .ask .ensures, c .before .before .before .before .before .before .before .before .before .before .before .before .pre .1 .1))
+    (⊎-elim (λ w. rw (w .1) (pass-empty _ _ _ _ _ (w .0 .taken))) (λ w. rw (w .1) (pass-start _ _ _ _ _ (omega arith))) (c .if1 .came), (c .before .before .ask .ensures .0, c .before .before .before .before .before .before .before .before .before .before .before .before .pre .1 .1))
 
 label-end-requires : tie.Need-label-end-requires Inv-loop μ-loop
 label-end-requires c κs = search needs

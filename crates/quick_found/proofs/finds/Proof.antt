@@ -4,7 +4,7 @@ use mathlib.Core.Bool.{true}
 use mathlib.Core.Path.{refl, sym}
 use borrow.Author.Tests.{not-false}
 use Rattle.sections.proofs.SectionLaws.{laid-fits}
-use Rattle.quick_found.proofs.FitLaws.{set-of}
+use Rattle.quick_records.proofs.FitLaws.{set-of}
 use Rattle.quick_found.proofs.TopLaws.{part-of, heads-rise, local}
 use native.Mathlib.Omega.{arith}
 use Rattle.quick_found.proofs.finds.Statement.{statement}

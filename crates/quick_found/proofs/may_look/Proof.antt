@@ -16,11 +16,14 @@ returns c = λ e. never true refl (sym e)
 returns-2 : tie.Need-returns-2
 returns-2 c = λ e. never true refl (sym e)
 
+returns-3 : tie.Need-returns-3
+returns-3 c = λ e. never true refl (sym e)
+
 sub-result : tie.Need-sub-result
 sub-result c = search needs
 
-returns-3 : tie.Need-returns-3
-returns-3 c =
+returns-4 : tie.Need-returns-4
+returns-4 c =
     λ e. let s = c .before .before .before .before .before .before .before .before .args .ix .sorted in
     record { sorted = first-of-four (s .decompositions) (s .classes) (s .exclusions) (s .quick) (not-false (s .decompositions && s .classes && s .exclusions && s .quick) (c .before .before .before .if1 .left)); some = c .before .if2 .left; short = omega (arith, leb-true (c .before .before .before .before .before .before .before .before .args .ix .decompositions .to - c .before .before .before .before .before .before .before .before .args .ix .decompositions .from) 16384 e, c .before .before .before .before .before .before .before .before .pre) }
 
@@ -30,5 +33,6 @@ may-look-spec =
     (tie.spec
     returns
     returns-2
+    returns-3
     sub-result
-    returns-3)
+    returns-4)

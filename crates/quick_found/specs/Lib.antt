@@ -1,4 +1,0 @@
-pub mod Filter
-pub mod Slot
-pub mod Walk
-pub mod Fit
