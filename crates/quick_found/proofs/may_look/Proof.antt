@@ -24,8 +24,8 @@ sub-result c = search needs
 
 returns-4 : tie.Need-returns-4
 returns-4 c =
-    λ e. let s = c .before .before .before .before .before .before .before .before .args .ix .sorted in
-    record { sorted = first-of-four (s .decompositions) (s .classes) (s .exclusions) (s .quick) (not-false (s .decompositions && s .classes && s .exclusions && s .quick) (c .before .before .before .if1 .left)); some = c .before .if2 .left; short = omega (arith, leb-true (c .before .before .before .before .before .before .before .before .args .ix .decompositions .to - c .before .before .before .before .before .before .before .before .args .ix .decompositions .from) 16384 e, c .before .before .before .before .before .before .before .before .pre) }
+    λ e. let s = c .before .before .before .before .before .before .before .before .before .before .before .before .args .ix .sorted in
+    record { sorted = first-of-four (s .decompositions) (s .classes) (s .exclusions) (s .quick) (not-false (s .decompositions && s .classes && s .exclusions && s .quick) (c .before .before .before .before .before .before .before .if1 .left)); some = c .before .if3 .left; short = omega (arith, leb-true (c .before .before .before .before .before .before .before .before .before .before .before .before .args .ix .decompositions .to - c .before .before .before .before .before .before .before .before .before .before .before .before .args .ix .decompositions .from) 16384 e, c .before .before .before .before .before .before .before .before .before .before .before .before .pre) }
 
 pub may-look-spec : {M : Type 1} → statement M
 may-look-spec =

@@ -31,7 +31,7 @@ same-length : tie.Need-same-length
 same-length c = c .before .before .is-no-head .ensures .kept .room ∙ sym (c .before .before .before .before .before .before .before .before .before .before .before .before .before .pre .1 .room)
 
 returns-4 : tie.Need-returns-4
-returns-4 c = 
+returns-4 c =
     second-anew _ _ _ _ (sym (c .before .before .before .before .before .before .before .before .before .is-syllable .ensures) ∙ c .before .before .before .before .before .before .before .before .if1 .left) (sym (c .before .before .before .before .before .before .before .is-jamo .ensures) ∙ c .before .before .before .before .before .before .if2 .left) (sym (c .before .before .before .before .before .in-quick-check .ensures) ∙ not-false _ (c .before .before .before .before .if3 .left)) (c .before .before .is-no-head .ensures)
 
 pub fits-anew-spec : {M : Type 1} → statement M

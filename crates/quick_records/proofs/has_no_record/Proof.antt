@@ -22,7 +22,7 @@ returns : tie.Need-returns
 returns c = λ e. never true refl (sym e)
 
 returns-2 : tie.Need-returns-2
-returns-2 c = 
+returns-2 c =
     λ e. no-record (theTable (now (c .before .before .before .before .args .words))) _ _ (c .before .before .decomposition-items .result) (c .before .before .decomposition-items .ensures) (c .enum-told2 .given .1)
 
 pub has-no-record-spec : {M : Type 1} → statement M

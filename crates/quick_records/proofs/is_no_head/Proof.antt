@@ -11,7 +11,7 @@ may-hold-requires : tie.Need-may-hold-requires
 may-hold-requires c κs = search needs
 
 returns : tie.Need-returns
-returns c = 
+returns c =
     head-by-filter _ _ _ (c .before .before .before .before .before .pre .1) (held-none _ _ _ (c .before .before .before .before .before .pre .0 .1) (sym (c .before .may-hold .ensures) ∙ not-true _ (c .if1 .taken)))
 
 slice-read-asked : tie.Need-slice-read-asked
