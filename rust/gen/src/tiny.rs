@@ -41,9 +41,8 @@ pub fn tiny_table(rng: &mut Rng) -> TableBuilder {
     let mut b = TableBuilder { valid: vec![(0, u32::MAX)], ..TableBuilder::default() };
     b.groups = vec![(rng.code(0, 3), vec![(0, u32::MAX)])];
     b.decompositions = (0..rng.below(7)).map(|_| decomposition(rng)).collect();
-    for mark in 12..16 {
+    for &c in &CODES[12..16] {
         if rng.percent(70) {
-            let c = CODES[mark];
             b.classes.push((c, c, *rng.pick(&[0, 1, 220, 220, 230, 230, 230])));
         }
     }

@@ -42,21 +42,29 @@ impl Filter {
     }
 }
 
-/// Heads in ascending order, asked only where the filter does not know better.
+/// Heads in ascending order with the places of their records, asked only where
+/// the filter does not know better.
 struct Heads {
     filter: Filter,
-    heads: Vec<u32>,
+    heads: Vec<(u32, usize)>,
 }
 
 impl Heads {
     fn new(records: Records<1>, places: impl Iterator<Item = usize>) -> Heads {
-        let heads: Vec<u32> = places.map(|at| records.key(at)).collect();
+        let heads: Vec<(u32, usize)> = places.map(|at| (records.key(at), at)).collect();
         let mut filter = Filter::new();
-        heads.iter().for_each(|&c| filter.put(c));
+        heads.iter().for_each(|&(head, _)| filter.put(head));
         Heads { filter, heads }
     }
+    /// Where the record of this head stands.
+    fn place(&self, c: u32) -> Option<usize> {
+        if !self.filter.may_hold(c) {
+            return None;
+        }
+        self.heads.binary_search_by_key(&c, |&(head, _)| head).ok().map(|found| self.heads[found].1)
+    }
     fn hold(&self, c: u32) -> bool {
-        self.filter.may_hold(c) && self.heads.binary_search(&c).is_ok()
+        self.place(c).is_some()
     }
 }
 
@@ -149,12 +157,6 @@ fn records_fit(p: &Pass, pairs: &PairIndex, heads: &Heads, said: &Filter) -> boo
 /// Whether ordering leaves `b` behind all that `a` decomposes to, if the last of
 /// that is the last item of `a`.
 fn stays_last(p: &Pass, heads: &Heads, a: u32, b: u32) -> bool {
-    if !heads.hold(a) {
-        return true;
-    }
-    let class = p.class(b);
-    let Some(&last) = p.decompositions.find(a).and_then(|items| items.last()) else {
-        return true;
-    };
-    class == 0 || p.class(last) <= class
+    let last = heads.place(a).and_then(|at| p.decompositions.items(at).last());
+    last.is_none_or(|&last| p.class(b) == 0 || p.class(last) <= p.class(b))
 }
