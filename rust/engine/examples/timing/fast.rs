@@ -68,9 +68,22 @@ fn middle_and_most(of: impl Iterator<Item = f64>) -> [f64; 2] {
     [all[all.len() / 2], all[all.len() - 1]]
 }
 
+/// Other work on the machine makes a few ratios far too great or too small: those
+/// at both ends are measured again, more often.
+fn remeasure(names: &[Vec<u32>], table: &[u32], times: &mut [[f64; 2]]) {
+    let mut order: Vec<usize> = (0..names.len()).collect();
+    order.sort_by(|&a, &b| (times[a][0] / times[a][1]).total_cmp(&(times[b][0] / times[b][1])));
+    let ends = order.len().min(100);
+    for &i in order[..ends].iter().chain(&order[order.len() - ends..]) {
+        let again = both(&names[i], table, 8 * REPEATS);
+        times[i] = [times[i][0].min(again[0]), times[i][1].min(again[1])];
+    }
+}
+
 fn over(what: &str, names: &[Vec<u32>], table: &[u32]) {
     let pass = one_pass(table);
-    let times: Vec<[f64; 2]> = names.iter().map(|name| both(name, table, REPEATS)).collect();
+    let mut times: Vec<[f64; 2]> = names.iter().map(|name| both(name, table, REPEATS)).collect();
+    remeasure(names, table, &mut times);
     let [middle, most] = middle_and_most(times.iter().map(|[proved, plain]| proved / plain));
     let [sum_proved, sum_plain] = [0, 1].map(|i| times.iter().map(|of| of[i]).sum::<f64>());
     println!("{what}, {} names, {} words: one scalar pass {:.1} us", names.len(), table.len(), pass * 1e6);
