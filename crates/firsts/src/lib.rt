@@ -69,8 +69,8 @@ fn faulty() -> FirstsOrder
 }
 
 // Whether the words are records of 1 to 32 items each, one behind the other, whose first items do not fall, none of them FE0F. A mark is set
-// at the last record before a first item that is more than twice as large, between which text of many scripts stands, and before the first
-// that differs behind each seventh of the words.
+// at the last record before a first item that is more than twice as large, since the letters of most scripts lie in such a gap, and before
+// the first that differs behind each seventh of the words.
 pub fn firsts_order(part: &[u32]) -> FirstsOrder
     ensures { λ r. ⌜ FirstsFound (now (part .entry)) r ⌝ }
 {

@@ -52,7 +52,7 @@ noMarks = let f : Four = record { p = 0; q = 0; r = 0; s = 0 } in record { a = f
 abbrev pub mostPlace : ℕ
 mostPlace = 4294967295
 
--- A mark more, behind the others, of which the first goes. A place that is too large is not set.
+-- a mark is added behind the others, and the first of them dropped; a place that is too large is not set
 unfoldable pub withMark : Marks → ℕ → Marks
 withMark m at =
     let a = m .a in

@@ -19,7 +19,7 @@ ghost use Rattle.heads.specs.Walk.{Lower, RunPassed, SearchPassed};
 // The largest place that a mark holds.
 const MOST_PLACE: usize = 4294967295;
 
-// Eight places in a section, in two fours, the lowest first.
+// Places in a section, the lowest first.
 pub struct Four {
     pub p: u32,
     pub q: u32,
@@ -27,6 +27,7 @@ pub struct Four {
     pub s: u32,
 }
 
+// Eight of them, those of `a` first; 0 where fewer are set. (Not combining marks.)
 pub struct Marks {
     pub a: Four,
     pub b: Four,
@@ -65,7 +66,7 @@ pub fn no_marks() -> Marks
     }
 }
 
-// A mark more, behind the others, of which the first goes.
+// Adds a mark behind the others and drops the first of them. A place that is too large is not set.
 pub fn with_mark(marks: Marks, at: usize) -> Marks
     ensures { λ r. ⌜ r ≡ withMark marks at ⌝ }
 {

@@ -71,7 +71,7 @@ sample-local =
 pub sample-rules : (rule6 sample ≡ true) × (rule7 sample ≡ true) × Quick sample (outside sample)
 sample-rules = found-rules sample sample-local
 
--- a head outside the set, of three deep and over a syllable, and syllables
+-- heads outside the set, one over another head and one over a syllable; a syllable; heads in the set
 pub sample-own : map (nfc sample) ((0x1E69 ∷ []) ∷ (0x2FFC ∷ []) ∷ (0xAC01 ∷ []) ∷ (0x344 ∷ []) ∷ (0x958 ∷ []) ∷ []) ≡ (0x1E69 ∷ []) ∷ (0x2FFC ∷ []) ∷ (0xAC01 ∷ []) ∷ (0x308 ∷ 0x301 ∷ []) ∷ (0x915 ∷ 0x93C ∷ []) ∷ []
 unfolding nfc sample
 sample-own = refl

@@ -34,7 +34,7 @@ const MOST_SAID: u32 = 4096;
 // So often a codepoint is asked for among the heads that may be one by the filter.
 const MOST_ASKED: u32 = 64;
 
-// The place of the first entry that ends at c or above it, from an entry on.
+// The place of the first entry that ends at c or above it, from an entry on. No answer hangs on its being the first: `covers` asks it.
 fn advance(set: &[u32], from: usize, c: u32) -> usize
     requires { ⌜ (from % 2 ≡ 0) × (from ≤ length (now set)) ⌝ }
     ensures { λ r. ⌜ (r % 2 ≡ 0) × (r ≤ length (now (set .entry))) ⌝ }
@@ -303,7 +303,7 @@ fn all_fit(
     true
 }
 
-// Puts into the filter what the set, the classes and the exclusions speak of, if it is not too much.
+// Puts the codepoints of the set, the classes and the exclusions into the filter, if they are not too many.
 fn note_said(words: &[u32], ix: Sections, said: &mut [u32]) -> bool
     requires { ⌜ Laid (now words) ix × (length (now said) ≡ filterWords) ⌝ }
     ensures { λ r. ⌜ (r ≡ true → Cleared (theTable (now (words .entry))) (now (said .exit))) ⌝ }
@@ -323,7 +323,7 @@ fn note_said(words: &[u32], ix: Sections, said: &mut [u32]) -> bool
     note_runs(&words[e..f], 1, 0, said, MOST_SAID)
 }
 
-// The same, with a filter of what the other sections speak of and an index of the heads.
+// The same, with a filter of the codepoints of the other sections and an index of the heads.
 pub fn records_fit(words: &[u32], ix: Sections, part: &[u32], set: &[u32], heads: &[u32]) -> bool
     requires { ⌜ Laid (now words) ix × PartOf (theTable (now words)) (now part) ⌝ }
     requires { ⌜ rising 0 (theTable (now words) .decompositions) ≡ true ⌝ }

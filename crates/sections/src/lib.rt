@@ -31,7 +31,7 @@ pub struct Starts {
 }
 
 // Where the sections stand among the words of a table, without the counts that lead them; and what the layout pass found of them: which are
-// sorted, where a search may start, and whether every second item of a composition pair is in the quick-check set.
+// sorted, and where a search may start. `seconds` is not looked for, and is false.
 pub struct Sections {
     pub valid: Span,
     pub ignored: Span,

@@ -16,6 +16,7 @@ inOrder t [] = true
 inOrder t (c ∷ []) = true
 inOrder t (c ∷ d ∷ s) = not (outOfOrder t c d) && inOrder t (d ∷ s)
 
+-- the second of some items, 0 where there is none
 abbrev pub secondItem : List ℕ → ℕ
 secondItem [] = 0
 secondItem (a ∷ []) = 0
