@@ -1,5 +1,5 @@
 -- Laws of filters. Assumes nothing.
-use Prim.Native.Nat.{ℕ, _+_, _*_, _%_, _≤_, _<_}
+use Prim.Native.Nat.{ℕ, _+_, _≤_, _<_}
 use native.Mathlib.Omega.{arith}
 use mathlib.Core.Path.{_≡_, refl, sym, _∙_}
 use mathlib.Core.Bool.{Bool, true, false, _&&_, _||_}
@@ -11,7 +11,7 @@ use Rattle.lists.specs.Laws.{both-left, both-right}
 use Rattle.lists.specs.Tests.{never, not-so}
 use Rattle.bit_sets.specs.Sets.{has, Put}
 use Rattle.halving.specs.Halving.{FirstCovers}
-use Rattle.quick_filters.specs.Filter.{filterWords, placeOf, strewnOf, lastOf, holds, Grown, Noted, RunNoted, Skips, RunsNoted}
+use Rattle.quick_filters.specs.Filter.{filterWords, placeOf, strewnOf, lastOf, holds, Grown, Noted, RunNoted, RunsNoted}
 
 or-right : (a b : Bool) → b ≡ true → (a || b) ≡ true
 or-right true b e = refl

@@ -2,7 +2,7 @@
 use bit_sets::has;
 use bit_sets::put;
 ghost use mathlib.Core.Path.{_≡_};
-ghost use Prim.Native.Nat.{_<_, _≤_};
+ghost use Prim.Native.Nat.{_<_};
 ghost use lib.ListN.{length};
 ghost use Rattle.quick_filters.specs.Filter.{filterWords, placeOf, strewnOf, lastOf, holds, Noted, RunNoted, RunsNoted};
 

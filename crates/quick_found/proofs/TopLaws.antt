@@ -1,39 +1,35 @@
 -- What is found, put together. Assumes nothing.
-use Prim.Native.Nat.{ℕ, zero, suc, _+_, _-_, _≤_, _<_}
+use Prim.Native.Nat.{ℕ, _<_}
 use native.Mathlib.Omega.{arith}
 use mathlib.Core.Path.{_≡_, refl, sym, _∙_, ap, subst}
-use mathlib.Core.Bool.{Bool, true, false, not, _&&_, _||_, false≢true}
-use mathlib.Core.List.{List, [], _∷_, map, List·Memᴰ, Memᴰ·of-map}
+use mathlib.Core.Bool.{Bool, true, false, not, _&&_, false≢true}
+use mathlib.Core.List.{List, [], _∷_, List·Memᴰ, Memᴰ·of-map}
 use mathlib.Core.Option.{Option, none, some}
-use lib.ListN.{length, getD, replicate, length-replicate}
+use lib.ListN.{length, getD}
 use lib.Dec.{leb, eqb}
 use borrow.Author.Tests.{leb-true}
-use Rattle.lists.specs.Lists.{all, any, isEmpty, mem}
+use Rattle.lists.specs.Lists.{isEmpty, mem}
 use Rattle.lists.specs.Laws.{both-left, both-right, member-of}
 use Rattle.lists.specs.Members.{all-of, any-passing, passing-any}
-use Rattle.lists.specs.Tests.{never}
 use Rattle.table.specs.Table.{Table, Headed, Range}
 use Rattle.table.specs.Layout.{onlyIf, inFront, ranges, theTable}
-use Rattle.table.specs.Lookup.{inQuickCheck}
-use Rattle.table.specs.Spans.{within, Fits}
+use Rattle.table.specs.Spans.{within}
 use Rattle.table.specs.Part.{headsIn}
 use Rattle.table.proofs.Lookups.{within-length}
 use Rattle.heads.specs.Heads.{rising}
 use Rattle.sections.specs.declared.Sections.{Sections}
 use Rattle.sections.specs.Laid.{Laid}
 use Rattle.sections.proofs.SectionLaws.{laid-fits, laid-reads}
-use Rattle.text.specs.Hangul.{isVowel, isTrailing}
 use Rattle.text.specs.Decomposition.{classOf}
 use Rattle.text.specs.Composition.{isTwo, firstItem, isPair}
-use Rattle.soundness.specs.Pairs.{heads, plainHead, sparesHangul}
+use Rattle.soundness.specs.Pairs.{heads, plainHead}
 use Rattle.sound_parts.specs.Parts.{allTriples, sparesTriple}
 use Rattle.sound_parts.proofs.Walks.{triples-all}
 use Rattle.sound_parts.proofs.SectionsHold.{decompositions-hold, decompositions-are}
 use Rattle.quick_local.specs.Local.{isHead, Levels, Local}
 use Rattle.quick_filters.specs.Filter.{filterWords, holds}
-use Rattle.quick_filters.specs.Slot.{mostLooked}
-use Rattle.quick_levels.specs.Walk.{Each, Few, HeadsNoted, HeadNoted, wordOf, Apart, Indexed}
-use Rattle.quick_records.specs.Fit.{PartOf, HeadsHeld, Good, ByHead, Fitting, Looked, JamoHeld, Decomposed}
+use Rattle.quick_levels.specs.Walk.{Each, Few, HeadsNoted, HeadNoted, Apart}
+use Rattle.quick_records.specs.Fit.{PartOf, HeadsHeld, Fitting, Looked, JamoHeld, Decomposed}
 use Rattle.quick_records.proofs.FitLaws.{set-of}
 
 two-long : (s : List ℕ) → isTwo s ≡ true → length s ≡ 2

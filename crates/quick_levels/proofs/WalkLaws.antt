@@ -1,26 +1,25 @@
 -- Laws of the walks over the records of a part. Assumes nothing.
-use Prim.Native.Nat.{ℕ, zero, suc, _+_, _-_, _≤_, _<_}
+use Prim.Native.Nat.{ℕ, zero, suc, _+_, _≤_, _<_}
 use native.Mathlib.Omega.{arith}
 use mathlib.Core.Path.{_≡_, refl, sym, _∙_, ap, subst}
 use mathlib.Core.Logic.{_⊎_, inl, inr}
 use mathlib.Core.Bool.{Bool, true, false, not, _||_}
 use mathlib.Core.List.{List, [], _∷_, _++_, append-assoc, List·Memᴰ, List·Memᴰ·head, List·Memᴰ·tail, List·Memᴰ·not-nil, List·Memᴰ·cases-cons, List·Memᴰ·append-cases}
 use lib.ListN.{length, getD, take, drop, replicate, length-take, length-drop, length-replicate}
-use lib.Seq.{getD-drop, getD-take, drop-cons}
+use lib.Seq.{getD-drop, getD-take}
 use Rattle.lists.specs.Lists.{any}
 use Rattle.lists.specs.Tests.{never, untrue}
 use Rattle.table.specs.Table.{Headed}
 use Rattle.table.specs.Layout.{mostItems}
-use Rattle.table.specs.Part.{recordsIn, headsIn, HeadedAt, HeadedHere}
+use Rattle.table.specs.Part.{headsIn, HeadedHere}
 use Rattle.table.proofs.Lookups.{drop-next, drop-two}
 use Rattle.table.proofs.Records.{headed-step, headed-end}
-use Rattle.heads.specs.Heads.{RecordsFrom}
 use Rattle.soundness.specs.Pairs.{plainHead}
 use Rattle.sound_parts.specs.Parts.{Holds, asHeaded}
 use Rattle.sound_parts.proofs.Walks.{through-start}
-use Rattle.quick_local.specs.Local.{Lifts, Levels}
-use Rattle.quick_filters.specs.Filter.{filterWords, holds, Grown, Noted}
-use Rattle.quick_filters.specs.Slot.{slotCount, SlotsIn, Kept, Fresh, Stored}
+use Rattle.quick_local.specs.Local.{Levels}
+use Rattle.quick_filters.specs.Filter.{holds, Noted}
+use Rattle.quick_filters.specs.Slot.{slotCount, SlotsIn, Fresh, Stored}
 use Rattle.quick_levels.specs.Walk.{Each, Passed, Few, HeadNoted, HeadsNoted, Lifted, itemsAt, RecordLifted, wordOf, PlaceOf, Entered, Apart, Indexed}
 
 -- what a walk says of the records at its place

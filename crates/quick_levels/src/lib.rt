@@ -10,7 +10,7 @@ ghost use lib.ListN.{length, replicate};
 ghost use Rattle.table.specs.Part.{headsIn};
 ghost use Rattle.sound_parts.specs.Parts.{Holds, asHeaded};
 ghost use Rattle.quick_local.specs.Local.{Levels};
-ghost use Rattle.quick_filters.specs.Filter.{filterWords, holds, Grown};
+ghost use Rattle.quick_filters.specs.Filter.{filterWords, holds};
 ghost use Rattle.quick_filters.specs.Slot.{mostLooked, slotCount};
 ghost use Rattle.quick_levels.specs.Walk.{Each, Few, Apart, HeadsNoted, Lifted, RecordLifted, Indexed};
 

@@ -1,11 +1,10 @@
 -- Laws of what is asked of each decomposition. Assumes nothing.
-use Prim.Native.Nat.{ℕ, zero, suc, _+_, _≤_, _<_, _%_}
+use Prim.Native.Nat.{ℕ, zero, suc, _+_, _≤_, _<_}
 use native.Mathlib.Omega.{arith}
 use mathlib.Core.Path.{_≡_, refl, sym, _∙_, ap}
-use mathlib.Core.Bool.{Bool, true, false, not, _&&_, _||_, cond}
-use mathlib.Core.List.{List, [], _∷_, List·Memᴰ}
-use mathlib.Core.Option.{some}
-use lib.ListN.{length, getD, take, drop, replicate, length-take, length-drop, length-replicate}
+use mathlib.Core.Bool.{Bool, true, false, not, _||_, cond}
+use mathlib.Core.List.{List, [], _∷_}
+use lib.ListN.{length, getD, replicate, length-take, length-drop, length-replicate}
 use lib.Dec.{eqb}
 use borrow.Author.Tests.{eq-eqb, eqb-true}
 use Rattle.lists.specs.Lists.{mem}
@@ -14,7 +13,7 @@ use Rattle.table.specs.Table.{Table, Headed}
 use Rattle.table.specs.Layout.{mostItems, theTable}
 use Rattle.table.specs.Lookup.{inQuickCheck, tableClass}
 use Rattle.table.specs.Spans.{within}
-use Rattle.table.specs.Part.{inPairs, classAmong, headsIn, HeadedHere}
+use Rattle.table.specs.Part.{inPairs, classAmong, HeadedHere}
 use Rattle.table.proofs.Lookups.{drop-two, pairs-ranges, class-ranges}
 use Rattle.halving.specs.Halving.{FirstCovers}
 use Rattle.heads.specs.Heads.{rising}
@@ -26,13 +25,11 @@ use Rattle.sections.proofs.LaidParts.{laid-excluded}
 use Rattle.text.specs.Hangul.{isSyllable, isJamo}
 use Rattle.text.specs.Decomposition.{classOf}
 use Rattle.text.specs.Composition.{isTwo, isPair}
-use Rattle.text.specs.QuickCheck.{secondItem}
 use Rattle.sound_parts.specs.Parts.{recordOf}
 use Rattle.unpaired.specs.Unpaired.{mayCompose}
-use Rattle.quick_local.specs.Local.{SecondFits, OuterFits}
-use Rattle.quick_filters.specs.Filter.{filterWords, holds, Grown, Skips, RunsNoted}
+use Rattle.quick_filters.specs.Filter.{filterWords, holds, RunsNoted}
 use Rattle.quick_levels.specs.Walk.{Each, Few, Passed, Indexed, itemsAt}
-use Rattle.quick_records.specs.Fit.{PartOf, SetOf, ClearOf, Cleared, Good, ByHead, SecondAsked, Behind, Composing, RecordFits, RecordAsked, Fitting}
+use Rattle.quick_records.specs.Fit.{PartOf, SetOf, Cleared, Good, ByHead, SecondAsked, Behind, Composing, RecordAsked, Fitting}
 use Rattle.quick_filters.proofs.FilterLaws.{was-clear}
 use Rattle.quick_levels.proofs.WalkLaws.{passed-here, passed-more}
 

@@ -3,15 +3,14 @@ use Prim.Native.Nat.{ℕ, zero, suc, _+_, _-_, _%_, _≤_, _<_}
 use native.Mathlib.Omega.{arith}
 use native.Mathlib.Numerals.{add-one}
 use mathlib.Core.Path.{_≡_, refl, sym, _∙_, ap, subst}
-use mathlib.Core.Logic.{_⊎_, inl, inr}
-use mathlib.Core.Bool.{Bool, true, false, not, _&&_, _||_}
+use mathlib.Core.Bool.{Bool, true, false, _&&_, _||_}
 use mathlib.Core.List.{List, [], _∷_, _++_, List·Memᴰ, List·Memᴰ·head, List·Memᴰ·tail, Memᴰ·of-map}
 use mathlib.Core.Option.{Option, none, some, Option·map, Option·none-ne-some}
-use lib.ListN.{length, getD, set, take, drop, length-set}
+use lib.ListN.{length, getD, set, length-set}
 use lib.Seq.{getD-set-same, getD-set-other}
 use lib.Dec.{leb, ltb, eqb}
 use borrow.Author.Tests.{eqb-true, eqb-false, eq-eqb, leb-true, le-leb, le-ltb}
-use Rattle.lists.specs.Lists.{firstWith, mem}
+use Rattle.lists.specs.Lists.{firstWith}
 use Rattle.lists.specs.Laws.{both-left, both-right, member-of}
 use Rattle.lists.specs.Tests.{never, not-so}
 use Rattle.table.specs.Table.{Table, Headed}
@@ -23,7 +22,7 @@ use Rattle.table.specs.declared.Items.the-variants.{Nothing}
 use Rattle.table.proofs.Lookups.{drop-two}
 use Rattle.table.proofs.Searches.{items-missing}
 use Rattle.table.proofs.Records.{headed-step}
-use Rattle.heads.specs.Heads.{rising, RecordsFrom}
+use Rattle.heads.specs.Heads.{rising}
 use Rattle.heads.proofs.Rising.{rise-first}
 use Rattle.text.specs.Hangul.{isSyllable, isJamo}
 use Rattle.text.specs.Decomposition.{classOf}
@@ -34,8 +33,8 @@ use Rattle.quick_local.specs.Depth.{head-there}
 use Rattle.quick_local.specs.Chains.{first-none}
 use Rattle.soundness.specs.Pairs.{heads}
 use Rattle.quick_filters.specs.Filter.{holds}
-use Rattle.quick_filters.specs.Slot.{Words, Came}
-use Rattle.quick_levels.specs.Walk.{Few, PlaceOf, Indexed}
+use Rattle.quick_filters.specs.Slot.{Came}
+use Rattle.quick_levels.specs.Walk.{PlaceOf}
 use Rattle.quick_records.specs.Fit.{HeadsHeld, Good, HeadAsked, SecondAsked, Behind, ByHead}
 use Rattle.quick_filters.proofs.SlotLaws.{kept-not}
 

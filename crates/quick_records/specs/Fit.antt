@@ -2,7 +2,7 @@
 use Prim.Native.Nat.{ℕ, _+_, _≤_, _<_}
 use mathlib.Core.Path.{_≡_}
 use mathlib.Core.Bool.{Bool, true, false}
-use mathlib.Core.List.{List, [], _∷_, List·Memᴰ}
+use mathlib.Core.List.{List, List·Memᴰ}
 use lib.ListN.{length, getD}
 use Rattle.lists.specs.Lists.{mem}
 use Rattle.table.specs.Table.{Table, Headed}
@@ -15,7 +15,7 @@ use Rattle.text.specs.QuickCheck.{secondItem}
 use Rattle.heads.specs.Heads.{rising}
 use Rattle.sections.specs.declared.Sections.{Sections}
 use Rattle.soundness.specs.Pairs.{plainHead}
-use Rattle.sound_parts.specs.Parts.{Holds, asHeaded, recordOf}
+use Rattle.sound_parts.specs.Parts.{Holds, asHeaded}
 use Rattle.unpaired.specs.Unpaired.{mayCompose}
 use Rattle.quick_local.specs.Local.{isHead, Levels, SecondFits, OuterFits}
 use Rattle.quick_filters.specs.Filter.{filterWords, holds}
