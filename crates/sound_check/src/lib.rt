@@ -13,16 +13,18 @@ use rules_1_3::rule3;
 use sections::Layout;
 use sections::Sections;
 ghost use mathlib.Core.Path.{_≡_};
+ghost use mathlib.Core.Bool.{true};
 ghost use Rattle.answers.specs.Values.{brokenRule};
 ghost use Rattle.sections.specs.Laid.{Laid};
 ghost use Rattle.table.specs.Layout.{theTable};
+ghost use Rattle.soundness.specs.Scalars.{rule1};
 ghost use Rattle.soundness.specs.Soundness.{lowestBroken, soundnessOf};
+ghost use Rattle.sound_check.specs.Order.{lowestFirst, lowestLast};
 
-// The lowest rule that a table breaks. Rules 6 to 8 are first looked for by a few walks over the sections, which may miss them: then each is
-// asked by itself.
-fn rules(words: &[u32], ix: Sections) -> Soundness
+// The lowest of rules 1 to 5 that a table breaks.
+fn first_rules(words: &[u32], ix: Sections) -> Soundness
     requires { ⌜ Laid (now words) ix ⌝ }
-    ensures { λ r. ⌜ brokenRule r ≡ lowestBroken (theTable (now (words .entry))) ⌝ }
+    ensures { λ r. ⌜ brokenRule r ≡ lowestFirst (theTable (now (words .entry))) ⌝ }
 {
     if !rule1::keeps_rule1(words, ix) {
         return Soundness::Broken(1);
@@ -39,9 +41,15 @@ fn rules(words: &[u32], ix: Sections) -> Soundness
     if !rule5::keeps_rule5(words, ix) {
         return Soundness::Broken(5);
     }
-    if finds(words, ix) {
-        return Soundness::Sound;
-    }
+    Soundness::Sound
+}
+
+// The lowest of the others. Rule 1 holds.
+fn last_rules(words: &[u32], ix: Sections) -> Soundness
+    requires { ⌜ Laid (now words) ix ⌝ }
+    requires { ⌜ rule1 (theTable (now words)) ≡ true ⌝ }
+    ensures { λ r. ⌜ brokenRule r ≡ lowestLast (theTable (now (words .entry))) ⌝ }
+{
     if !rule6::keeps_rule6(words, ix) {
         return Soundness::Broken(6);
     }
@@ -52,6 +60,22 @@ fn rules(words: &[u32], ix: Sections) -> Soundness
         return Soundness::Broken(8);
     }
     Soundness::Sound
+}
+
+// The lowest rule that a table breaks. Rules 6 to 8 are first looked for by a few walks over the sections, which may miss them: only then each
+// is asked by itself. The first rules are called in two places so that they stay a function of their own: rules 2 and 6 have large arrays, and
+// one is off the stack before the other comes.
+fn rules(words: &[u32], ix: Sections) -> Soundness
+    requires { ⌜ Laid (now words) ix ⌝ }
+    ensures { λ r. ⌜ brokenRule r ≡ lowestBroken (theTable (now (words .entry))) ⌝ }
+{
+    if finds(words, ix) {
+        return first_rules(words, ix);
+    }
+    match first_rules(words, ix) {
+        Soundness::Sound => last_rules(words, ix),
+        Soundness::Broken(n) => Soundness::Broken(n),
+    }
 }
 
 // The soundness check: the lowest rule that the table breaks, 0 for a layout fault. It writes nothing.
