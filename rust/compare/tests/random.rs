@@ -22,7 +22,7 @@ fn the_pass_changes_nothing() {
 fn disturbed_sections() {
     let settings = Settings {
         first_seed: 9_000_000,
-        tables: 700,
+        tables: 3_000,
         names_per_table: 20,
         lengthened_per_table: 1,
         files_per_table: 0,
@@ -37,7 +37,7 @@ fn disturbed_sections() {
 /// Small tables: what the pass finds of rules 6 to 8 is so, and nothing differs.
 #[test]
 fn small_random_tables() {
-    let counts = check_tiny(10_000_000, 40_000);
+    let counts = check_tiny(10_000_000, 150_000);
     say(counts);
     assert!(10 * counts.found > counts.tables && 2 * counts.found > counts.keep_rules, "{counts}");
     assert!(counts.kept > counts.tables && 2 * counts.kept > counts.normal, "{counts}");

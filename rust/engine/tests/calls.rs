@@ -22,7 +22,7 @@ fn random_names_and_tables() {
 fn disturbed_sections() {
     let settings = Settings {
         first_seed: 9_100_000,
-        tables: 700,
+        tables: 2_000,
         names_per_table: 20,
         lengthened_per_table: 2,
         files_per_table: 0,
