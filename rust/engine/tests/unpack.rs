@@ -134,19 +134,27 @@ fn an_exact_fit_and_larger_buffers() {
 }
 
 /// Eight empty sections, 1 0, three empty sections and 2 0 are a layout fault, and
-/// a sound table with the word that is added; a version 2 file of twelve sections
+/// a sound table with the words that are added; a version 3 file of twelve sections
 /// unpacks and is a layout fault.
 #[test]
-fn the_word_that_is_added_and_the_layout() {
+fn the_words_that_are_added_and_the_layout() {
     let odd = [0, 0, 0, 0, 0, 0, 0, 0, 1, 0, 0, 0, 0, 2, 0];
-    let added = [&odd[..], &[0]].concat();
-    given(&added, &plain::pack_as(1, &odd), 16);
+    let added = [&odd[..], &[0, 0]].concat();
+    given(&added, &plain::pack_as(1, &odd), 17);
     assert_eq!((soundness(&odd), soundness(&added)), (Soundness::Broken(0), Soundness::Sound));
     let twelve = &odd[..13];
     let thirteen = [twelve, &[0]].concat();
+    let fourteen = [twelve, &[0, 0]].concat();
     given(twelve, &plain::pack(twelve), 13);
-    given(&thirteen, &plain::pack_as(1, twelve), 14);
-    assert_eq!((soundness(twelve), soundness(&thirteen)), (Soundness::Broken(0), Soundness::Sound));
+    given(&fourteen, &plain::pack_as(1, twelve), 15);
+    given(&fourteen, &plain::pack_as(2, &thirteen), 15);
+    assert_eq!((soundness(twelve), soundness(&thirteen)), (Soundness::Broken(0), Soundness::Broken(0)));
+    assert_eq!(soundness(&fourteen), Soundness::Sound);
+    // A set of 0 alone: vowels and trailing consonants are missing.
+    let odd = [&thirteen[..], &[2, 0]].concat();
+    let added = [&odd[..], &[0]].concat();
+    given(&added, &plain::pack_as(2, &odd), 17);
+    assert_eq!((soundness(&odd), soundness(&added)), (Soundness::Broken(0), Soundness::Broken(8)));
 }
 
 #[test]
