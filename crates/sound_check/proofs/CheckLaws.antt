@@ -18,7 +18,7 @@ use Rattle.soundness.specs.Soundness.{lowestBroken, soundnessOf}
 use Rattle.quick_local.specs.Local.{Local}
 use Rattle.quick_local.specs.Laws.{found-rules}
 use Rattle.rule8_laws.specs.Sentence.{says-rule8}
-use Rattle.sound_check.specs.Order.{firstAnswers, lastAnswers, lowestFirst, lowestLast}
+use Rattle.sound_check.specs.Order.{firstAnswers, lastAnswers, lowestFirst, lowestLast, lowestOf}
 
 pub first-is : (t : Table) → lowestFirst t ≡ placeWith not 1 (firstAnswers t)
 unfolding lowestFirst
@@ -53,16 +53,24 @@ five-hold true true true false e ys h = absurd (Option·none-ne-some 4 (sym h))
 five-hold true true true true false ys h = absurd (Option·none-ne-some 5 (sym h))
 
 module _ (t : Table) where
-  pub first-broken : (k : ℕ) → some k ≡ lowestFirst t → some k ≡ lowestBroken t
-  unfolding lowestFirst
+  pub of-first : (later : Bool) → later ≡ false → lowestFirst t ≡ lowestOf later t
+  unfolding lowestOf
+  of-first later e = rw e
+
+  pub of-last : (later : Bool) → later ≡ true → lowestLast t ≡ lowestOf later t
+  unfolding lowestOf
+  of-last later e = rw e
+
+  pub first-broken : (k : ℕ) → some k ≡ lowestOf false t → some k ≡ lowestBroken t
+  unfolding lowestOf lowestFirst
   first-broken k e = sym (lowest-is t ∙ found-before 1 k (firstAnswers t) (lastAnswers t) (sym e))
 
-  pub first-hold : none ≡ lowestFirst t → lowestLast t ≡ lowestBroken t
-  unfolding lowestFirst lowestLast
+  pub first-hold : none ≡ lowestOf false t → lowestOf true t ≡ lowestBroken t
+  unfolding lowestOf lowestFirst lowestLast
   first-hold e = sym (lowest-is t ∙ five-hold (rule1 t) (rule2 t) (rule3 t) (rule4 t) (rule5 t) (lastAnswers t) (sym e))
 
-  pub first-one : none ≡ lowestFirst t → rule1 t ≡ true
-  unfolding lowestFirst
+  pub first-one : none ≡ lowestOf false t → rule1 t ≡ true
+  unfolding lowestOf lowestFirst
   first-one e = go (rule1 t) (placeWith not 2 (rule2 t ∷ rule3 t ∷ rule4 t ∷ rule5 t ∷ [])) e
     where
       go : (b : Bool) (o : Option ℕ) → none ≡ cond (not b) (some 1) o → b ≡ true
@@ -70,18 +78,11 @@ module _ (t : Table) where
       go false o f = absurd (Option·none-ne-some 1 f)
 
   -- rules 6 to 8 hold where walks over the sections find it
-  pub found-hold : Local t → none ≡ lowestLast t
-  unfolding lowestLast
+  pub found-hold : Local t → none ≡ lowestOf true t
+  unfolding lowestOf lowestLast
   found-hold h =
       let k = found-rules t h in
       rw (k .0, k .1, says-rule8 t (inr (k .2)))
-
-  pub found-first : Local t → lowestFirst t ≡ lowestBroken t
-  found-first h = go (lowestFirst t) refl
-    where
-      go : (o : Option ℕ) → lowestFirst t ≡ o → o ≡ lowestBroken t
-      go none e = found-hold h ∙ first-hold (sym e)
-      go (some k) e = first-broken k (sym e)
 
 -- the check on words that are laid out, and on others
 pub found-check : (ws : List ℕ) (ix : Sections) → Laid ws ix → soundnessOf ws ≡ lowestBroken (theTable ws)

@@ -1,6 +1,6 @@
 -- The rules in two parts: "the lowest number of these that is broken", of rules 1 to 5 and of rules 6 to 8. Assumes nothing.
 use Prim.Native.Nat.{ℕ}
-use mathlib.Core.Bool.{Bool, not}
+use mathlib.Core.Bool.{Bool, not, cond}
 use mathlib.Core.List.{List, [], _∷_}
 use mathlib.Core.Option.{Option}
 use Rattle.lists.specs.Lists.{placeWith}
@@ -23,3 +23,8 @@ lowestFirst t = placeWith not 1 (firstAnswers t)
 
 unfoldable pub lowestLast : Table → Option ℕ
 lowestLast t = placeWith not 6 (lastAnswers t)
+
+-- of one of the two
+unfoldable pub lowestOf : Bool → Table → Option ℕ
+unfolding lowestFirst lowestLast
+lowestOf later t = cond later (lowestLast t) (lowestFirst t)

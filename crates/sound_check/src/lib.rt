@@ -19,7 +19,7 @@ ghost use Rattle.sections.specs.Laid.{Laid};
 ghost use Rattle.table.specs.Layout.{theTable};
 ghost use Rattle.soundness.specs.Scalars.{rule1};
 ghost use Rattle.soundness.specs.Soundness.{lowestBroken, soundnessOf};
-ghost use Rattle.sound_check.specs.Order.{lowestFirst, lowestLast};
+ghost use Rattle.sound_check.specs.Order.{lowestFirst, lowestLast, lowestOf};
 
 // The lowest of rules 1 to 5 that a table breaks.
 fn first_rules(words: &[u32], ix: Sections) -> Soundness
@@ -62,18 +62,32 @@ fn last_rules(words: &[u32], ix: Sections) -> Soundness
     Soundness::Sound
 }
 
+// The lowest of rules 6 to 8, or of rules 1 to 5, that a table breaks: one function, so that the arrays of rules 2 and 6 share their place on
+// the stack.
+fn some_rules(words: &[u32], ix: Sections, later: bool) -> Soundness
+    requires { ⌜ Laid (now words) ix ⌝ }
+    requires { ⌜ (later ≡ true → rule1 (theTable (now words)) ≡ true) ⌝ }
+    ensures { λ r. ⌜ brokenRule r ≡ lowestOf later (theTable (now (words .entry))) ⌝ }
+{
+    if later {
+        return last_rules(words, ix);
+    }
+    first_rules(words, ix)
+}
+
 // The lowest rule that a table breaks. Rules 6 to 8 are first looked for by a few walks over the sections, which may miss them: only then each
-// is asked by itself. The first rules are called in two places so that they stay a function of their own: rules 2 and 6 have large arrays, and
-// one is off the stack before the other comes.
+// is asked by itself.
 fn rules(words: &[u32], ix: Sections) -> Soundness
     requires { ⌜ Laid (now words) ix ⌝ }
     ensures { λ r. ⌜ brokenRule r ≡ lowestBroken (theTable (now (words .entry))) ⌝ }
 {
-    if finds(words, ix) {
-        return first_rules(words, ix);
-    }
-    match first_rules(words, ix) {
-        Soundness::Sound => last_rules(words, ix),
+    match some_rules(words, ix, false) {
+        Soundness::Sound => {
+            if finds(words, ix) {
+                return Soundness::Sound;
+            }
+            some_rules(words, ix, true)
+        }
         Soundness::Broken(n) => Soundness::Broken(n),
     }
 }
