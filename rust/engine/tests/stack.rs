@@ -117,9 +117,10 @@ const BYTES: Call = Call {
 const NFD: Call =
     Call { what: "nfd", number: |l| nfd(l.name, l.table, l.answer, l.work).number, limits: within(4 * KB) };
 
-/// A bit for each record of the table takes 5.5 KB.
+/// A bit for each record of the table takes 5.5 KB, the index of composition
+/// pairs 4.6.
 const NFC: Call =
-    Call { what: "nfc", number: |l| nfc(l.name, l.table, l.answer, l.work).number, limits: within(8 * KB) };
+    Call { what: "nfc", number: |l| nfc(l.name, l.table, l.answer, l.work).number, limits: within(20 * KB) };
 
 /// Calls that only look at a text.
 const LOOKS: [Call; 3] = [
