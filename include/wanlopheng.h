@@ -26,8 +26,8 @@ extern "C" {
 #define WANLOPHENG_ANSWER_WORDS 4096   /* an answer of this size holds every normal form */
 #define WANLOPHENG_SCREEN_WORDS 8192   /* an answer of this size holds every screen form by a sound table */
 #define WANLOPHENG_WORK_WORDS 8192     /* the least work area */
-#define WANLOPHENG_TABLE_WORDS 131073  /* the largest table */
-#define WANLOPHENG_FILE_BYTES 524297   /* its file */
+#define WANLOPHENG_TABLE_WORDS 131074  /* the largest table */
+#define WANLOPHENG_FILE_BYTES 524301   /* its file */
 #define WANLOPHENG_BOOK_WORDS 16912    /* the area of a payee book */
 #define WANLOPHENG_MOVED_WORDS 128     /* a list of this size holds an entry for every slot */
 #define WANLOPHENG_GROUPS 256          /* a list of this size holds every group */
@@ -79,13 +79,13 @@ enum wanlopheng_kind {
 
 /* What unpacking answers. */
 struct wanlopheng_unpack {
-    uint32_t number; /* 0: unpacked. 20: a version other than 1 and 2. 21: a wrong length. 22: the answer is too small. */
-    size_t count;    /* the number of words, an added one included; 0 beside a refusal */
+    uint32_t number; /* 0: unpacked. 20: a version other than 1 to 3. 21: a wrong length. 22: the answer is too small. */
+    size_t count;    /* the number of words, added ones included; 0 beside a refusal */
 };
 
 /* Unpacks a table file. After success the answer holds the file's words and then zeros, after a refusal zeros alone. To a file of version 1, which
-   lacks the last section, one word is added, the 0 of an empty section: it is counted, and 22 asks for its room too. So a word for each four bytes of
-   the file is always room enough. */
+   lacks the last two sections, two words are added, and to one of version 2 one, the 0 of each empty section: they are counted, and 22 asks for
+   their room too. So a word for each four bytes of the file and one more are always room enough. */
 struct wanlopheng_unpack wanlopheng_unpack(const uint8_t *file, size_t file_length, uint32_t *answer, size_t answer_length);
 
 /* What the name call answers. */

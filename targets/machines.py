@@ -29,7 +29,7 @@ def arm(name, clang, cc, qemu, board="cortex_m", level="-Os"):
 
 
 def riscv(name, march, mabi, qemu, level="-O3"):
-    words = [f"-march={march}", f"-mabi={mabi}", "-mcmodel=medany"]
+    words = [f"-march={march}", f"-mabi={mabi}", "-mcmodel=medany", "-mstrict-align"]
     return Machine(name, [f"--target={name[:7]}-unknown-none-elf", *words], int(name[5:7]), True, level=level, cc=["riscv64-unknown-elf-gcc", *words],
                    qemu=[qemu, *VIRT, "-bios", "none"], board="riscv")
 

@@ -163,6 +163,7 @@ def test_machine(machine, room, due, stack, tally):
     ran = [answers(machine, calls, room / "2", timer) for _ in range(RUNS)]
     tally.check(all(told == due[2] for told, _ in ran), "the sums of the timed calls differ")
     each = (min(took for _, took in ran) - idle) / (TIMES * due["names"])
+    tally.check(sections(archives[0])[1] == 0, "the library has data")
     return show(machine, archives[0], sections(archives[0]), left, stack, each, len(due[0]) // 12, other)
 
 
@@ -192,7 +193,9 @@ def test_wasm(machine, room, due, stack, tally):
     tally.check(other == 0, f"{other} of {len(due[0]) // 12} answers differ, the first is number {first}")
     left = json.loads(run([*node[:1], HERE / "test/stack.mjs", library, room / "1/questions"]))
     for kind, (used, words, in_order) in left.items():
-        tally.check(2 * used <= WASM_STACK, f"{kind}: {used} bytes of stack, over half of the module's")
+        bound = stack["wanlopheng_" + kind]
+        tally.check(used <= bound, f"{kind}: {used} bytes of stack, over the compiler's frames of {bound}")
+        tally.check(2 * bound <= WASM_STACK, f"{kind}: {bound} bytes of stack, over half of the module's")
         check_left(machine, kind, words, in_order, tally)
     link_wasm(folder(machine) / "libwanlopheng.a", room / "small.wasm", 16384)
     (room / "desk.html").write_text(make.page(library.read_bytes()), encoding="utf-8")

@@ -118,7 +118,8 @@ test('nothing of a name stays in the memory, the stack included', async () => {
             () => table.nfd(name), () => table.nfc(name), () => table.group(name), () => table.emoji(name), () => library.trim(name),
             () => library.writeUtf8(name), () => library.readUtf8(Buffer.from(name)), () => library.keccak256(Buffer.from(name)),
             () => book.save(name, [1, 2, 3, 4, 5, 6, 7, 8]), () => book.find(name), () => book.forget(name), () => table.soundness(),
-            () => table.report(name), () => table.screen(name), () => table.respelled(name), () => book.moved(),
+            () => table.report(name), () => table.screen(name), () => table.respelled(name), () => book.moved(), () => book.reset(),
+            () => library.sponge().absorb(Buffer.from(name)).digest(), () => table.normalise(name, { restrict: true }),
         ];
         for (const call of calls) {
             call();
@@ -128,6 +129,14 @@ test('nothing of a name stays in the memory, the stack included', async () => {
         }
     }
     assert.ok(before.some((b) => b !== 0), 'the table is there');
+    // What is lent is in that memory during a call, and what the call leaves on its stack before it is wiped: the comparison would see it.
+    library.run(null, (calls, lent) => {
+        lent.words([0x4e00, 0x4e8c]);
+        assert.ok(bytes().includes(Buffer.from(Uint32Array.of(0x4e00, 0x4e8c).buffer)));
+        calls.wanlopheng_keccak256(lent.place(32), lent.bytes(Buffer.from('a name on the stack')), 19);
+        assert.ok(bytes().subarray(0, calls.__stack_high.value).some((b) => b !== 0), 'the stack was used');
+    });
+    assert.ok(bytes().equals(before));
 });
 
 test('two tables by turns, and names longer than any buffer', async () => {

@@ -43,7 +43,7 @@ export const INPUT_MOST = 16384;
 export const ANSWER_WORDS = 4096;
 export const SCREEN_WORDS = 8192;
 export const WORK_WORDS = 8192;
-export const TABLE_WORDS = 131073;
+export const TABLE_WORDS = 131074;
 export const BOOK_WORDS = 16912;
 export const MOVED_WORDS = 128;
 export const GROUPS = 256;
@@ -204,7 +204,7 @@ export class Library {
     table(file) {
         return this.run(null, (calls, lent) => {
             const told = lent.place(8);
-            const room = Math.min(TABLE_WORDS, Math.floor(file.length / 4) + 1); // an older file has a word added
+            const room = Math.min(TABLE_WORDS, Math.floor(file.length / 4) + 1); // an older file has up to two words added
             const answer = lent.place(4 * room);
             calls.wanlopheng_unpack(told, lent.bytes(file), file.length, answer, room);
             const [number, count] = lent.wordsAt(told, 2);

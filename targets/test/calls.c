@@ -7,7 +7,7 @@
  * Mode 0: `answers` has for each call number, place, and a sum over every field and every word of every buffer, which were full of marks.
  * Mode 1: `answers` has for each kind of call the most bytes of stack, of words that are codepoints of the name and of codepoints in order that
  * were left there, as docs/STACK.md says. Mode 2: the name call on each question, this many times; `answers` has the sum of the numbers.
- * Status: 0, or the place that failed; a buffer's surroundings that changed are 7. */
+ * Status: 0, or the place that failed; a buffer's surroundings that changed are 7, a part of a name that was left and not found is 10. */
 #include "port.h"
 #include "wanlopheng.h"
 
@@ -231,10 +231,10 @@ static int payees(const struct question *q, uint32_t number) {
     return 0;
 }
 
-/* The file of a table, as unpacking wants it: a byte 2, then the count and the words, their highest byte first. */
+/* The file of a table, as unpacking wants it: a byte 3, then the count and the words, their highest byte first. */
 static size_t pack(const uint32_t *table, size_t words, uint8_t *file) {
     size_t at = 0;
-    file[at++] = 2;
+    file[at++] = 3;
     for (size_t i = 0; i <= words; i++) {
         uint32_t word = i == 0 ? (uint32_t)words : table[i - 1];
         for (int shift = 24; shift >= 0; shift -= 8) file[at++] = (uint8_t)(word >> shift);
@@ -280,6 +280,7 @@ static struct { uint32_t used, words, in_order; } most[1];
 #define PAINT 0x5041494Eu
 #define PAINTED (192u * 1024 / 4)
 #define GAP 2048
+#define NINE 9u /* bytes in order that are a part of a name */
 
 static volatile uint32_t *lowest;
 static const struct question *asked;
@@ -303,10 +304,10 @@ static __attribute__((noinline)) void paint(void) {
 #define BYTES (const uint8_t *)packed, filled
 static struct wanlopheng_account account;
 static struct wanlopheng_sponge sponge;
-CALL(name, wanlopheng_name(LENT, 0, BUFFERS).number)
-CALL(label, wanlopheng_label(LENT, 0, BUFFERS).number)
-CALL(namehash, wanlopheng_namehash(LENT, 0, BUFFERS).name.number)
-CALL(screen, wanlopheng_screen(LENT, 1, 0, BUFFERS).number)
+CALL(name, wanlopheng_name(LENT, q->setting, BUFFERS).number)
+CALL(label, wanlopheng_label(LENT, q->setting, BUFFERS).number)
+CALL(namehash, wanlopheng_namehash(LENT, q->setting, BUFFERS).name.number)
+CALL(screen, wanlopheng_screen(LENT, 1, q->setting, BUFFERS).number)
 CALL(nfd, wanlopheng_nfd(LENT, BUFFERS).number)
 CALL(nfc, wanlopheng_nfc(LENT, BUFFERS).number)
 CALL(group, wanlopheng_group(LENT).number)
@@ -314,18 +315,18 @@ CALL(emoji, wanlopheng_emoji(LENT).number)
 CALL(trim, (uint32_t)wanlopheng_trim(q->name, q->length).length)
 CALL(utf8_write, wanlopheng_utf8_write(q->name, q->length, (uint8_t *)answer, 4 * q->room).number)
 CALL(utf8_read, wanlopheng_utf8_read(BYTES, answer, q->room).number)
-CALL(name_bytes, wanlopheng_name_bytes(BYTES, q->table, q->words, 0, BUFFERS).number)
-CALL(save, wanlopheng_save(LENT, 0, account, BOOK, BUFFERS).number)
-CALL(find, wanlopheng_find(LENT, 0, BOOK, BUFFERS).number)
+CALL(name_bytes, wanlopheng_name_bytes(BYTES, q->table, q->words, q->setting, BUFFERS).number)
+CALL(save, wanlopheng_save(LENT, q->setting, account, BOOK, BUFFERS).number)
+CALL(find, wanlopheng_find(LENT, q->setting, BOOK, BUFFERS).number)
 CALL(moved, wanlopheng_moved(BOOK, q->table, q->words, BUFFERS).number)
-CALL(forget, wanlopheng_forget(LENT, 0, BOOK, BUFFERS).number)
+CALL(forget, wanlopheng_forget(LENT, q->setting, BOOK, BUFFERS).number)
 CALL(reset, wanlopheng_reset(BOOK, BUFFERS).number)
 CALL(respelled, wanlopheng_respelled(LENT, BUFFERS).number)
 CALL(keccak256, wanlopheng_keccak256(BYTES).bytes[0])
 CALL(sponge_new, (uint32_t)wanlopheng_sponge_new().fill)
 CALL(sponge_absorb, (uint32_t)wanlopheng_sponge_absorb(sponge, BYTES).fill)
 CALL(sponge_digest, wanlopheng_sponge_digest(sponge).bytes[0])
-CALL(report, wanlopheng_report(LENT, 0, (uint8_t *)packed, sizeof packed, work, q->work).number)
+CALL(report, wanlopheng_report(LENT, q->setting, (uint8_t *)packed, sizeof packed, work, q->work).number)
 CALL(soundness, wanlopheng_soundness(q->table, q->words).rule)
 CALL(layout_fault, wanlopheng_layout_fault(q->table, q->words))
 CALL(unpack, wanlopheng_unpack(BYTES, answer, q->room).number)
@@ -370,16 +371,43 @@ static void traces(const uint32_t *text, size_t length, size_t at, uint32_t *wor
     at_least(words, found);
 }
 
+/* Whether nine bytes in order of the UTF-8 of a text stand there. */
+static int spelled(const uint32_t *text, size_t length, size_t at) {
+    static uint8_t bytes[4 * ROOM], pairs[8192];
+    const volatile uint8_t *stack = (const volatile uint8_t *)lowest;
+    struct wanlopheng_utf8 u = wanlopheng_utf8_write(text, length, bytes, sizeof bytes);
+    if (u.number == WANLOPHENG_NO_SCALAR) u = wanlopheng_utf8_write(text, u.place, bytes, sizeof bytes);
+    const size_t count = u.length;
+    for (size_t i = 0; i < sizeof pairs; i++) pairs[i] = 0;
+    for (size_t i = 0; i + NINE <= count; i++) pairs[bytes[i + 1] << 5 | bytes[i] >> 3] |= (uint8_t)(1 << bytes[i] % 8);
+    for (size_t i = 4 * at; i + NINE <= 4 * PAINTED; i++) {
+        const uint8_t first = stack[i], second = stack[i + 1];
+        if ((pairs[second << 5 | first >> 3] >> first % 8 & 1) == 0) continue;
+        for (size_t start = 0; start + NINE <= count; start++) {
+            size_t row = 0;
+            while (row < NINE && stack[i + row] == bytes[start + row]) row++;
+            if (row == NINE) return 1;
+        }
+    }
+    return 0;
+}
+
 static uint32_t form[ROOM], decomposed[ROOM]; /* the normal form and the full decomposition of the name */
 static size_t decomposed_length;
+
+/* The lowest word that is no paint any more. */
+static size_t first_used(void) {
+    size_t at = 0;
+    while (at < PAINTED && lowest[at] == PAINT) at++;
+    return at;
+}
 
 static int measured(const struct question *q, size_t kind) {
     mark(q);
     paint();
     asked = q;
     call_below(CALLS[kind]);
-    size_t deepest = 0;
-    while (deepest < PAINTED && lowest[deepest] == PAINT) deepest++;
+    const size_t deepest = first_used();
     if (deepest == 0) return 6;
     at_least(&most[kind].used, (uint32_t)(called_at - (uintptr_t)(lowest + deepest)));
     if (kind >= HASHES && kind != REPORT) return 0;
@@ -388,7 +416,32 @@ static int measured(const struct question *q, size_t kind) {
     traces(form, length, deepest, &most[kind].words, &most[kind].in_order);
     traces(q->name, q->length, deepest, &most[kind].words, &most[kind].in_order);
     traces(decomposed, decomposed_length, deepest, &most[kind].words, &most[kind].in_order);
+    if (spelled(form, length, deepest) || spelled(q->name, q->length, deepest)) at_least(&most[kind].in_order, NINE);
     return 0;
+}
+
+/* A call that leaves a part of the name, in words or in bytes: the test would find it. */
+static void leave_words(void) {
+    volatile uint32_t left[8];
+    for (size_t i = 0; i < 8; i++) left[i] = asked->name[i];
+    sum += left[7];
+}
+
+static void leave_bytes(void) {
+    volatile uint8_t left[NINE];
+    for (size_t i = 0; i < NINE; i++) left[i] = ((const uint8_t *)packed)[i];
+    sum += left[8];
+}
+
+static int finds(const struct question *q) {
+    uint32_t words = 0, in_order = 0;
+    asked = q;
+    paint();
+    call_below(leave_words);
+    traces(q->name, q->length, first_used(), &words, &in_order);
+    paint();
+    call_below(leave_bytes);
+    return in_order == 8 && spelled(q->name, q->length, first_used());
 }
 
 /* All calls on a name; the payee book is empty before and after. */
@@ -396,6 +449,7 @@ static int stack_of(const struct question *q) {
     int failed = 0;
     filled = wanlopheng_utf8_write(q->name, q->length, (uint8_t *)packed, sizeof packed).length;
     decomposed_length = wanlopheng_nfd(q->name, q->length, q->table, q->words, decomposed, ROOM, work, ROOM).length;
+    if (filled >= NINE && q->length >= 8 && !finds(q)) return 10;
     for (size_t kind = 0; kind < SOUNDNESS && failed == 0; kind++) failed = measured(q, kind);
     return failed;
 }

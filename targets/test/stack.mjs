@@ -4,6 +4,7 @@
 import { readFileSync } from 'node:fs';
 
 const PAINT = 0x5041494e;
+const NINE = 9; // bytes in order that are a part of a name
 const [, , wasm, file] = process.argv;
 const { exports } = (await WebAssembly.instantiate(readFileSync(wasm))).instance;
 const bytes = readFileSync(file);
@@ -21,31 +22,32 @@ const [TOLD, ANSWER, WORK, NAME, BYTES, GIVEN, BOOK, TABLE, REPORT] = PLACES.map
 const put = (at, list) => words.set(list, at / 4);
 
 // Each call, on a name of n codepoints and b bytes and a table of t words. Of a name nothing may stay; the hashes are handed bytes.
-const BUFFERS = [ANSWER, 4096, WORK, 8192];
+let [setting, room] = [0, 4096];
+const buffers = () => [ANSWER, room, WORK, 8192];
 const CALLS = {
-    name: (n, t) => exports.wanlopheng_name(TOLD, NAME, n, TABLE, t, 0, ...BUFFERS),
-    label: (n, t) => exports.wanlopheng_label(TOLD, NAME, n, TABLE, t, 0, ...BUFFERS),
-    namehash: (n, t) => exports.wanlopheng_namehash(TOLD, NAME, n, TABLE, t, 0, ...BUFFERS),
-    screen: (n, t) => exports.wanlopheng_screen(TOLD, NAME, n, TABLE, t, 1, 0, ...BUFFERS),
-    nfd: (n, t) => exports.wanlopheng_nfd(TOLD, NAME, n, TABLE, t, ...BUFFERS),
-    nfc: (n, t) => exports.wanlopheng_nfc(TOLD, NAME, n, TABLE, t, ...BUFFERS),
+    name: (n, t) => exports.wanlopheng_name(TOLD, NAME, n, TABLE, t, setting, ...buffers()),
+    label: (n, t) => exports.wanlopheng_label(TOLD, NAME, n, TABLE, t, setting, ...buffers()),
+    namehash: (n, t) => exports.wanlopheng_namehash(TOLD, NAME, n, TABLE, t, setting, ...buffers()),
+    screen: (n, t) => exports.wanlopheng_screen(TOLD, NAME, n, TABLE, t, 1, setting, ...buffers()),
+    nfd: (n, t) => exports.wanlopheng_nfd(TOLD, NAME, n, TABLE, t, ...buffers()),
+    nfc: (n, t) => exports.wanlopheng_nfc(TOLD, NAME, n, TABLE, t, ...buffers()),
     group: (n, t) => exports.wanlopheng_group(TOLD, NAME, n, TABLE, t),
     emoji: (n, t) => exports.wanlopheng_emoji(TOLD, NAME, n, TABLE, t),
     trim: (n) => exports.wanlopheng_trim(TOLD, NAME, n),
     utf8_write: (n) => exports.wanlopheng_utf8_write(TOLD, NAME, n, ANSWER, 16384),
     utf8_read: (n, t, b) => exports.wanlopheng_utf8_read(TOLD, BYTES, b, ANSWER, 4096),
-    name_bytes: (n, t, b) => exports.wanlopheng_name_bytes(TOLD, BYTES, b, TABLE, t, 0, ...BUFFERS),
-    save: (n, t) => exports.wanlopheng_save(TOLD, NAME, n, TABLE, t, 0, GIVEN, BOOK, 16912, ...BUFFERS),
-    find: (n, t) => exports.wanlopheng_find(TOLD, NAME, n, TABLE, t, 0, BOOK, 16912, ...BUFFERS),
-    moved: (n, t) => exports.wanlopheng_moved(TOLD, BOOK, 16912, TABLE, t, ...BUFFERS),
-    forget: (n, t) => exports.wanlopheng_forget(TOLD, NAME, n, TABLE, t, 0, BOOK, 16912, ...BUFFERS),
-    reset: () => exports.wanlopheng_reset(TOLD, BOOK, 16912, ...BUFFERS),
-    respelled: (n, t) => exports.wanlopheng_respelled(TOLD, NAME, n, TABLE, t, ...BUFFERS),
+    name_bytes: (n, t, b) => exports.wanlopheng_name_bytes(TOLD, BYTES, b, TABLE, t, setting, ...buffers()),
+    save: (n, t) => exports.wanlopheng_save(TOLD, NAME, n, TABLE, t, setting, GIVEN, BOOK, 16912, ...buffers()),
+    find: (n, t) => exports.wanlopheng_find(TOLD, NAME, n, TABLE, t, setting, BOOK, 16912, ...buffers()),
+    moved: (n, t) => exports.wanlopheng_moved(TOLD, BOOK, 16912, TABLE, t, ...buffers()),
+    forget: (n, t) => exports.wanlopheng_forget(TOLD, NAME, n, TABLE, t, setting, BOOK, 16912, ...buffers()),
+    reset: () => exports.wanlopheng_reset(TOLD, BOOK, 16912, ...buffers()),
+    respelled: (n, t) => exports.wanlopheng_respelled(TOLD, NAME, n, TABLE, t, ...buffers()),
     keccak256: (n, t, b) => exports.wanlopheng_keccak256(TOLD, BYTES, b),
     sponge_new: () => exports.wanlopheng_sponge_new(TOLD),
     sponge_absorb: (n, t, b) => exports.wanlopheng_sponge_absorb(TOLD, GIVEN, BYTES, b),
     sponge_digest: () => exports.wanlopheng_sponge_digest(TOLD, GIVEN),
-    report: (n, t) => exports.wanlopheng_report(TOLD, NAME, n, TABLE, t, 0, REPORT, 323584, WORK, 8192),
+    report: (n, t) => exports.wanlopheng_report(TOLD, NAME, n, TABLE, t, setting, REPORT, 323584, WORK, 8192),
 };
 const HASHES = ['keccak256', 'sponge_new', 'sponge_absorb', 'sponge_digest'];
 const most = Object.fromEntries([...Object.keys(CALLS), 'soundness', 'layout_fault', 'unpack'].map((kind) => [kind, [0, 0, 0]]));
@@ -75,9 +77,35 @@ function measure(kind, call, texts) {
     call();
     const deepest = stack.findIndex((w) => w !== PAINT);
     const used = deepest < 0 ? 0 : 4 * (stack.length - deepest);
-    const all = texts().map((text) => traces(text, Math.max(deepest, 0)));
+    const from = Math.max(deepest, 0);
+    const all = texts().map((text) => (spelled(text, from) ? [0, NINE] : traces(text, from)));
     most[kind] = most[kind].map((now, i) => Math.max(now, i === 0 ? used : Math.max(0, ...all.map((t) => t[i - 1]))));
 }
+
+/** Whether nine bytes in order of the UTF-8 of a text stand in the words from `at` on. */
+function spelled(text, at) {
+    const end = text.findIndex((c) => c > 0x10ffff || (c >= 0xd800 && c <= 0xdfff));
+    const scalars = text.slice(0, end < 0 ? text.length : end).map((c) => String.fromCodePoint(c));
+    const bytes = Buffer.from(scalars.join('')).toString('latin1');
+    const parts = new Set(Array.from({ length: Math.max(0, bytes.length - NINE + 1) }, (_, i) => bytes.slice(i, i + NINE)));
+    const left = Buffer.from(stack.buffer, stack.byteOffset + 4 * at, 4 * (stack.length - at)).toString('latin1');
+    for (let i = 0; parts.size > 0 && i + NINE <= left.length; i++) if (parts.has(left.slice(i, i + NINE))) return true;
+    return false;
+}
+
+/** What is left of a name is found, in words and in bytes. */
+function finds() {
+    const name = Array.from({ length: 9 }, (_, i) => 0x4e00 + i);
+    const places = [stack.length - 100, stack.length - 50];
+    stack.fill(PAINT);
+    if (traces(name, places[0])[1] !== 0 || spelled(name, places[0])) return false;
+    stack.set(name.slice(1, 5), places[1]);
+    const found = traces(name, places[0])[1] === 4 && !spelled(name, places[0]);
+    stack.fill(PAINT);
+    new Uint8Array(stack.buffer, stack.byteOffset + 4 * places[1] + 1, 9).set(Buffer.from(String.fromCodePoint(...name.slice(2, 5))));
+    return found && spelled(name, places[0]);
+}
+if (!finds()) throw new Error('what is left of a name is not found');
 
 let at = 3;
 const tables = [];
@@ -90,14 +118,15 @@ for (const table of tables) {
     measure('soundness', () => exports.wanlopheng_soundness(TOLD, TABLE, table.length), () => []);
     measure('layout_fault', () => exports.wanlopheng_layout_fault(TABLE, table.length), () => []);
     const file = new DataView(new ArrayBuffer(5 + 4 * table.length));
-    file.setUint8(0, 2);
+    file.setUint8(0, 3);
     [table.length, ...table].forEach((word, i) => file.setUint32(1 + 4 * i, word));
     new Uint8Array(exports.memory.buffer).set(new Uint8Array(file.buffer), BYTES);
     measure('unpack', () => exports.wanlopheng_unpack(TOLD, BYTES, file.byteLength, TABLE, table.length), () => []);
     if (words[TOLD / 4] !== 0) throw new Error('the table is not unpacked');
 }
 for (let left = given[at++]; left > 0; left--) {
-    const [table, , , , count] = given.subarray(at, at + 5);
+    let [table, count] = [0, 0];
+    [table, setting, room, , count] = given.subarray(at, at + 5);
     const name = [...given.subarray(at + 5, at + 5 + count)];
     at += 5 + count;
     put(TABLE, tables[table]);

@@ -32,7 +32,7 @@ export const RULES = Object.freeze({
     17: ['The label is of a script that few people use, and the setting refuses those.', 'The switch "Refuse rare scripts" turns this off.'],
     20: ['The table file has a version that the engine does not know.', 'Versions 1 and 2 are known.'],
     21: ['The table file does not have the length that it says.', 'It may be cut, or not be a table file.'],
-    22: ['The table is too large.', 'It may have 131,073 words.'],
+    22: ['The table is too large.', 'It may have 131,074 words.'],
     30: ['The bytes are not UTF-8.', 'Save the text as UTF-8.'],
     40: ['The area of a payee book has 16,912 words.', 'This one has another size.'],
     41: ['The payee book is damaged.', 'A reset clears it.'],

@@ -16,6 +16,7 @@ const LAYOUT = [
     ['groups', 'groups'],
     ['look-alikes (wholes)', 'wholes'],
     ['characters shown by their numbers', 'pairs'],
+    ['characters that NFC may change (quick check)', 'pairs'],
 ];
 
 const readers = {
@@ -102,4 +103,5 @@ export const SOUNDNESS_RULES = [
     'No valid character is by itself an emoji sequence, and where a sequence starts with another one or with a valid character, the next codepoint is neither valid nor the first of a sequence.',
     'Four rounds decompose fully; no character is decomposed twice; ASCII, Hangul syllables and jamo are not decomposed and have no other class than 0.',
     'No two composition pairs are equal, and none is a pair of Hangul.',
+    'The quick-check set is empty, or holds every codepoint that is not its own NFC and every one whose full decomposition starts with the second item of a composition pair, Hangul included.',
 ];

@@ -171,7 +171,7 @@ test('the jobs of the worker', async () => {
     broken[1] = 0xd800;
     broken[2] = 0xd800;
     assert.deepEqual(await work({ job: 'soundness', module, tables: [broken] }), { sound: false, rule: 1 });
-    assert.equal(SOUNDNESS_RULES.length, 8);
+    assert.equal(SOUNDNESS_RULES.length, 9);
 });
 
 test('the contents of a table', async () => {

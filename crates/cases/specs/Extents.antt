@@ -48,7 +48,7 @@ wholeWords = 2 ∷ B ∷ C ∷ 1 ∷ A ∷ 1 ∷ D ∷ 1 ∷ E ∷ []
 -- valid is what the groups hold; of the other sections only the exclusions have a word, their count
 unfoldable pub chainedTable : List ℕ
 chainedTable =
-    joined (section (A ∷ E ∷ []) ∷ section [] ∷ section [] ∷ section [] ∷ section [] ∷ section [] ∷ section [] ∷ section [] ∷ section (0 ∷ []) ∷ section [] ∷ section groupWords ∷ section wholeWords ∷ section [] ∷ [])
+    joined (section (A ∷ E ∷ []) ∷ section [] ∷ section [] ∷ section [] ∷ section [] ∷ section [] ∷ section [] ∷ section [] ∷ section (0 ∷ []) ∷ section [] ∷ section groupWords ∷ section wholeWords ∷ section [] ∷ section [] ∷ [])
 
 -- the difference shows on a sound table
 pub chained-table-sound : soundnessOf chainedTable ≡ none

@@ -62,4 +62,4 @@ escapeWords = 0x200D ∷ 0x200D ∷ 0xFE0E ∷ 0xFE0F ∷ []
 
 unfoldable pub smallTable : List ℕ
 smallTable =
-    joined (section validWords ∷ section ignoredWords ∷ section fencedWords ∷ section markWords ∷ section nsmWords ∷ section mappedWords ∷ section decompositionWords ∷ section emojiWords ∷ section exclusionWords ∷ section classWords ∷ section groupWords ∷ section wholeWords ∷ section escapeWords ∷ [])
+    joined (section validWords ∷ section ignoredWords ∷ section fencedWords ∷ section markWords ∷ section nsmWords ∷ section mappedWords ∷ section decompositionWords ∷ section emojiWords ∷ section exclusionWords ∷ section classWords ∷ section groupWords ∷ section wholeWords ∷ section escapeWords ∷ section [] ∷ [])

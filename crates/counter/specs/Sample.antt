@@ -15,7 +15,7 @@ abbrev fourBytes : ℕ → List ℕ
 fourBytes w = w / 0x1000000 ∷ w / 0x10000 % 0x100 ∷ w / 0x100 % 0x100 ∷ w % 0x100 ∷ []
 
 abbrev packed : List ℕ → List ℕ
-packed words = 2 ∷ fourBytes (length words) ++ joinedMap fourBytes words
+packed words = 3 ∷ fourBytes (length words) ++ joinedMap fourBytes words
 
 pub the-sample : counterOutput (some (packed smallTable)) (bytes "5F 24 41\n61 2E 2E 62\n") ≡ bytes "ok 5F 24 61\nno 6 1\nend 2\n"
 unfolding counterOutput smallTable
@@ -23,7 +23,7 @@ the-sample = refl
 
 -- missing, too long, and not unpacking: another version, a byte too few, an empty file
 pub bad-alone : map (λ file. counterOutput file (bytes "61\n"))
-    (none ∷ some (replicate (mostFile + 1) 1) ∷ some (3 ∷ []) ∷ some (drop 1 (packed smallTable)) ∷ some [] ∷ []) ≡
+    (none ∷ some (replicate (mostFile + 1) 1) ∷ some (4 ∷ []) ∷ some (drop 1 (packed smallTable)) ∷ some [] ∷ []) ≡
     replicate 5 (bytes "bad\n")
 unfolding counterOutput smallTable
 bad-alone = refl

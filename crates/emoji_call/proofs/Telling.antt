@@ -1,36 +1,29 @@
 -- The three ends of the call. Assumes nothing.
 use Prim.Native.Nat.{ℕ}
-use native.Mathlib.Omega.{arith}
-use mathlib.Core.Path.{_≡_, refl, sym, ap, _∙_}
+use mathlib.Core.Path.{_≡_, ap}
 use mathlib.Core.List.{List}
-use mathlib.Core.Option.{Option, none, some}
-use Rattle.table.specs.Table.{Table}
+use mathlib.Core.Option.{none}
 use Rattle.table.specs.Layout.{parse, theTable}
-use Rattle.sections.specs.Laid.{layoutOf}
+use Rattle.sections.specs.Laid.{Laid}
 use Rattle.sections.specs.declared.Sections.{Sections}
 use Rattle.table.specs.declared.Span.{Span}
-use Rattle.sections.specs.declared.Layout.the-variants.{Fault, Found}
-use Rattle.sections.proofs.SectionLaws.{found-laid, laid-parse}
+use Rattle.sections.proofs.SectionLaws.{laid-parse}
 use Rattle.finder.specs.declared.emoji.Match as match
 use Rattle.finder.specs.declared.emoji.Match.{Match}
 use Rattle.finder.specs.Emoji.{find}
 use Rattle.finder.specs.Match.{foundOf, FoundBy}
 use Rattle.emoji_call.specs.declared.EmojiAnswer as answer
-use Rattle.emoji_call.specs.EmojiCall.{faulty, matching, emojiValues, emojiCall}
+use Rattle.emoji_call.specs.EmojiCall.{matching, emojiValues, emojiCall}
 
 module _ (ws part : List ℕ) where
-  pub told-fault : layoutOf ws ≡ Fault → emojiValues answer.the-variants.LayoutFault ≡ emojiCall ws part
-  unfolding layoutOf emojiCall
-  told-fault e = go (parse ws) refl
-    where
-      go : (o : Option Table) → parse ws ≡ o → faulty ≡ emojiCall ws part
-      go none q = rw q
-      go (some t) q = let z : _≡_ {A = ℕ} 0 1 = (let f = rw q at e in cc) in absurd (omega arith)
+  pub told-fault : parse ws ≡ none → emojiValues answer.the-variants.LayoutFault ≡ emojiCall ws part
+  unfolding emojiCall
+  told-fault e = rw e
 
-  module _ (ix : Sections) (l : layoutOf ws ≡ Found ix) (m : Match) (f : FoundBy ws part (find (theTable ws .emoji) part) m) where
+  module _ (ix : Sections) (l : Laid ws ix) (m : Match) (f : FoundBy ws part (find (theTable ws .emoji) part) m) where
     told : matching (foundOf ws m) ≡ emojiCall ws part
     unfolding emojiCall
-    told = rw (laid-parse ws ix (found-laid ws ix l)) (ap matching (f .same))
+    told = rw (laid-parse ws ix l) (ap matching (f .same))
 
     pub told-found : (n : ℕ) (s : Span) (k g : ℕ) → m ≡ match.the-variants.Found n s k g → emojiValues (answer.the-variants.Found k n g) ≡ emojiCall ws part
     told-found n s k g e = rw e at told

@@ -6,7 +6,7 @@ use Rattle.emoji_call.specs.EmojiCall.{EmojiValues, faulty, emojiCall}
 
 abbrev pub words : List ℕ
 words =
-    0 ∷ 0 ∷ 0 ∷ 0 ∷ 0 ∷ 0 ∷ 0 ∷ 11 ∷ 2 ∷ 0x2764 ∷ 0xFE0F ∷ 1 ∷ 0x2764 ∷ 3 ∷ 0x1F600 ∷ 0xFE0F ∷ 0xFE0F ∷ 1 ∷ 0xFE0F ∷ 1 ∷ 0 ∷ 0 ∷ 0 ∷ 0 ∷ 0 ∷ []
+    0 ∷ 0 ∷ 0 ∷ 0 ∷ 0 ∷ 0 ∷ 0 ∷ 11 ∷ 2 ∷ 0x2764 ∷ 0xFE0F ∷ 1 ∷ 0x2764 ∷ 3 ∷ 0x1F600 ∷ 0xFE0F ∷ 0xFE0F ∷ 1 ∷ 0xFE0F ∷ 1 ∷ 0 ∷ 0 ∷ 0 ∷ 0 ∷ 0 ∷ 0 ∷ []
 
 -- an emoji is found: how far, the record, the FE0F
 abbrev found : ℕ → ℕ → ℕ → EmojiValues

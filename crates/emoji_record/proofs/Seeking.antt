@@ -13,7 +13,8 @@ use Rattle.table.specs.Part.{SequencesAt, SequenceHere, countedAt}
 use Rattle.sections.proofs.SectionLaws.{laid-fits}
 use Rattle.table.proofs.Lookups.{behind, within-within, behind-fits}
 use Rattle.table.proofs.Records.{sequences-step, sequences-end, records-start, sequence-items}
-use Rattle.finder.specs.Match.{SequenceFits, Sequences, sequencesOf}
+use Rattle.firsts.specs.Firsts.{sequencesIn}
+use Rattle.finder.specs.Match.{SequenceFits, Sequences}
 use Rattle.finder.proofs.Finding.{emoji-known}
 use Rattle.emoji_record.specs.Record.{SequenceIs}
 
@@ -21,16 +22,16 @@ use Rattle.emoji_record.specs.Record.{SequenceIs}
 pub record Seeking (part : List ℕ) (number left at : ℕ) : Type 0 where
   pub rest : List (List ℕ)
   pub here : SequencesAt part at rest
-  pub same : getD (sequencesOf part) number [] ≡ getD rest left []
+  pub same : getD (sequencesIn part) number [] ≡ getD rest left []
 
 pub seeking-start : (part : List ℕ) (number : ℕ) → Sequences part → Seeking part number number 0
-seeking-start part number p = record { rest = sequencesOf part; here = records-start _ part (sequencesOf part) (p .parses); same = refl }
+seeking-start part number p = record { rest = sequencesIn part; here = records-start _ part (sequencesIn part) (p .parses); same = refl }
 
 module _ (part : List ℕ) (number left at : ℕ) (w : Seeking part number left at) where
   pub seeking-here : at < length part → SequenceHere part at (w .rest)
   seeking-here h = sequences-step part at (w .rest) (w .here) h
 
-  pub seeking-found : at < length part → left ≡ 0 → SequenceIs part (getD (sequencesOf part) number []) (countedAt part at)
+  pub seeking-found : at < length part → left ≡ 0 → SequenceIs part (getD (sequencesIn part) number []) (countedAt part at)
   seeking-found h z =
       let x = seeking-here h in
       record {
@@ -46,7 +47,7 @@ module _ (part : List ℕ) (number left at : ℕ) (w : Seeking part number left 
       let one : left ≡ suc (left - 1) = omega arith in
       record { rest = x .rest; here = x .next; same = w .same ∙ ap (λ (xs : List (List ℕ)). getD xs left []) (x .split) ∙ ap (λ (n : ℕ). getD (x .first ∷ x .rest) n []) one }
 
-  pub seeking-none : length part ≤ at → SequenceIs part (getD (sequencesOf part) number []) (record { from = 0; to = 0 })
+  pub seeking-none : length part ≤ at → SequenceIs part (getD (sequencesIn part) number []) (record { from = 0; to = 0 })
   seeking-none h =
       let none-left : w .rest ≡ [] = sequences-end part at (w .rest) (w .here) h in
       record {
@@ -56,7 +57,7 @@ module _ (part : List ℕ) (number left at : ℕ) (w : Seeking part number left 
 
 -- what stands in the section stands among the words
 module _ (ws : List ℕ) (ix : Sections) (l : Laid ws ix) (number : ℕ) (s : Span)
-    (r : SequenceIs (within (ix .emoji) ws) (getD (sequencesOf (within (ix .emoji) ws)) number []) s) where
+    (r : SequenceIs (within (ix .emoji) ws) (getD (sequencesIn (within (ix .emoji) ws)) number []) s) where
   fit : Fits (within (ix .emoji) ws) s
   fit = record { ordered = r .fits .ordered; inside = r .fits .inside }
 

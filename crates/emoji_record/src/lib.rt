@@ -6,13 +6,14 @@ ghost use mathlib.Core.List.{[]};
 ghost use lib.ListN.{getD};
 ghost use Rattle.sections.specs.Laid.{Laid};
 ghost use Rattle.table.specs.Layout.{theTable};
-ghost use Rattle.finder.specs.Match.{Sequences, sequencesOf};
+ghost use Rattle.firsts.specs.Firsts.{sequencesIn};
+ghost use Rattle.finder.specs.Match.{Sequences};
 ghost use Rattle.emoji_record.specs.Record.{SequenceIs};
 
 // Where the sequence of a record of a section stands; a part of no words where there is no such record.
 fn sequence_in(part: &[u32], number: usize) -> Span
     requires { ⌜ Sequences (now part) ⌝ }
-    ensures { λ r. ⌜ SequenceIs (now (part .entry)) (getD (sequencesOf (now (part .entry))) number []) r ⌝ }
+    ensures { λ r. ⌜ SequenceIs (now (part .entry)) (getD (sequencesIn (now (part .entry))) number []) r ⌝ }
 {
     let mut left = number;
     let mut at: usize = 0;

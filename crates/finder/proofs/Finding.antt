@@ -1,13 +1,12 @@
 -- The loop of the finder: the best match so far, and the records that are left. Assumes nothing.
-use Prim.Native.Nat.{ℕ, zero, suc, _+_, _≤_, _<_}
+use Prim.Native.Nat.{ℕ, suc, _+_, _≤_, _<_}
 use native.Mathlib.Omega.{arith}
 use native.Mathlib.Numerals.{add-one}
 use mathlib.Core.Path.{_≡_, refl, sym, _∙_, ap}
-use mathlib.Core.Bool.{Bool, true, false}
-use mathlib.Core.List.{List, [], _∷_}
+use mathlib.Core.Bool.{Bool, true, false, _||_}
+use mathlib.Core.List.{List, [], _∷_, _++_, append-nil}
 use mathlib.Core.Option.{Option, none, some}
-use lib.ListN.{length, getD, take, drop}
-use lib.Seq.{drop-cons}
+use lib.ListN.{length, getD}
 use lib.Dec.{eqb, ltb}
 use borrow.Author.Tests.{eqb-true, eqb-false, le-leb, lt-leb}
 use Rattle.lists.specs.Lists.{onSome}
@@ -16,10 +15,14 @@ use Rattle.sections.specs.declared.Sections.{Sections}
 use Rattle.table.specs.Layout.{sequences, theTable}
 use Rattle.table.specs.Spans.{within, Fits}
 use Rattle.sections.specs.Laid.{Laid}
-use Rattle.table.specs.Part.{SequencesAt, SequenceHere, countedAt}
+use Rattle.table.specs.Part.{recordsIn, SequencesAt, SequenceHere, countedAt}
 use Rattle.sections.proofs.SectionLaws.{laid-fits, laid-reads}
-use Rattle.table.proofs.Lookups.{behind, within-within, behind-fits}
-use Rattle.table.proofs.Records.{sequences-step, sequences-end, records-start, sequence-items}
+use Rattle.table.proofs.Lookups.{false-true, behind, within-within, behind-fits}
+use Rattle.table.proofs.Records.{sequences-step, sequences-end, sequence-items}
+use Rattle.heads.specs.declared.Marks.{Marks}
+use Rattle.firsts.specs.declared.Start.{Start}
+use Rattle.firsts.specs.Firsts.{optional, sequencesIn, firstOf, steady, Avoids, FirstsKnown, Passing}
+use Rattle.firsts.proofs.Steady.{first-item, steady-rest, steady-behind, avoid-behind}
 use Rattle.finder.specs.declared.emoji.Taking as taking
 use Rattle.finder.specs.declared.emoji.Taking.{Taking}
 use Rattle.finder.specs.declared.emoji.Match as match
@@ -27,7 +30,8 @@ use Rattle.finder.specs.declared.emoji.Match.{Match}
 use Rattle.finder.specs.Emoji.{Found, takes, strip, found, longer, findFrom, find}
 use Rattle.finder.specs.Matching.{takes-fits}
 use Rattle.finder.specs.Finding.{find-best, longer-assoc}
-use Rattle.finder.specs.Match.{takenOf, foundOf, matchOf, betterOf, onward, SequenceFits, MatchFits, MatchTakes, FoundBy, Sequences, sequencesOf}
+use Rattle.finder.proofs.Taking.{takes-none}
+use Rattle.finder.specs.Match.{takenOf, foundOf, matchOf, betterOf, onward, SequenceFits, MatchFits, MatchTakes, FoundBy, Sequences}
 
 -- the match of a record, as the definition has it
 match-found : (ws : List ℕ) (n : ℕ) (s : Span) (k : Taking) → foundOf ws (matchOf n s k) ≡ onSome (takenOf k) (found n (within s ws)) none
@@ -86,37 +90,73 @@ longer-none : (o : Option Found) → longer none o ≡ o
 longer-none none = refl
 longer-none (some f) = refl
 
--- words that start with a codepoint by which any sequence takes nothing
-start-misses : (n i : ℕ) (ws rest : List ℕ) → 1 ≤ n → i < length ws → ((seq : List ℕ) → takes (getD ws i 0 ∷ seq) rest ≡ none) → takes (take n (drop i ws)) rest ≡ none
-start-misses zero i ws rest p h misses = absurd (omega arith)
-start-misses (suc n) i ws rest p h misses = rw (drop-cons ws i 0 h) (misses (take n (drop (suc i) ws)))
+-- a sequence that starts neither with FE0F nor as the input does is no match
+no-match : (n e c : ℕ) (seq inp : List ℕ) → c ≡ e → (firstOf seq ≡ e → ⊥) → (firstOf seq ≡ optional → ⊥) → onSome (takes seq (c ∷ inp)) (found n seq) none ≡ none
+unfolding takes
+no-match n e c [] inp s p q = refl
+no-match n e c (x ∷ seq) inp s p q = rw (takes-none x c seq inp (λ z. p (z ∙ s)) q)
+
+-- such sequences in front of others
+find-skip : (e : ℕ) (inp : List ℕ) → 0 < length inp → getD inp 0 0 ≡ e → (n : ℕ) (xs ys : List (List ℕ)) → Avoids e xs
+    → findFrom n (xs ++ ys) inp ≡ findFrom (n + length xs) ys inp
+unfolding findFrom Avoids
+find-skip e [] h s n xs ys a = absurd (omega arith)
+find-skip e (c ∷ inp) h s n [] ys a = let z : n + 0 ≡ n = omega arith in rw z
+find-skip e (c ∷ inp) h s n (x ∷ xs) ys a =
+    let z : suc n + length xs ≡ n + suc (length xs) = omega arith in
+    rw (no-match n e c x inp s (a .0) (a .1))
+    (longer-none (findFrom (suc n) (xs ++ ys) (c ∷ inp)) ∙ find-skip e (c ∷ inp) h s (suc n) xs ys (a .2) ∙ rw z refl)
+
+find-avoided : (e : ℕ) (inp : List ℕ) → 0 < length inp → getD inp 0 0 ≡ e → (n : ℕ) (xs : List (List ℕ)) → Avoids e xs → findFrom n xs inp ≡ none
+unfolding findFrom
+find-avoided e inp h s n xs a = ap (λ (l : List (List ℕ)). findFrom n l inp) (sym (append-nil xs)) ∙ find-skip e inp h s n xs [] a
+
+neither : (a b : Bool) → (a || b) ≡ false → (a ≡ false) × (b ≡ false)
+neither false b e = (refl, e)
+neither true b e = absurd (false-true (sym e))
 
 -- The records before `at` are looked at: `best` is their match, and those from there on are numbered from `number` on.
-pub record Finder (part rest : List ℕ) (best : Match) (number at : ℕ) : Type 0 where
+pub record Finder (part rest : List ℕ) (sorted : Bool) (best : Match) (number at : ℕ) : Type 0 where
   pub left : List (List ℕ)
   pub here : SequencesAt part at left
   pub few : number ≤ at
-  pub so : find (sequencesOf part) rest ≡ longer (foundOf part best) (findFrom number left rest)
+  pub so : find (sequencesIn part) rest ≡ longer (foundOf part best) (findFrom number left rest)
   pub fits : MatchFits part best
+  pub rise : sorted ≡ true → steady 0 left ≡ true
 
-pub finder-start : (part rest : List ℕ) → Sequences part → Finder part rest match.the-variants.Nothing 0 0
+pub finder-start : (part rest : List ℕ) (sorted : Bool) (f g : Marks) → FirstsKnown part sorted f g → 0 < length rest → (s : Start) → Passing part (getD rest 0 0) s
+    → Finder part rest sorted match.the-variants.Nothing (s .number) (s .place)
 unfolding find
-finder-start part rest p =
+finder-start part rest sorted f g k h s p =
+    let w = p .from in
+    let none-before : find (sequencesIn part) rest ≡ findFrom (0 + length (w .passed)) (w .left) rest
+    = ap (λ (l : List (List ℕ)). findFrom 0 l rest) (w .split) ∙ find-skip (getD rest 0 0) rest h refl 0 (w .passed) (w .left) (p .avoids) in
+    let count : 0 + length (w .passed) ≡ s .number = omega (arith, w .count) in
     record {
-      left = sequencesOf part;
-      here = records-start _ part (sequencesOf part) (p .parses);
-      few = omega arith;
-      so = sym (longer-none (findFrom 0 (sequencesOf part) rest));
+      left = w .left;
+      here = w .walk;
+      few = w .few;
+      so = none-before ∙ rw count (sym (longer-none (findFrom (s .number) (w .left) rest)));
       fits = tt;
+      rise = λ t. steady-behind (w .passed) (w .left) (sym (ap (steady 0) (w .split)) ∙ k .firsts t);
     }
 
-module _ (part rest : List ℕ) (best : Match) (number at : ℕ) (w : Finder part rest best number at) where
+takes-some : (ws rest : List ℕ) (seqs : List (List ℕ)) (m : Match) → foundOf ws m ≡ find seqs rest → MatchTakes rest m
+takes-some ws rest seqs match.the-variants.Nothing e = tt
+takes-some ws rest seqs (match.the-variants.Found n s k f) e =
+    let b = find-best seqs rest (record { number = n; taken = record { length = k; selectors = f }; stripped = strip (within s ws) }) (sym e) in
+    (b .some-taken, takes-fits _ rest (record { length = k; selectors = f }) (b .taken) .inside)
+
+module _ (part rest : List ℕ) (sorted : Bool) (best : Match) (number at : ℕ) (w : Finder part rest sorted best number at) where
   pub finder-here : at < length part → SequenceHere part at (w .left)
   finder-here h = sequences-step part at (w .left) (w .here) h
 
+  finder-rise : (h : at < length part) → sorted ≡ true → steady 0 (finder-here h .rest) ≡ true
+  finder-rise h t = let x = finder-here h in steady-rest (x .first) (x .rest) (sym (ap (steady 0) (x .split)) ∙ w .rise t)
+
   pub finder-more : (h : at < length part) (k : Taking) → takenOf k ≡ takes (within (countedAt part at) part) rest
       → (m : Match) → m ≡ matchOf number (countedAt part at) k → (b : Match) → b ≡ betterOf best m
-      → Finder part rest b (number + 1) (countedAt part at .to)
+      → Finder part rest sorted b (number + 1) (countedAt part at .to)
   unfolding findFrom
   finder-more h k e m p b q =
       let s : Span = countedAt part at in
@@ -137,29 +177,61 @@ module _ (part rest : List ℕ) (best : Match) (number at : ℕ) (w : Finder par
             ∙ sym (longer-assoc (foundOf part best) (foundOf part m) (findFrom (suc number) (x .rest) rest))
             ∙ rw (← both, add-one number) refl;
         fits = rw (q, p) (better-fits part best (matchOf number s k) (w .fits) (match-fits part number s k fit));
+        rise = finder-rise h;
       }
 
   -- a record that is passed over
-  pub finder-past : (h : at < length part) → ((seq : List ℕ) → takes (getD part (at + 1) 0 ∷ seq) rest ≡ none) → Finder part rest best (number + 1) (countedAt part at .to)
-  finder-past h misses =
+  pub finder-past : (h : at < length part) → 0 < length rest → (eqb (getD part (at + 1) 0) (getD rest 0 0) || eqb (getD part (at + 1) 0) optional) ≡ false
+      → Finder part rest sorted best (number + 1) (countedAt part at .to)
+  unfolding Avoids
+  finder-past h i q =
       let x = finder-here h in
-      let m : takes (take (getD part at 0) (drop (at + 1) part)) rest ≡ none = start-misses (getD part at 0) (at + 1) part rest (x .low) (omega (arith, x .low, x .fits)) misses in
-      let t : none ≡ takes (within (countedAt part at) part) rest = sym (rw (sequence-items part at (w .left) x, x .items) m) in
-      finder-more h taking.the-variants.Nothing t match.the-variants.Nothing refl best (better-nothing best)
+      let o = neither (eqb (getD part (at + 1) 0) (getD rest 0 0)) (eqb (getD part (at + 1) 0) optional) q in
+      let f : firstOf (x .first) ≡ getD part (at + 1) 0 = first-item part at (w .left) x in
+      let step : findFrom number (x .first ∷ x .rest) rest ≡ findFrom (number + 1) (x .rest) rest
+      = find-skip (getD rest 0 0) rest i refl number (x .first ∷ []) (x .rest) (λ z. eqb-false _ _ (o .0) (sym f ∙ z), λ z. eqb-false _ _ (o .1) (sym f ∙ z), tt) in
+      record {
+        left = x .rest;
+        here = x .next;
+        few = omega (arith, w .few);
+        so = w .so ∙ ap (longer (foundOf part best)) (ap (λ (l : List (List ℕ)). findFrom number l rest) (x .split) ∙ step);
+        fits = w .fits;
+        rise = finder-rise h;
+      }
 
-takes-some : (ws rest : List ℕ) (seqs : List (List ℕ)) (m : Match) → foundOf ws m ≡ find seqs rest → MatchTakes rest m
-takes-some ws rest seqs match.the-variants.Nothing e = tt
-takes-some ws rest seqs (match.the-variants.Found n s k f) e =
-    let b = find-best seqs rest (record { number = n; taken = record { length = k; selectors = f }; stripped = strip (within s ws) }) (sym e) in
-    (b .some-taken, takes-fits _ rest (record { length = k; selectors = f }) (b .taken) .inside)
+  -- nothing is left that matches
+  finder-done : findFrom number (w .left) rest ≡ none → FoundBy part rest (find (sequencesIn part) rest) best
+  finder-done e =
+      let s : foundOf part best ≡ find (sequencesIn part) rest = sym (w .so ∙ rw e refl) in
+      record { same = s; fits = w .fits; takes = takes-some part rest (sequencesIn part) best s }
 
-pub finder-end : (part rest : List ℕ) (best : Match) (number at : ℕ) → Finder part rest best number at → length part ≤ at
-    → FoundBy part rest (find (sequencesOf part) rest) best
-unfolding findFrom
-finder-end part rest best number at w h =
-    let e : w .left ≡ [] = sequences-end part at (w .left) (w .here) h in
-    let s : foundOf part best ≡ find (sequencesOf part) rest = sym (w .so ∙ rw e refl) in
-    record { same = s; fits = w .fits; takes = takes-some part rest (sequencesOf part) best s }
+  pub finder-end : length part ≤ at → FoundBy part rest (find (sequencesIn part) rest) best
+  unfolding findFrom
+  finder-end h =
+      let e : w .left ≡ [] = sequences-end part at (w .left) (w .here) h in
+      finder-done (rw e refl)
+
+  -- behind a first item above the input's, none matches
+  pub finder-above : at < length part → 0 < length rest → sorted ≡ true → getD rest 0 0 < getD part (at + 1) 0 → FoundBy part rest (find (sequencesIn part) rest) best
+  finder-above h i t less =
+      let x = finder-here h in
+      let up : steady 0 (x .first ∷ x .rest) ≡ true = rw (x .split) at (w .rise t) in
+      let a : Avoids (getD rest 0 0) (x .first ∷ x .rest) = avoid-behind (getD rest 0 0) (x .first) (x .rest) up (omega (arith, first-item part at (w .left) x, less)) in
+      finder-done (ap (λ (l : List (List ℕ)). findFrom number l rest) (x .split) ∙ find-avoided (getD rest 0 0) rest i refl number (x .first ∷ x .rest) a)
+
+-- in an empty rest nothing is found
+find-empty : (seqs : List (List ℕ)) → find seqs [] ≡ none
+find-empty seqs = go (find seqs []) refl
+  where
+    go : (o : Option Found) → find seqs [] ≡ o → find seqs [] ≡ none
+    go none e = e
+    go (some f) e =
+        let b = find-best seqs [] f e in
+        absurd (omega (arith, b .some-taken, takes-fits _ [] (f .taken) (b .taken) .inside))
+
+pub finder-empty : (part rest : List ℕ) → length rest ≡ 0 → FoundBy part rest (find (sequencesIn part) rest) match.the-variants.Nothing
+finder-empty part [] h = record { same = sym (find-empty (sequencesIn part)); fits = tt; takes = tt }
+finder-empty part (c ∷ rest) h = absurd (omega arith)
 
 -- what is found in a section is found among the words
 module _ (ws rest : List ℕ) (s : Span) (o : Option Found) (f : Fits ws s) where
@@ -176,12 +248,12 @@ module _ (ws rest : List ℕ) (s : Span) (o : Option Found) (f : Fits ws s) wher
       }
 
 -- the emoji section holds the sequences of the table
-sequences-known : (part : List ℕ) (xs : List (List ℕ)) → sequences (length part) part ≡ some xs → sequencesOf part ≡ xs
-unfolding sequencesOf
+sequences-known : (part : List ℕ) (xs : List (List ℕ)) → sequences (length part) part ≡ some xs → sequencesIn part ≡ xs
+unfolding recordsIn
 sequences-known part xs e = rw e
 
 module _ (ws : List ℕ) (ix : Sections) (l : Laid ws ix) where
-  pub emoji-known : sequencesOf (within (ix .emoji) ws) ≡ theTable ws .emoji
+  pub emoji-known : sequencesIn (within (ix .emoji) ws) ≡ theTable ws .emoji
   emoji-known = sequences-known (within (ix .emoji) ws) (theTable ws .emoji) (laid-reads ws ix l .emoji)
 
   pub emoji-sequences : Sequences (within (ix .emoji) ws)
@@ -189,7 +261,7 @@ module _ (ws : List ℕ) (ix : Sections) (l : Laid ws ix) where
 
 -- what is found in the emoji section is what the table has
 module _ (ws : List ℕ) (ix : Sections) (l : Laid ws ix) (rest : List ℕ) (m : Match)
-    (r : FoundBy (within (ix .emoji) ws) rest (find (sequencesOf (within (ix .emoji) ws)) rest) m) where
+    (r : FoundBy (within (ix .emoji) ws) rest (find (sequencesIn (within (ix .emoji) ws)) rest) m) where
   section-found : FoundBy ws rest (find (theTable ws .emoji) rest) (onward (ix .emoji .from) m)
   section-found =
       let p : FoundBy (within (ix .emoji) ws) rest (find (theTable ws .emoji) rest) m = rw (emoji-known ws ix l) at r in

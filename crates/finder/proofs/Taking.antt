@@ -4,15 +4,13 @@ use native.Mathlib.Nat.{zero-add}
 use native.Mathlib.Omega.{arith}
 use native.Mathlib.Numerals.{add-one}
 use mathlib.Core.Path.{_≡_, refl, sym, _∙_, ap}
-use mathlib.Core.Bool.{Bool, true, false, not, cond}
-use mathlib.Core.List.{List, [], _∷_}
+use mathlib.Core.Bool.{Bool, true, false, cond}
+use mathlib.Core.List.{List, _∷_}
 use mathlib.Core.Option.{Option, none, some, Option·map}
 use lib.ListN.{length, getD, drop, drop-of-length-le}
 use lib.Seq.{drop-cons}
 use lib.Dec.{eqb, leb}
 use borrow.Author.Tests.{eq-eqb, ne-eqb, leb-true, leb-false}
-use Rattle.lists.specs.Lists.{isSome}
-use Rattle.table.proofs.Lookups.{false-true}
 use Rattle.finder.specs.Emoji.{selector, Taken, oneMore, oneSelector, takes}
 
 -- so many codepoints and FE0F more
@@ -67,55 +65,10 @@ takes-other e seq rest at other = go (leb (suc at) (length rest)) refl
         let l : length rest ≤ at = omega arith in
         rw (drop-of-length-le rest l)
 
-abbrev taking : ℕ → ℕ → Taken
-taking n s = record { length = n; selectors = s }
-
--- whether e alone takes nothing: FE0F never, another one where the input does not start with it
-start-selector : (rest : List ℕ) → false ≡ not (isSome (takes (selector ∷ []) rest))
+-- a sequence takes nothing where its first item is neither FE0F nor what the input starts with
+pub takes-none : (e c : ℕ) (seq inp : List ℕ) → (e ≡ c → ⊥) → (e ≡ selector → ⊥) → takes (e ∷ seq) (c ∷ inp) ≡ none
 unfolding takes
-start-selector [] = refl
-start-selector (c ∷ rest) = go (eqb selector c)
-  where
-    go : (b : Bool) → false ≡ not (isSome (cond b (some (taking 1 1)) (some (taking 0 0))))
-    go true = refl
-    go false = refl
-
-module _ (e : ℕ) where
-  pub misses-selector : (rest : List ℕ) → e ≡ selector → false ≡ not (isSome (takes (e ∷ []) rest))
-  misses-selector rest p = rw p (start-selector rest)
-
-  module _ (p : e ≡ selector → ⊥) where
-    pub misses-empty : (rest : List ℕ) → length rest ≡ 0 → true ≡ not (isSome (takes (e ∷ []) rest))
-    unfolding takes
-    misses-empty [] h = rw (ne-eqb e selector p)
-    misses-empty (c ∷ rest) h = absurd (omega arith)
-
-    pub misses-first : (rest : List ℕ) → 0 < length rest → not (eqb e (getD rest 0 0)) ≡ not (isSome (takes (e ∷ []) rest))
-    unfolding takes
-    misses-first [] h = absurd (omega arith)
-    misses-first (c ∷ rest) h = rw (ne-eqb e selector p) (go (eqb e c))
-      where
-        go : (b : Bool) → not b ≡ not (isSome (cond b (some (taking 1 0)) none))
-        go true = refl
-        go false = refl
-
-  -- then no sequence that starts with it takes anything
-  pub takes-none : (rest : List ℕ) → not (isSome (takes (e ∷ []) rest)) ≡ true → (seq : List ℕ) → takes (e ∷ seq) rest ≡ none
-  unfolding takes
-  takes-none [] m seq = go (eqb e selector) m
-    where
-      go : (b : Bool) → not (isSome (cond b (some (taking 0 0)) none)) ≡ true → cond b (takes seq []) none ≡ none
-      go true n = absurd (false-true n)
-      go false n = refl
-  takes-none (c ∷ rest) m seq = go (eqb e c) (eqb e selector) m
-    where
-      go : (b s : Bool)
-          → not (isSome (cond b (cond s (some (taking 1 1)) (some (taking 1 0))) (cond s (some (taking 0 0)) none))) ≡ true
-          → cond b (cond s (Option·map oneSelector (takes seq rest)) (Option·map oneMore (takes seq rest))) (cond s (takes seq (c ∷ rest)) none) ≡ none
-      go true true n = absurd (false-true n)
-      go true false n = absurd (false-true n)
-      go false true n = absurd (false-true n)
-      go false false n = refl
+takes-none e c seq inp p q = rw (ne-eqb e c p, ne-eqb e selector q)
 
 module _ (seq rest : List ℕ) (i at s : ℕ) (w : Walk seq rest i at s) (h : i < length seq) where
   abbrev e : ℕ

@@ -1,14 +1,15 @@
 -- What the answers of the emoji finder stand for. Assumes nothing.
 use Prim.Native.Nat.{ℕ, _+_, _≤_}
 use mathlib.Core.Path.{_≡_}
-use mathlib.Core.List.{List, []}
-use mathlib.Core.Option.{Option, none, some, Option·getD}
+use mathlib.Core.List.{List}
+use mathlib.Core.Option.{Option, none, some}
 use mathlib.Core.Bool.{cond}
 use lib.ListN.{length}
 use lib.Dec.{eqb, ltb}
 use Rattle.table.specs.declared.Span.{Span}
 use Rattle.table.specs.Layout.{mostItems, sequences}
 use Rattle.table.specs.Spans.{within}
+use Rattle.firsts.specs.Firsts.{sequencesIn}
 use Rattle.finder.specs.declared.emoji.Taking as taking
 use Rattle.finder.specs.declared.emoji.Taking.{Taking}
 use Rattle.finder.specs.declared.emoji.Match as match
@@ -65,11 +66,6 @@ pub record FoundBy (ws rest : List ℕ) (o : Option Found) (r : Match) : Type 0 
   pub fits : MatchFits ws r
   pub takes : MatchTakes rest r
 
--- the sequences that the words of a section hold
-unfoldable pub sequencesOf : List ℕ → List (List ℕ)
-unfolding sequences
-sequencesOf part = Option·getD (sequences (length part) part) []
-
 -- the words are those of a section of sequences
 pub record Sequences (part : List ℕ) : Type 0 where
-  pub parses : sequences (length part) part ≡ some (sequencesOf part)
+  pub parses : sequences (length part) part ≡ some (sequencesIn part)

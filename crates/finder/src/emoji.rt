@@ -1,15 +1,15 @@
 // Finding an emoji sequence at the start of an input.
+use firsts::seek;
+use heads::Marks;
 use sections::Sections;
 use table::Span;
 use table::lookup::counted;
 ghost use mathlib.Core.Path.{_≡_};
-ghost use mathlib.Core.Bool.{not};
-ghost use mathlib.Core.List.{[], _∷_};
-ghost use Rattle.lists.specs.Lists.{isSome};
+ghost use Rattle.firsts.specs.Firsts.{sequencesIn, FirstsKnown};
 ghost use Rattle.sections.specs.Laid.{Laid};
 ghost use Rattle.table.specs.Layout.{theTable};
 ghost use Rattle.finder.specs.Emoji.{takes, find};
-ghost use Rattle.finder.specs.Match.{takenOf, matchOf, betterOf, FoundBy, Sequences, sequencesOf};
+ghost use Rattle.finder.specs.Match.{takenOf, matchOf, betterOf, FoundBy};
 
 // What a sequence takes of an input: so many codepoints, with so many FE0F among them.
 pub enum Taking {
@@ -53,19 +53,6 @@ pub fn takes(seq: &[u32], rest: &[u32]) -> Taking
         length: at,
         selectors,
     }
-}
-
-// Whether e alone, as a sequence, takes nothing of the rest; then no sequence that starts with e does.
-fn misses(e: u32, rest: &[u32]) -> bool
-    ensures { λ r. ⌜ r ≡ not (isSome (takes (e ∷ []) (now (rest .entry)))) ⌝ }
-{
-    if e == 0xFE0F {
-        return false;
-    }
-    if rest.len() == 0 {
-        return true;
-    }
-    e != rest[0]
 }
 
 // The match of a record that takes so much: "A match takes at least one codepoint."
@@ -120,27 +107,34 @@ fn better(a: Match, b: Match) -> Match
 }
 
 // The match of the sequences of a section that takes most of the rest, "ties go to the first record". Most records are passed over by
-// their first codepoint.
-fn find_in(part: &[u32], rest: &[u32]) -> Match
-    requires { ⌜ Sequences (now part) ⌝ }
-    ensures { λ r. ⌜ FoundBy (now (part .entry)) (now (rest .entry)) (find (sequencesOf (now (part .entry))) (now (rest .entry))) r ⌝ }
+// their first codepoint. Where the section is sorted, the search starts at the first record that can match, and ends behind the last.
+fn find_in(part: &[u32], sorted: bool, places: Marks, numbers: Marks, rest: &[u32]) -> Match
+    requires { ⌜ FirstsKnown (now part) sorted places numbers ⌝ }
+    ensures { λ r. ⌜ FoundBy (now (part .entry)) (now (rest .entry)) (find (sequencesIn (now (part .entry))) (now (rest .entry))) r ⌝ }
 {
     let mut best = Match::Nothing;
-    let mut number: usize = 0;
-    let mut at: usize = 0;
+    if rest.len() == 0 {
+        return best;
+    }
+    let e = rest[0];
+    let start = seek(part, sorted, places, numbers, e);
+    let mut number = start.number;
+    let mut at = start.place;
     while at < part.len() {
+        let first = part[at + 1];
+        if sorted & (e < first) {
+            return best;
+        }
         let sequence = counted(part, at);
         let from = sequence.from;
         let to = sequence.to;
-        let here = number;
+        if (first == e) | (first == 0xFE0F) {
+            let taking = takes(&part[from..to], rest);
+            let next = matched(number, sequence, taking);
+            best = better(best, next);
+        }
         number += 1;
         at = to;
-        if misses(part[from], rest) {
-            continue;
-        }
-        let taking = takes(&part[from..to], rest);
-        let next = matched(here, sequence, taking);
-        best = better(best, next);
     }
     best
 }
@@ -153,7 +147,15 @@ pub fn find(words: &[u32], ix: Sections, rest: &[u32]) -> Match
     let s = ix.emoji;
     let from = s.from;
     let to = s.to;
-    let m = find_in(&words[from..to], rest);
+    let sorted = ix.sorted;
+    let starts = ix.starts;
+    let m = find_in(
+        &words[from..to],
+        sorted.emoji,
+        starts.emoji,
+        starts.numbers,
+        rest,
+    );
     match m {
         Match::Found {
             number,

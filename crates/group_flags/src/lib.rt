@@ -1,17 +1,18 @@
 // A flag for each group.
 use sections::Sections;
+use sections::lookup::in_section;
 use table::lookup::group_at;
-use table::lookup::in_pairs_of;
 ghost use mathlib.Core.Path.{_≡_};
 ghost use lib.ListN.{length};
 ghost use Rattle.table.specs.Layout.{mostGroups, theTable};
+ghost use Rattle.sections.specs.Known.{GroupsKnown};
 ghost use Rattle.sections.specs.Laid.{Laid};
 ghost use Rattle.table.specs.GroupPart.{GroupsPart, groupsIn};
 ghost use Rattle.group_flags.specs.Flags.{marked, kept, apart, anySet, OwnNumber, KeepsOutside};
 
 // Sets the flags of the groups of a section that hold m.
-fn mark_in(part: &[u32], flags: &mut [u32; 256], m: u32)
-    requires { ⌜ GroupsPart (now part) ⌝ }
+fn mark_in(part: &[u32], sorted: bool, flags: &mut [u32; 256], m: u32)
+    requires { ⌜ GroupsPart (now part) × GroupsKnown (now part) sorted ⌝ }
     requires { ⌜ length (now flags) ≡ mostGroups ⌝ }
     ensures { λ _. ⌜ now (flags .exit) ≡ marked m (groupsIn (now (part .entry))) (now (flags .entry)) ⌝ }
 {
@@ -19,7 +20,7 @@ fn mark_in(part: &[u32], flags: &mut [u32; 256], m: u32)
     let mut at: usize = 0;
     while at < part.len() {
         let group = group_at(part, at);
-        if in_pairs_of(part, group.pairs, m) {
+        if in_section(part, group.pairs, sorted, m) {
             flags[n] = 1;
         }
         n += 1;
@@ -66,7 +67,7 @@ pub fn mark_holders(words: &[u32], ix: Sections, flags: &mut [u32; 256], m: u32)
     let s = ix.groups;
     let from = s.from;
     let to = s.to;
-    mark_in(&words[from..to], flags, m);
+    mark_in(&words[from..to], ix.sorted.groups, flags, m);
 }
 
 // Keeps the flags of the groups whose component, by its number, is there and is not that of `own`.
@@ -85,8 +86,8 @@ fn keep_apart(flags: &mut [u32; 256], k: &[u32], own: u32)
 }
 
 // The number of the component of the groups of a section that hold c, or 0.
-fn own_number(part: &[u32], k: &[u32], c: u32) -> u32
-    requires { ⌜ GroupsPart (now part) ⌝ }
+fn own_number(part: &[u32], sorted: bool, k: &[u32], c: u32) -> u32
+    requires { ⌜ GroupsPart (now part) × GroupsKnown (now part) sorted ⌝ }
     requires { ⌜ length (now k) ≡ mostGroups ⌝ }
     ensures { λ r. ⌜ OwnNumber (groupsIn (now (part .entry))) (now (k .entry)) c r ⌝ }
 {
@@ -94,7 +95,7 @@ fn own_number(part: &[u32], k: &[u32], c: u32) -> u32
     let mut at: usize = 0;
     while at < part.len() {
         let group = group_at(part, at);
-        if in_pairs_of(part, group.pairs, c) {
+        if in_section(part, group.pairs, sorted, c) {
             return k[n];
         }
         n += 1;
@@ -114,6 +115,6 @@ pub fn keep_outside(words: &[u32], ix: Sections, flags: &mut [u32; 256], k: &[u3
     let s = ix.groups;
     let from = s.from;
     let to = s.to;
-    let own = own_number(&words[from..to], k, c);
+    let own = own_number(&words[from..to], ix.sorted.groups, k, c);
     keep_apart(flags, k, own);
 }

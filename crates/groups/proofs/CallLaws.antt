@@ -1,17 +1,14 @@
 -- The ends of the call that shows the search. Assumes nothing.
 use Prim.Native.Nat.{ℕ, _<_, _≤_}
-use native.Mathlib.Omega.{arith}
-use mathlib.Core.Path.{_≡_, refl, sym, _∙_, ap}
+use mathlib.Core.Path.{_≡_}
 use mathlib.Core.List.{List}
-use mathlib.Core.Option.{Option, none, some}
+use mathlib.Core.Option.{none}
 use lib.ListN.{length}
 use borrow.Author.Tests.{lt-ltb, le-ltb}
 use Rattle.limits.specs.Limits.{mostInput}
-use Rattle.table.specs.Table.{Table}
 use Rattle.table.specs.Layout.{parse, theTable}
-use Rattle.sections.specs.Laid.{Laid, layoutOf}
+use Rattle.sections.specs.Laid.{Laid}
 use Rattle.sections.specs.declared.Sections.{Sections}
-use Rattle.sections.specs.declared.Layout.the-variants.{Fault}
 use Rattle.sections.proofs.SectionLaws.{laid-parse}
 use Rattle.groups.specs.declared.GroupSearch.{GroupSearch}
 use Rattle.groups.specs.declared.GroupAnswer.the-variants.{Searched}
@@ -19,13 +16,9 @@ use Rattle.groups.specs.Groups.{searchOf}
 use Rattle.groups.specs.Call.{GroupValues, refusedWith, groupValues, groupCall}
 
 -- 1
-pub call-fault : (ws s : List ℕ) → layoutOf ws ≡ Fault → refusedWith 1 0 ≡ groupCall ws s
-unfolding layoutOf groupCall
-call-fault ws s e = go (parse ws) refl
-  where
-    go : (o : Option Table) → parse ws ≡ o → refusedWith 1 0 ≡ groupCall ws s
-    go none f = rw f
-    go (some t) f = let z : _≡_ {A = ℕ} 0 1 = (let g = rw f at e in cc) in absurd (omega arith)
+pub call-fault : (ws s : List ℕ) → parse ws ≡ none → refusedWith 1 0 ≡ groupCall ws s
+unfolding groupCall
+call-fault ws s e = rw e
 
 module _ (ws s : List ℕ) (ix : Sections) (l : Laid ws ix) where
   -- 3

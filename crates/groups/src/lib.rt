@@ -4,12 +4,13 @@ use layout::layout;
 use limits::MOST_INPUT;
 use sections::Layout;
 use sections::Sections;
+use sections::lookup::in_section;
 use table::lookup::group_at;
-use table::lookup::in_pairs_of;
 ghost use mathlib.Core.Path.{_≡_};
 ghost use Prim.Native.Nat.{_≤_};
 ghost use lib.ListN.{length};
 ghost use Rattle.limits.specs.Limits.{mostInput};
+ghost use Rattle.sections.specs.Known.{GroupsKnown};
 ghost use Rattle.sections.specs.Laid.{Laid};
 ghost use Rattle.table.specs.Layout.{theTable};
 ghost use Rattle.table.specs.GroupPart.{GroupsPart, groupsIn};
@@ -39,8 +40,8 @@ pub enum GroupAnswer {
 }
 
 // The first group of a section that holds every character. A group is left at the first character that it lacks.
-fn group_in(part: &[u32], text: &[u32]) -> GroupSearch
-    requires { ⌜ GroupsPart (now part) ⌝ }
+fn group_in(part: &[u32], sorted: bool, text: &[u32]) -> GroupSearch
+    requires { ⌜ GroupsPart (now part) × GroupsKnown (now part) sorted ⌝ }
     requires { ⌜ length (now text) ≤ mostInput ⌝ }
     ensures { λ r. ⌜ r ≡ searchOf (groupsIn (now (part .entry))) (now (text .entry)) ⌝ }
 {
@@ -55,7 +56,7 @@ fn group_in(part: &[u32], text: &[u32]) -> GroupSearch
         let mut i: usize = 0;
         while i < text.len() {
             asked += 1;
-            if !in_pairs_of(part, group.pairs, text[i]) {
+            if !in_section(part, group.pairs, sorted, text[i]) {
                 continue 'groups;
             }
             i += 1;
@@ -84,7 +85,7 @@ pub fn group_of(words: &[u32], ix: Sections, text: &[u32]) -> GroupSearch
     let s = ix.groups;
     let from = s.from;
     let to = s.to;
-    group_in(&words[from..to], text)
+    group_in(&words[from..to], ix.sorted.groups, text)
 }
 
 // The call: 1, then 3, then the search.

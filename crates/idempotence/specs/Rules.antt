@@ -22,6 +22,7 @@ use Rattle.soundness.specs.Scalars.{scalarsBetween, scalarRanges, scalarHeaded,
 use Rattle.soundness.specs.Valid.{countedFrom, listed, groupCharacters, spellable, rule2, rule3}
 use Rattle.soundness.specs.Sequences.{rule4, rule5}
 use Rattle.soundness.specs.Pairs.{rule6, rule7}
+use Rattle.soundness.specs.QuickCheck.{rule8}
 use Rattle.soundness.specs.Soundness.{lowestBroken, soundnessOf}
 use Rattle.text_laws.specs.Parsed.{Shaped, parsed-shaped}
 use Rattle.text_laws.specs.Rounds.{fully, rounds-cons, rounds-each}
@@ -47,7 +48,7 @@ pub sound-table : (words : List ℕ) → soundnessOf words ≡ none → (t : Tab
 unfolding soundnessOf lowestBroken
 sound-table words sound t laid =
     let unbroken : onSome (some t) lowestBroken (some 0) ≡ none = rw laid at sound in
-    let rules = place-none (λ (rule : Table → Bool). not (rule t)) 1 (rule1 ∷ rule2 ∷ rule3 ∷ rule4 ∷ rule5 ∷ rule6 ∷ rule7 ∷ []) unbroken in
+    let rules = place-none (λ (rule : Table → Bool). not (rule t)) 1 (rule1 ∷ rule2 ∷ rule3 ∷ rule4 ∷ rule5 ∷ rule6 ∷ rule7 ∷ rule8 ∷ []) unbroken in
     record {
       rule-1 = kept (rule1 t) (rules .0);
       rule-2 = kept (rule2 t) (rules .1 .0);
@@ -107,8 +108,9 @@ rule1-parts t h =
     let classes : Bool = all (λ (r : ClassRange). scalarsBetween (r .first) (r .last)) (t .classes) in
     let groups : Bool = all (λ (g : Group). scalarRanges (g .ranges)) (t .groups) in
     let wholes : Bool = all (λ (w : Whole). all isScalar (w .valid ++ w .confused)) (t .wholes) in
-    let to-wholes : (to-exclusions && classes && groups && wholes) ≡ true = both-left (to-exclusions && classes && groups && wholes) (scalarRanges (t .escape)) h in
-    let a : to-exclusions ≡ true = first-of-four to-exclusions classes groups wholes to-wholes in
+    let to-wholes : Bool = to-exclusions && classes && groups && wholes in
+    let w : to-wholes ≡ true = first-of-three to-wholes (scalarRanges (t .escape)) (scalarRanges (t .quickCheck)) h in
+    let a : to-exclusions ≡ true = first-of-four to-exclusions classes groups wholes w in
     let b : (to-decompositions && emoji) ≡ true = both-left (to-decompositions && emoji) (all isScalar (t .exclusions)) a in
     let c : to-nsm ≡ true = first-of-three to-nsm (scalarHeaded (t .mapped)) (scalarHeaded (t .decompositions)) (both-left to-decompositions emoji b) in
     let d : to-fenced ≡ true = first-of-three to-fenced (scalarRanges (t .marks)) (scalarRanges (t .nsm)) c in

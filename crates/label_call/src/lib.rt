@@ -11,10 +11,12 @@ use name::part::label_end;
 use name::part::put_label;
 use one_label::Judgement;
 use one_label::judge_label;
+use quick_asked::ask;
 use scanning::Scanned;
 use scanning::scan;
 use sections::Sections;
-use unpaired::PAIR_WORDS;
+use unpaired::KNOWN_WORDS;
+use unpaired::index::index_pairs;
 ghost use Prim.Native.Nat.{_≤_};
 ghost use lib.ListN.{length};
 ghost use Rattle.limits.specs.Limits.{mostInput, leastWork};
@@ -57,7 +59,9 @@ fn judge_one(
         let at = before_stop(words, ix, &input[..end], w);
         return LabelAnswer::Refused(Refusal::Disallowed(at));
     }
-    let mut unpaired = [0u32; PAIR_WORDS];
+    let mut unpaired = [0u32; KNOWN_WORDS];
+    index_pairs(words, ix, &mut unpaired);
+    ask(words, ix, &mut unpaired, input.len());
     let judged = judge_label(words, ix, input, 0, 0, 0, &mut unpaired, w, memo);
     match judged {
         Judgement::Accepted { length, kind, .. } => {

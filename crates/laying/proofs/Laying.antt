@@ -17,14 +17,16 @@ use Rattle.tokens.specs.Scan as scan
 use Rattle.tokens.specs.Scan.{Step}
 use Rattle.tokens.specs.Tokens.{emoji, text, worked}
 use Rattle.limits.specs.Limits.{mostWorked}
-use Rattle.laying.specs.Laying.{runMarks, nextMark, stepText, stepMarks, stepMark, laid, marksFrom, markAfter, stepEmoji, stepTexts, Laying, PutAt}
+use Rattle.laying.specs.Laying.{runMarks, nextMark, Put, Joins, stepText, stepMarks, stepMark, laid, marksFrom, markAfter, stepEmoji, stepTexts, Laying, PutAt}
 
-pub four-join : (t : Table) (a b : List ℕ) → fourRounds t (a ++ b) ≡ fourRounds t a ++ fourRounds t b
-four-join t a b = rw (← rounds-four t (a ++ b), ← rounds-four t a, ← rounds-four t b) (rounds-join 4 t a b)
-
-pub four-nil : (t : Table) → fourRounds t [] ≡ []
+pub four-joins : (t : Table) → Joins (fourRounds t)
 unfolding fourRounds
-four-nil t = refl
+four-joins t =
+    record { none = refl; join = λ a b. rw (← rounds-four t (a ++ b), ← rounds-four t a, ← rounds-four t b) (rounds-join 4 t a b) }
+
+-- the text as it is
+pub kept-joins : Joins (λ s. s)
+kept-joins = record { none = refl; join = λ a b. refl }
 
 -- the marks of a text in two parts
 later-marks : (n : ℕ) → runMarks 2 2 n ≡ replicate n 2
@@ -49,36 +51,36 @@ any-snoc p [] s = or-false (p s)
 any-snoc p (x ∷ ss) s = rw (any-snoc p ss s) (sym (or-assoc (p x) (any p ss) (p s)))
 
 -- one step more, at the end
-module _ (t : Table) where
-  laid-snoc : (ss : List Step) (s : Step) → laid t (ss ++ s ∷ []) ≡ laid t ss ++ stepText t s
+module _ (put : Put) where
+  pub laid-snoc : (ss : List Step) (s : Step) → laid put (ss ++ s ∷ []) ≡ laid put ss ++ stepText put s
   unfolding laid
-  laid-snoc ss s = rw (joined-append (stepText t) ss (s ∷ []), append-nil (stepText t s))
+  laid-snoc ss s = rw (joined-append (stepText put) ss (s ∷ []), append-nil (stepText put s))
 
-  marks-snoc : (m : ℕ) (ss : List Step) (s : Step) → marksFrom t m (ss ++ s ∷ []) ≡ marksFrom t m ss ++ stepMarks t (markAfter t m ss) s
+  marks-snoc : (m : ℕ) (ss : List Step) (s : Step) → marksFrom put m (ss ++ s ∷ []) ≡ marksFrom put m ss ++ stepMarks put (markAfter put m ss) s
   unfolding marksFrom markAfter
-  marks-snoc m [] s = append-nil (stepMarks t m s)
+  marks-snoc m [] s = append-nil (stepMarks put m s)
   marks-snoc m (x ∷ ss) s =
-      ap (λ (r : List ℕ). stepMarks t m x ++ r) (marks-snoc (stepMark t m x) ss s)
-      ∙ sym (append-assoc (stepMarks t m x) (marksFrom t (stepMark t m x) ss) (stepMarks t (markAfter t (stepMark t m x) ss) s))
+      ap (λ (r : List ℕ). stepMarks put m x ++ r) (marks-snoc (stepMark put m x) ss s)
+      ∙ sym (append-assoc (stepMarks put m x) (marksFrom put (stepMark put m x) ss) (stepMarks put (markAfter put (stepMark put m x) ss) s))
 
-  mark-snoc : (m : ℕ) (ss : List Step) (s : Step) → markAfter t m (ss ++ s ∷ []) ≡ stepMark t (markAfter t m ss) s
+  mark-snoc : (m : ℕ) (ss : List Step) (s : Step) → markAfter put m (ss ++ s ∷ []) ≡ stepMark put (markAfter put m ss) s
   unfolding markAfter
   mark-snoc m [] s = refl
-  mark-snoc m (x ∷ ss) s = mark-snoc (stepMark t m x) ss s
+  mark-snoc m (x ∷ ss) s = mark-snoc (stepMark put m x) ss s
 
-  pub laying-start : (w : List ℕ) → Laying t [] (record { worked = 0; emoji = false; text = false; mark = 1 }) w
+  pub laying-start : (w : List ℕ) → Laying put [] (record { worked = 0; emoji = false; text = false; mark = 1 }) w
   unfolding laid marksFrom markAfter
   laying-start w =
       record { over = λ h. absurd (omega arith); worked = λ h. refl; emoji = refl; text = refl; mark = λ h. refl; words = λ h. refl; marks = λ h. refl }
 
   -- one step more, where the codepoints so far are not over
-  pub laying-step : (ss : List Step) (run : Run) (w w′ : List ℕ) (s : Step) (r : Run) → Laying t ss run w → run .worked ≤ mostWorked
-      → PutAt w w′ (run .worked) (stepText t s) (stepMarks t (run .mark) s) (r .worked)
-      → r .emoji ≡ (run .emoji || stepEmoji s) → r .text ≡ (run .text || stepTexts s) → r .mark ≡ stepMark t (run .mark) s
-      → Laying t (ss ++ s ∷ []) r w′
+  pub laying-step : (ss : List Step) (run : Run) (w w′ : List ℕ) (s : Step) (r : Run) → Laying put ss run w → run .worked ≤ mostWorked
+      → PutAt w w′ (run .worked) (stepText put s) (stepMarks put (run .mark) s) (r .worked)
+      → r .emoji ≡ (run .emoji || stepEmoji s) → r .text ≡ (run .text || stepTexts s) → r .mark ≡ stepMark put (run .mark) s
+      → Laying put (ss ++ s ∷ []) r w′
   laying-step ss run w w′ s r l few p e x m =
-      let count : r .worked ≡ length (laid t (ss ++ s ∷ [])) =
-      rw (laid-snoc ss s, length-append (laid t ss) (stepText t s), ← l .worked few) (p .end) in
+      let count : r .worked ≡ length (laid put (ss ++ s ∷ [])) =
+      rw (laid-snoc ss s, length-append (laid put ss) (stepText put s), ← l .worked few) (p .end) in
       record {
         over = λ h. omega arith;
         worked = λ h. count;
@@ -90,13 +92,13 @@ module _ (t : Table) where
       }
 
   -- one step more, where they are
-  pub laying-over : (ss : List Step) (run : Run) (w w′ : List ℕ) (s : Step) (r : Run) → Laying t ss run w → mostWorked < run .worked
+  pub laying-over : (ss : List Step) (run : Run) (w w′ : List ℕ) (s : Step) (r : Run) → Laying put ss run w → mostWorked < run .worked
       → r .worked ≡ run .worked → r .emoji ≡ (run .emoji || stepEmoji s) → r .text ≡ (run .text || stepTexts s)
-      → Laying t (ss ++ s ∷ []) r w′
+      → Laying put (ss ++ s ∷ []) r w′
   laying-over ss run w w′ s r l h n e x =
-      let long : length (laid t (ss ++ s ∷ [])) ≡ length (laid t ss) + length (stepText t s) =
-      rw (laid-snoc ss s) (length-append (laid t ss) (stepText t s)) in
-      let more : mostWorked < length (laid t ss) = l .over h in
+      let long : length (laid put (ss ++ s ∷ [])) ≡ length (laid put ss) + length (stepText put s) =
+      rw (laid-snoc ss s) (length-append (laid put ss) (stepText put s)) in
+      let more : mostWorked < length (laid put ss) = l .over h in
       record {
         over = λ k. omega arith;
         worked = λ k. absurd (omega arith);
@@ -112,15 +114,15 @@ emoji-marks zero = refl
 emoji-marks (suc n) = refl
 
 -- two lists of steps that lay the same down
-record Alike (t : Table) (ss ss′ : List Step) : Type 0 where
-  words : laid t ss ≡ laid t ss′
+record Alike (put : Put) (ss ss′ : List Step) : Type 0 where
+  words : laid put ss ≡ laid put ss′
   emoji : any stepEmoji ss ≡ any stepEmoji ss′
   text : any stepTexts ss ≡ any stepTexts ss′
-  mark : markAfter t 1 ss ≡ markAfter t 1 ss′
-  marks : marksFrom t 1 ss ≡ marksFrom t 1 ss′
+  mark : markAfter put 1 ss ≡ markAfter put 1 ss′
+  marks : marksFrom put 1 ss ≡ marksFrom put 1 ss′
 
-laying-alike : (t : Table) (ss ss′ : List Step) (run : Run) (w : List ℕ) → Alike t ss ss′ → Laying t ss run w → Laying t ss′ run w
-laying-alike t ss ss′ run w a l =
+laying-alike : (put : Put) (ss ss′ : List Step) (run : Run) (w : List ℕ) → Alike put ss ss′ → Laying put ss run w → Laying put ss′ run w
+laying-alike put ss ss′ run w a l =
     record {
       over = λ h. rw (← a .words) (l .over h);
       worked = λ h. l .worked h ∙ ap length (a .words);
@@ -135,91 +137,100 @@ some-joined : (a b : List ℕ) → (not (isEmpty a) || not (isEmpty b)) ≡ not 
 some-joined [] b = refl
 some-joined (c ∷ a) b = refl
 
-module _ (t : Table) (ss : List Step) where
+module _ (put : Put) (joins : Joins put) (ss : List Step) where
   -- no text at all
-  none-alike : Alike t ss (ss ++ scan.text [] ∷ [])
+  none-alike : Alike put ss (ss ++ scan.text [] ∷ [])
   unfolding stepText stepMarks stepMark
   none-alike =
       record {
-        words = rw (laid-snoc t ss (scan.text [])) (sym (append-nil (laid t ss)));
+        words = rw (laid-snoc put ss (scan.text []), joins .none) (sym (append-nil (laid put ss)));
         emoji = rw (any-snoc stepEmoji ss (scan.text [])) (sym (or-false (any stepEmoji ss)));
         text = rw (any-snoc stepTexts ss (scan.text [])) (sym (or-false (any stepTexts ss)));
-        mark = sym (mark-snoc t 1 ss (scan.text []));
-        marks = rw (marks-snoc t 1 ss (scan.text [])) (sym (append-nil (marksFrom t 1 ss)));
+        mark = rw (mark-snoc put 1 ss (scan.text []), joins .none);
+        marks = rw (marks-snoc put 1 ss (scan.text []), joins .none) (sym (append-nil (marksFrom put 1 ss)));
       }
 
   -- text in two steps is text in one
-  join-alike : (a b : List ℕ) → Alike t ((ss ++ scan.text a ∷ []) ++ scan.text b ∷ []) (ss ++ scan.text (a ++ b) ∷ [])
+  join-alike : (a b : List ℕ) → Alike put ((ss ++ scan.text a ∷ []) ++ scan.text b ∷ []) (ss ++ scan.text (a ++ b) ∷ [])
   unfolding stepText stepMarks stepMark
   join-alike a b =
       let s : List Step = ss ++ scan.text a ∷ [] in
-      let m : ℕ = markAfter t 1 ss in
-      let ra : List ℕ = fourRounds t a in
-      let rb : List ℕ = fourRounds t b in
-      let n : length (fourRounds t (a ++ b)) ≡ length ra + length rb = rw (four-join t a b) (length-append ra rb) in
-      let mark : markAfter t 1 s ≡ nextMark m (length ra) = mark-snoc t 1 ss (scan.text a) in
+      let m : ℕ = markAfter put 1 ss in
+      let ra : List ℕ = put a in
+      let rb : List ℕ = put b in
+      let n : length (put (a ++ b)) ≡ length ra + length rb = rw (joins .join a b) (length-append ra rb) in
+      let mark : markAfter put 1 s ≡ nextMark m (length ra) = mark-snoc put 1 ss (scan.text a) in
       record {
         words =
-            rw (laid-snoc t s (scan.text b), laid-snoc t ss (scan.text a), laid-snoc t ss (scan.text (a ++ b)), four-join t a b)
-            (append-assoc (laid t ss) ra rb);
+            rw (laid-snoc put s (scan.text b), laid-snoc put ss (scan.text a), laid-snoc put ss (scan.text (a ++ b)), joins .join a b)
+            (append-assoc (laid put ss) ra rb);
         emoji =
             rw (any-snoc stepEmoji s (scan.text b), any-snoc stepEmoji ss (scan.text a), any-snoc stepEmoji ss (scan.text (a ++ b)))
             (or-false (any stepEmoji ss || false));
         text =
             rw (any-snoc stepTexts s (scan.text b), any-snoc stepTexts ss (scan.text a), any-snoc stepTexts ss (scan.text (a ++ b)), ← some-joined a b)
             (or-assoc (any stepTexts ss) (not (isEmpty a)) (not (isEmpty b)));
-        mark = rw (mark-snoc t 1 s (scan.text b), mark, mark-snoc t 1 ss (scan.text (a ++ b)), n) (sym (next-join m (length ra) (length rb)));
+        mark = rw (mark-snoc put 1 s (scan.text b), mark, mark-snoc put 1 ss (scan.text (a ++ b)), n) (sym (next-join m (length ra) (length rb)));
         marks =
-            rw (marks-snoc t 1 s (scan.text b), mark, marks-snoc t 1 ss (scan.text a), marks-snoc t 1 ss (scan.text (a ++ b)), n, marks-join m (length ra) (length rb))
-            (append-assoc (marksFrom t 1 ss) (runMarks m 2 (length ra)) (runMarks (nextMark m (length ra)) 2 (length rb)));
+            rw (marks-snoc put 1 s (scan.text b), mark, marks-snoc put 1 ss (scan.text a), marks-snoc put 1 ss (scan.text (a ++ b)), n, marks-join m (length ra) (length rb))
+            (append-assoc (marksFrom put 1 ss) (runMarks m 2 (length ra)) (runMarks (nextMark m (length ra)) 2 (length rb)));
       }
 
-  pub laying-empty : (run : Run) (w : List ℕ) → Laying t ss run w → Laying t (ss ++ scan.text [] ∷ []) run w
-  laying-empty run w l = laying-alike t ss (ss ++ scan.text [] ∷ []) run w none-alike l
+  -- what is laid down with no text more, and with a text more
+  pub laid-none : laid put (ss ++ scan.text [] ∷ []) ≡ laid put ss
+  laid-none = sym (none-alike .words)
+
+  pub laid-text : (a b : List ℕ) → laid put (ss ++ scan.text (a ++ b) ∷ []) ≡ laid put (ss ++ scan.text a ∷ []) ++ put b
+  unfolding stepText
+  laid-text a b = sym (join-alike a b .words) ∙ laid-snoc put (ss ++ scan.text a ∷ []) (scan.text b)
+
+  pub laying-empty : (run : Run) (w : List ℕ) → Laying put ss run w → Laying put (ss ++ scan.text [] ∷ []) run w
+  laying-empty run w l = laying-alike put ss (ss ++ scan.text [] ∷ []) run w none-alike l
 
   -- one codepoint of text more
-  module _ (a : List ℕ) (run : Run) (w w′ : List ℕ) (c : ℕ) (r : Run) (l : Laying t (ss ++ scan.text a ∷ []) run w) where
-    one-more : Laying t ((ss ++ scan.text a ∷ []) ++ scan.text (c ∷ []) ∷ []) r w′ → Laying t (ss ++ scan.text (a ++ c ∷ []) ∷ []) r w′
+  module _ (a : List ℕ) (run : Run) (w w′ : List ℕ) (c : ℕ) (r : Run) (l : Laying put (ss ++ scan.text a ∷ []) run w) where
+    one-more : Laying put ((ss ++ scan.text a ∷ []) ++ scan.text (c ∷ []) ∷ []) r w′ → Laying put (ss ++ scan.text (a ++ c ∷ []) ∷ []) r w′
     one-more m =
-        laying-alike t ((ss ++ scan.text a ∷ []) ++ scan.text (c ∷ []) ∷ []) (ss ++ scan.text (a ++ c ∷ []) ∷ []) r w′ (join-alike a (c ∷ [])) m
+        laying-alike put ((ss ++ scan.text a ∷ []) ++ scan.text (c ∷ []) ∷ []) (ss ++ scan.text (a ++ c ∷ []) ∷ []) r w′ (join-alike a (c ∷ [])) m
 
     pub laying-text : run .worked ≤ mostWorked
-        → PutAt w w′ (run .worked) (fourRounds t (c ∷ [])) (runMarks (run .mark) 2 (length (fourRounds t (c ∷ [])))) (r .worked)
-        → r .emoji ≡ run .emoji → r .text ≡ true → r .mark ≡ nextMark (run .mark) (length (fourRounds t (c ∷ [])))
-        → Laying t (ss ++ scan.text (a ++ c ∷ []) ∷ []) r w′
+        → PutAt w w′ (run .worked) (put (c ∷ [])) (runMarks (run .mark) 2 (length (put (c ∷ [])))) (r .worked)
+        → r .emoji ≡ run .emoji → r .text ≡ true → r .mark ≡ nextMark (run .mark) (length (put (c ∷ [])))
+        → Laying put (ss ++ scan.text (a ++ c ∷ []) ∷ []) r w′
     unfolding stepText stepMarks stepMark
     laying-text few p e x m =
         one-more
-        (laying-step t (ss ++ scan.text a ∷ []) run w w′ (scan.text (c ∷ [])) r l few p (e ∙ sym (or-false (run .emoji))) (x ∙ sym (or-true (run .text))) m)
+        (laying-step put (ss ++ scan.text a ∷ []) run w w′ (scan.text (c ∷ [])) r l few p (e ∙ sym (or-false (run .emoji))) (x ∙ sym (or-true (run .text))) m)
 
     pub laying-text-over : mostWorked < run .worked → r .worked ≡ run .worked → r .emoji ≡ run .emoji → r .text ≡ true
-        → Laying t (ss ++ scan.text (a ++ c ∷ []) ∷ []) r w′
+        → Laying put (ss ++ scan.text (a ++ c ∷ []) ∷ []) r w′
     laying-text-over h n e x =
         one-more
-        (laying-over t (ss ++ scan.text a ∷ []) run w w′ (scan.text (c ∷ [])) r l h n (e ∙ sym (or-false (run .emoji))) (x ∙ sym (or-true (run .text))))
+        (laying-over put (ss ++ scan.text a ∷ []) run w w′ (scan.text (c ∷ [])) r l h n (e ∙ sym (or-false (run .emoji))) (x ∙ sym (or-true (run .text))))
 
-  module _ (run : Run) (w w′ : List ℕ) (f : Found) (r : Run) (l : Laying t ss run w) (e : r .emoji ≡ true) (x : r .text ≡ run .text) where
+module _ (put : Put) (ss : List Step) where
+  module _ (run : Run) (w w′ : List ℕ) (f : Found) (r : Run) (l : Laying put ss run w) (e : r .emoji ≡ true) (x : r .text ≡ run .text) where
     pub laying-emoji : run .worked ≤ mostWorked → PutAt w w′ (run .worked) (f .stripped) (runMarks 0 0 (length (f .stripped))) (r .worked)
-        → r .mark ≡ 1 → Laying t (ss ++ scan.emoji f ∷ []) r w′
+        → r .mark ≡ 1 → Laying put (ss ++ scan.emoji f ∷ []) r w′
     unfolding stepText stepMarks stepMark
     laying-emoji few p m =
-        laying-step t ss run w w′ (scan.emoji f) r l few (rw (emoji-marks (length (f .stripped))) at p)
+        laying-step put ss run w w′ (scan.emoji f) r l few (rw (emoji-marks (length (f .stripped))) at p)
         (e ∙ sym (or-true (run .emoji))) (x ∙ sym (or-false (run .text))) m
 
-    pub laying-emoji-over : mostWorked < run .worked → r .worked ≡ run .worked → Laying t (ss ++ scan.emoji f ∷ []) r w′
+    pub laying-emoji-over : mostWorked < run .worked → r .worked ≡ run .worked → Laying put (ss ++ scan.emoji f ∷ []) r w′
     laying-emoji-over h n =
-        laying-over t ss run w w′ (scan.emoji f) r l h n (e ∙ sym (or-true (run .emoji))) (x ∙ sym (or-false (run .text)))
+        laying-over put ss run w w′ (scan.emoji f) r l h n (e ∙ sym (or-true (run .emoji))) (x ∙ sym (or-false (run .text)))
 
-  ignored-alike : Alike t ss (ss ++ scan.ignored ∷ [])
+  ignored-alike : Alike put ss (ss ++ scan.ignored ∷ [])
   unfolding stepText stepMarks stepMark
   ignored-alike =
       record {
-        words = rw (laid-snoc t ss scan.ignored) (sym (append-nil (laid t ss)));
+        words = rw (laid-snoc put ss scan.ignored) (sym (append-nil (laid put ss)));
         emoji = rw (any-snoc stepEmoji ss scan.ignored) (sym (or-false (any stepEmoji ss)));
         text = rw (any-snoc stepTexts ss scan.ignored) (sym (or-false (any stepTexts ss)));
-        mark = sym (mark-snoc t 1 ss scan.ignored);
-        marks = rw (marks-snoc t 1 ss scan.ignored) (sym (append-nil (marksFrom t 1 ss)));
+        mark = sym (mark-snoc put 1 ss scan.ignored);
+        marks = rw (marks-snoc put 1 ss scan.ignored) (sym (append-nil (marksFrom put 1 ss)));
       }
 
-  pub laying-ignored : (run : Run) (w : List ℕ) → Laying t ss run w → Laying t (ss ++ scan.ignored ∷ []) run w
-  laying-ignored run w l = laying-alike t ss (ss ++ scan.ignored ∷ []) run w ignored-alike l
+  pub laying-ignored : (run : Run) (w : List ℕ) → Laying put ss run w → Laying put (ss ++ scan.ignored ∷ []) run w
+  laying-ignored run w l = laying-alike put ss (ss ++ scan.ignored ∷ []) run w ignored-alike l

@@ -92,13 +92,15 @@ module _ (ws w : List ℕ) (s : Span) (run : Run) where
       let p = put-both w out (run .worked) end (strip (within s ws)) big a w₂ 0 0 m in
       record {
         same = p .same;
-        lays = λ t ss f e l.
-            laying-emoji t ss run w w₂ f (record { worked = end; emoji = true; text = run .text; mark = 1 }) l refl refl few (rw e p) refl;
+        grows = omega (arith, p .end);
+        lays = λ put ss f e l.
+            laying-emoji put ss run w w₂ f (record { worked = end; emoji = true; text = run .text; mark = 1 }) l refl refl few (rw e p) refl;
       }
 
   pub emoji-over : mostWorked < run .worked → EmojiPut ws w w s run (record { worked = run .worked; emoji = true; text = run .text; mark = 1 })
   emoji-over h =
       record {
         same = refl;
-        lays = λ t ss f e l. laying-emoji-over t ss run w w f (record { worked = run .worked; emoji = true; text = run .text; mark = 1 }) l refl refl h refl;
+        grows = omega arith;
+        lays = λ put ss f e l. laying-emoji-over put ss run w w f (record { worked = run .worked; emoji = true; text = run .text; mark = 1 }) l refl refl h refl;
       }

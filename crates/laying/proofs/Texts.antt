@@ -16,7 +16,7 @@ use Rattle.laying.specs.declared.Run.{Run}
 use Rattle.tokens.specs.Scan.{Step, text}
 use Rattle.laying.specs.Laying.{nextMark, Laying, MarksPut, TextPut, ItemsPut}
 use Rattle.laying.proofs.Marking.{put-both}
-use Rattle.laying.proofs.Laying.{laying-empty, laying-text, laying-text-over}
+use Rattle.laying.proofs.Laying.{four-joins, laying-empty, laying-text, laying-text-over}
 
 pub next-some : (m n : ℕ) → (n ≡ 0 → ⊥) → 2 ≡ nextMark m n
 next-some m zero h = absurd (h refl)
@@ -41,14 +41,14 @@ module _ (t : Table) (c : ℕ) (w : List ℕ) (run : Run) where
       record {
         same = p .same;
         lays = λ ss a l.
-            laying-text t ss a run w w₂ c (record { worked = end; emoji = run .emoji; text = true; mark = mark }) l few p refl refl (rw e at n);
+            laying-text (fourRounds t) (four-joins t) ss a run w w₂ c (record { worked = end; emoji = run .emoji; text = true; mark = mark }) l few p refl refl (rw e at n);
       }
 
   pub text-over : mostWorked < run .worked → TextPut t w w c run (record { worked = run .worked; emoji = run .emoji; text = true; mark = run .mark })
   text-over h =
       record {
         same = refl;
-        lays = λ ss a l. laying-text-over t ss a run w w c (record { worked = run .worked; emoji = run .emoji; text = true; mark = run .mark }) l h refl refl refl;
+        lays = λ ss a l. laying-text-over (fourRounds t) (four-joins t) ss a run w w c (record { worked = run .worked; emoji = run .emoji; text = true; mark = run .mark }) l h refl refl refl;
       }
 
 -- the items from `from` up to i are laid down
@@ -56,7 +56,17 @@ pub record Itemed (t : Table) (ws w₀ : List ℕ) (from to : ℕ) (run : Run) (
   pub low : from ≤ i
   pub high : i ≤ to
   pub same : length w ≡ length w₀
-  pub lays : (ss : List Step) → Laying t ss run w₀ → Laying t (ss ++ text (take (i - from) (drop from ws)) ∷ []) r w
+  pub lays : (ss : List Step) → Laying (fourRounds t) ss run w₀ → Laying (fourRounds t) (ss ++ text (take (i - from) (drop from ws)) ∷ []) r w
+
+-- one item more
+pub items-next : (ws : List ℕ) (from i to : ℕ) → to ≤ length ws → from ≤ i → i < to → take (i + 1 - from) (drop from ws) ≡ take (i - from) (drop from ws) ++ getD ws i 0 ∷ []
+items-next ws from i to room low h =
+    let k : ℕ = i - from in
+    let e : i + 1 - from ≡ suc k = omega arith in
+    let at : from + k ≡ i = omega arith in
+    let fits : k < length (drop from ws) = simp length-drop (omega arith) in
+    let c : getD (drop from ws) k 0 ≡ getD ws i 0 = getD-drop from ws k 0 ∙ ap (λ (j : ℕ). getD ws j 0) at in
+    rw (e, take-suc (drop from ws) k 0 fits, c)
 
 module _ (t : Table) (ws w₀ : List ℕ) (s : Span) (run : Run) where
   pub items-start : s .from < s .to → Itemed t ws w₀ (s .from) (s .to) run w₀ run (s .from)
@@ -66,25 +76,17 @@ module _ (t : Table) (ws w₀ : List ℕ) (s : Span) (run : Run) where
         low = omega arith;
         high = omega arith;
         same = refl;
-        lays = λ ss l. rw e (laying-empty t ss run w₀ l);
+        lays = λ ss l. rw e (laying-empty (fourRounds t) (four-joins t) ss run w₀ l);
       }
 
   pub items-more : (w w′ : List ℕ) (r r′ : Run) (i : ℕ) → s .to ≤ length ws → Itemed t ws w₀ (s .from) (s .to) run w r i → i < s .to
       → TextPut t w w′ (getD ws i 0) r r′ → Itemed t ws w₀ (s .from) (s .to) run w′ r′ (i + 1)
   items-more w w′ r r′ i room p h q =
-      let from : ℕ = s .from in
-      let k : ℕ = i - from in
-      let e : i + 1 - from ≡ suc k = omega (arith, p .low) in
-      let at : from + k ≡ i = omega (arith, p .low) in
-      let fits : k < length (drop from ws) = simp length-drop (omega (arith, p .low)) in
-      let c : getD (drop from ws) k 0 ≡ getD ws i 0 = getD-drop from ws k 0 ∙ ap (λ (j : ℕ). getD ws j 0) at in
-      let next : take (i + 1 - from) (drop from ws) ≡ take k (drop from ws) ++ getD ws i 0 ∷ [] =
-      rw (e, take-suc (drop from ws) k 0 fits, c) in
       record {
         low = omega (arith, p .low);
         high = omega arith;
         same = q .same ∙ p .same;
-        lays = λ ss l. rw next (q .lays ss (take k (drop from ws)) (p .lays ss l));
+        lays = λ ss l. rw (items-next ws (s .from) i (s .to) room (p .low) h) (q .lays ss (take (i - s .from) (drop (s .from) ws)) (p .lays ss l));
       }
 
   pub items-stop : (w : List ℕ) (r : Run) (i : ℕ) → Itemed t ws w₀ (s .from) (s .to) run w r i → s .to ≤ i → ItemsPut t w₀ w (within s ws) run r

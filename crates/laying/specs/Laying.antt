@@ -25,43 +25,48 @@ abbrev pub nextMark : ℕ → ℕ → ℕ
 nextMark m zero = m
 nextMark m (suc n) = 2
 
--- the codepoints of a step, its text decomposed
-unfoldable pub stepText : Table → Step → List ℕ
-unfolding fourRounds
-stepText t (emoji f) = f .stripped
-stepText t (text s) = fourRounds t s
-stepText t ignored = []
-stepText t disallowed = []
+-- what is put for a text, codepoint by codepoint: its full decomposition, not yet in order, or the text as it is
+abbrev pub Put : Type 0
+Put = List ℕ → List ℕ
+
+pub record Joins (put : Put) : Type 0 where
+  pub none : put [] ≡ []
+  pub join : (a b : List ℕ) → put (a ++ b) ≡ put a ++ put b
+
+-- the codepoints of a step
+unfoldable pub stepText : Put → Step → List ℕ
+stepText put (emoji f) = f .stripped
+stepText put (text s) = put s
+stepText put ignored = []
+stepText put disallowed = []
 
 -- the marks of a step, where m is the mark of the next codepoint of text, and that mark behind the step
-unfoldable pub stepMarks : Table → ℕ → Step → List ℕ
-unfolding fourRounds
-stepMarks t m (emoji f) = replicate (length (f .stripped)) 0
-stepMarks t m (text s) = runMarks m 2 (length (fourRounds t s))
-stepMarks t m ignored = []
-stepMarks t m disallowed = []
+unfoldable pub stepMarks : Put → ℕ → Step → List ℕ
+stepMarks put m (emoji f) = replicate (length (f .stripped)) 0
+stepMarks put m (text s) = runMarks m 2 (length (put s))
+stepMarks put m ignored = []
+stepMarks put m disallowed = []
 
-unfoldable pub stepMark : Table → ℕ → Step → ℕ
-unfolding fourRounds
-stepMark t m (emoji f) = 1
-stepMark t m (text s) = nextMark m (length (fourRounds t s))
-stepMark t m ignored = m
-stepMark t m disallowed = m
+unfoldable pub stepMark : Put → ℕ → Step → ℕ
+stepMark put m (emoji f) = 1
+stepMark put m (text s) = nextMark m (length (put s))
+stepMark put m ignored = m
+stepMark put m disallowed = m
 
 -- the codepoints of the steps, their marks, and the mark of the next codepoint of text
-unfoldable pub laid : Table → List Step → List ℕ
+unfoldable pub laid : Put → List Step → List ℕ
 unfolding stepText
-laid t ss = joinedMap (stepText t) ss
+laid put ss = joinedMap (stepText put) ss
 
-unfoldable pub marksFrom : Table → ℕ → List Step → List ℕ
+unfoldable pub marksFrom : Put → ℕ → List Step → List ℕ
 unfolding stepMarks stepMark
-marksFrom t m [] = []
-marksFrom t m (s ∷ ss) = stepMarks t m s ++ marksFrom t (stepMark t m s) ss
+marksFrom put m [] = []
+marksFrom put m (s ∷ ss) = stepMarks put m s ++ marksFrom put (stepMark put m s) ss
 
-unfoldable pub markAfter : Table → ℕ → List Step → ℕ
+unfoldable pub markAfter : Put → ℕ → List Step → ℕ
 unfolding stepMark
-markAfter t m [] = m
-markAfter t m (s ∷ ss) = markAfter t (stepMark t m s) ss
+markAfter put m [] = m
+markAfter put m (s ∷ ss) = markAfter put (stepMark put m s) ss
 
 abbrev pub stepEmoji : Step → Bool
 stepEmoji (emoji f) = true
@@ -77,14 +82,14 @@ stepTexts disallowed = false
 
 -- The steps are laid down so: their number of codepoints, or that they are over the limit; whether there are emoji and text; and, unless they
 -- are over, the mark of the next codepoint of text, the codepoints and the marks.
-pub record Laying (t : Table) (ss : List Step) (run : Run) (w : List ℕ) : Type 0 where
-  pub over : mostWorked < run .worked → mostWorked < length (laid t ss)
-  pub worked : run .worked ≤ mostWorked → run .worked ≡ length (laid t ss)
+pub record Laying (put : Put) (ss : List Step) (run : Run) (w : List ℕ) : Type 0 where
+  pub over : mostWorked < run .worked → mostWorked < length (laid put ss)
+  pub worked : run .worked ≤ mostWorked → run .worked ≡ length (laid put ss)
   pub emoji : run .emoji ≡ any stepEmoji ss
   pub text : run .text ≡ any stepTexts ss
-  pub mark : run .worked ≤ mostWorked → run .mark ≡ markAfter t 1 ss
-  pub words : run .worked ≤ mostWorked → take (run .worked) w ≡ laid t ss
-  pub marks : run .worked ≤ mostWorked → take (run .worked) (drop mostWorked w) ≡ marksFrom t 1 ss
+  pub mark : run .worked ≤ mostWorked → run .mark ≡ markAfter put 1 ss
+  pub words : run .worked ≤ mostWorked → take (run .worked) w ≡ laid put ss
+  pub marks : run .worked ≤ mostWorked → take (run .worked) (drop mostWorked w) ≡ marksFrom put 1 ss
 
 -- s and its marks are put behind the first n codepoints, as long as there is room; r is the place behind them. Past the limit the words are
 -- open.
@@ -105,14 +110,15 @@ pub record MarksPut (w w′ : List ℕ) (from to first later : ℕ) : Type 0 whe
 -- an emoji is laid down; words beyond the cells are open here and below
 pub record EmojiPut (ws w w′ : List ℕ) (s : Span) (run r : Run) : Type 0 where
   pub same : length w′ ≡ length w
-  pub lays : (t : Table) (ss : List Step) (f : Found) → f .stripped ≡ strip (within s ws) → Laying t ss run w → Laying t (ss ++ emoji f ∷ []) r w′
+  pub grows : run .worked ≤ r .worked
+  pub lays : (put : Put) (ss : List Step) (f : Found) → f .stripped ≡ strip (within s ws) → Laying put ss run w → Laying put (ss ++ emoji f ∷ []) r w′
 
 -- one codepoint of text more is laid down, decomposed
 pub record TextPut (t : Table) (w w′ : List ℕ) (c : ℕ) (run r : Run) : Type 0 where
   pub same : length w′ ≡ length w
-  pub lays : (ss : List Step) (a : List ℕ) → Laying t (ss ++ text a ∷ []) run w → Laying t (ss ++ text (a ++ c ∷ []) ∷ []) r w′
+  pub lays : (ss : List Step) (a : List ℕ) → Laying (fourRounds t) (ss ++ text a ∷ []) run w → Laying (fourRounds t) (ss ++ text (a ++ c ∷ []) ∷ []) r w′
 
 -- a text is laid down, decomposed
 pub record ItemsPut (t : Table) (w w′ : List ℕ) (s : List ℕ) (run r : Run) : Type 0 where
   pub same : length w′ ≡ length w
-  pub lays : (ss : List Step) → Laying t ss run w → Laying t (ss ++ text s ∷ []) r w′
+  pub lays : (ss : List Step) → Laying (fourRounds t) ss run w → Laying (fourRounds t) (ss ++ text s ∷ []) r w′

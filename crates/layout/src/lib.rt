@@ -1,11 +1,21 @@
-// The layout pass: finds the thirteen sections among the words of a table and sees that each of them is well formed.
+// The layout pass: finds the fourteen sections among the words of a table and sees that each of them is well formed.
 
+use firsts::firsts_order;
+use halving::Order;
+use halving::items_rise;
+use halving::pairs_order;
+use halving::triples_order;
+use heads::Marks;
+use heads::heads_order;
+use heads::no_marks;
 use sections::Layout;
 use sections::Sections;
+use sections::Sorted;
+use sections::Starts;
 use table::Span;
 
-// 02, Item 9: "allows 131,073 words"
-const MOST_WORDS: usize = 131073;
+// 02, Item 11: "allows 131,074 words"
+const MOST_WORDS: usize = 131074;
 
 // "Items per record: mapped and emoji 1 to 32, decomposition 1 to 4; at most 256 groups"
 const MOST_ITEMS: usize = 32;
@@ -14,19 +24,71 @@ const MOST_PARTS: usize = 4;
 
 const MOST_GROUPS: usize = 256;
 
-// "a class at most 255, flags at most 3"
-const MOST_CLASS: u32 = 255;
-
+// "flags at most 3"
 const MOST_FLAGS: u32 = 3;
 
 ghost use Prim.Native.Nat.{_≤_};
 ghost use mathlib.Core.Path.{_≡_};
-ghost use mathlib.Core.Bool.{_&&_};
+ghost use mathlib.Core.Bool.{not};
 ghost use Rattle.lists.specs.Lists.{isSome};
-ghost use Rattle.table.specs.Layout.{mostGroups, excluded, tableOf};
+ghost use Rattle.table.specs.Layout.{mostItems, mostGroups, ranges, classRanges, excluded};
 ghost use Rattle.table.specs.Spans.{within, Fits};
-ghost use Rattle.sections.specs.Laid.{spanAt, sectionsOf, AllFit, layoutOf, partsOf};
-ghost use Rattle.layout.specs.Walk.{countedSize, pairSize, tripleSize, headedSize, sequenceSize, wholeSize, recordSize, fitsAs, groupSize, groupsWithin};
+ghost use Rattle.table.specs.GroupPart.{groupsIn};
+ghost use Rattle.halving.specs.Order.{isFault, isSorted};
+ghost use Rattle.halving.specs.Halving.{Apart};
+ghost use Rattle.sections.specs.Known.{noneSorted, noStarts, behindCount, GroupsApart};
+ghost use Rattle.sections.specs.Laid.{spanAt, sectionsOf, AllFit, LaidOut};
+ghost use Rattle.layout.specs.Walk.{wholeSize, wholesFit, GroupSized, groupsWithin};
+ghost use Rattle.layout.specs.Seeing.{Sees, SeesHeads, SeesFirsts, SetsFound, OthersFound, allFit, sortedOf, startsOf, foundOf};
+
+// What is seen of a section: whether it is well formed, and whether it is sorted.
+struct Seen {
+    fits: bool,
+    sorted: bool,
+}
+
+// The same of a section of records with heads, and places in it.
+struct HeadsSeen {
+    fits: bool,
+    sorted: bool,
+    marks: Marks,
+}
+
+// The same of the section of emoji sequences, and the numbers of the records at those places.
+struct FirstsSeen {
+    fits: bool,
+    sorted: bool,
+    places: Marks,
+    numbers: Marks,
+}
+
+// The number of words of a group, or 0 where there is none, and whether its pairs are sorted.
+struct GroupSeen {
+    size: usize,
+    sorted: bool,
+}
+
+// What is seen of the sections of pairs.
+struct Sets {
+    valid: Seen,
+    ignored: Seen,
+    fenced: Seen,
+    marks: Seen,
+    nsm: Seen,
+    escape: Seen,
+    quick: Seen,
+}
+
+// What is seen of the others.
+struct Others {
+    mapped: HeadsSeen,
+    decompositions: HeadsSeen,
+    emoji: FirstsSeen,
+    exclusions: Seen,
+    classes: Seen,
+    groups: Seen,
+    wholes: bool,
+}
 
 // The section whose count stands at `at`; where there is none, an empty one past the end of the words.
 fn span_at(words: &[u32], at: usize) -> Span
@@ -49,6 +111,39 @@ fn span_at(words: &[u32], at: usize) -> Span
     }
 }
 
+// Nothing is found yet.
+fn none_sorted() -> Sorted
+    ensures { λ r. ⌜ r ≡ noneSorted ⌝ }
+{
+    Sorted {
+        valid: false,
+        ignored: false,
+        fenced: false,
+        marks: false,
+        nsm: false,
+        mapped: false,
+        decompositions: false,
+        emoji: false,
+        exclusions: false,
+        classes: false,
+        groups: false,
+        escape: false,
+        quick: false,
+    }
+}
+
+fn no_starts() -> Starts
+    ensures { λ r. ⌜ r ≡ noStarts ⌝ }
+{
+    let none = no_marks();
+    Starts {
+        mapped: none,
+        decompositions: none,
+        emoji: none,
+        numbers: none,
+    }
+}
+
 // The places of the sections, one behind the other.
 fn places(words: &[u32]) -> Sections
     ensures { λ r. ⌜ r ≡ sectionsOf (now (words .entry)) ⌝ }
@@ -66,6 +161,9 @@ fn places(words: &[u32]) -> Sections
     let groups = span_at(words, classes.to);
     let wholes = span_at(words, groups.to);
     let escape = span_at(words, wholes.to);
+    let quick = span_at(words, escape.to);
+    let sorted = none_sorted();
+    let starts = no_starts();
     Sections {
         valid: valid,
         ignored: ignored,
@@ -80,87 +178,13 @@ fn places(words: &[u32]) -> Sections
         groups: groups,
         wholes: wholes,
         escape: escape,
+        quick: quick,
+        sorted: sorted,
+        starts: starts,
     }
 }
 
-// The shape of a section's records; records with a head hold at most so many items.
-enum Shape {
-    Pairs,
-    Triples,
-    Headed(usize),
-    Sequences,
-    Wholes,
-}
-
-// The number of words of a record with n items behind `lead` words, or 0 where n is not from 1 to `most` or the words end before.
-fn counted_size(rest: &[u32], lead: usize, n: usize, most: usize) -> usize
-    requires { ⌜ lead ≤ 2 ⌝ }
-    ensures { λ r. ⌜ r ≡ countedSize lead n most (now (rest .entry)) ⌝ }
-{
-    if n < 1 {
-        return 0;
-    }
-    if n > most {
-        return 0;
-    }
-    if n > rest.len() {
-        return 0;
-    }
-    let size = n + lead;
-    if size > rest.len() {
-        return 0;
-    }
-    size
-}
-
-// The number of words of the record that `rest` begins with, or 0 where none does.
-fn pair_size(rest: &[u32]) -> usize
-    ensures { λ r. ⌜ r ≡ pairSize (now (rest .entry)) ⌝ }
-{
-    if rest.len() < 2 {
-        return 0;
-    }
-    if rest[0] > rest[1] {
-        return 0;
-    }
-    2
-}
-
-fn triple_size(rest: &[u32]) -> usize
-    ensures { λ r. ⌜ r ≡ tripleSize (now (rest .entry)) ⌝ }
-{
-    if rest.len() < 3 {
-        return 0;
-    }
-    if rest[0] > rest[1] {
-        return 0;
-    }
-    if rest[2] > MOST_CLASS {
-        return 0;
-    }
-    3
-}
-
-fn headed_size(rest: &[u32], most: usize) -> usize
-    ensures { λ r. ⌜ r ≡ headedSize most (now (rest .entry)) ⌝ }
-{
-    if rest.len() < 2 {
-        return 0;
-    }
-    let n = rest[1] as usize;
-    counted_size(rest, 2, n, most)
-}
-
-fn sequence_size(rest: &[u32]) -> usize
-    ensures { λ r. ⌜ r ≡ sequenceSize (now (rest .entry)) ⌝ }
-{
-    if rest.len() < 1 {
-        return 0;
-    }
-    let n = rest[0] as usize;
-    counted_size(rest, 1, n, MOST_ITEMS)
-}
-
+// The number of words of the whole that `rest` begins with, or 0 where none does.
 fn whole_size(rest: &[u32]) -> usize
     ensures { λ r. ⌜ r ≡ wholeSize (now (rest .entry)) ⌝ }
 {
@@ -178,25 +202,13 @@ fn whole_size(rest: &[u32]) -> usize
     n + 2 + m
 }
 
-fn record_size(rest: &[u32], shape: Shape) -> usize
-    ensures { λ r. ⌜ r ≡ recordSize shape (now (rest .entry)) ⌝ }
-{
-    match shape {
-        Shape::Pairs => pair_size(rest),
-        Shape::Triples => triple_size(rest),
-        Shape::Headed(most) => headed_size(rest, most),
-        Shape::Sequences => sequence_size(rest),
-        Shape::Wholes => whole_size(rest),
-    }
-}
-
-// Whether the words are records of the shape, one behind the other.
-fn records_fit(part: &[u32], shape: Shape) -> bool
-    ensures { λ r. ⌜ r ≡ fitsAs shape (now (part .entry)) ⌝ }
+// Whether the words are wholes, one behind the other.
+fn wholes_fit(part: &[u32]) -> bool
+    ensures { λ r. ⌜ r ≡ wholesFit (now (part .entry)) ⌝ }
 {
     let mut at: usize = 0;
     while at < part.len() {
-        let size = record_size(&part[at..], shape);
+        let size = whole_size(&part[at..]);
         if size == 0 {
             return false;
         }
@@ -205,44 +217,84 @@ fn records_fit(part: &[u32], shape: Shape) -> bool
     true
 }
 
-fn group_size(rest: &[u32]) -> usize
-    ensures { λ r. ⌜ r ≡ groupSize (now (rest .entry)) ⌝ }
+// What a walk over a section answers, as two tests.
+fn told(order: Order) -> Seen
+    ensures { λ r. ⌜ (r .fits ≡ not (isFault order)) × (r .sorted ≡ isSorted order) ⌝ }
 {
+    match order {
+        Order::Fault => Seen {
+            fits: false,
+            sorted: false,
+        },
+        Order::AsGiven => Seen {
+            fits: true,
+            sorted: false,
+        },
+        Order::Sorted => Seen {
+            fits: true,
+            sorted: true,
+        },
+    }
+}
+
+// The group that `rest` begins with.
+fn group_size(rest: &[u32]) -> GroupSeen
+    ensures { λ r. ⌜ GroupSized (now (rest .entry)) r ⌝ }
+{
+    let none = GroupSeen {
+        size: 0,
+        sorted: false,
+    };
     if rest.len() < 2 {
-        return 0;
+        return none;
     }
     if rest[0] > MOST_FLAGS {
-        return 0;
+        return none;
     }
     let n = rest[1] as usize;
     if n > rest.len() - 2 {
-        return 0;
+        return none;
     }
     let to = n + 2;
-    if records_fit(&rest[2..to], Shape::Pairs) {
-        return to;
+    let pairs = told(pairs_order(&rest[2..to]));
+    if pairs.fits {
+        return GroupSeen {
+            size: to,
+            sorted: pairs.sorted,
+        };
     }
-    0
+    none
 }
 
-// Whether the words are groups, one behind the other, and not too many.
-fn groups_fit(part: &[u32]) -> bool
-    ensures { λ r. ⌜ r ≡ groupsWithin mostGroups (now (part .entry)) ⌝ }
+// Whether the words are groups, one behind the other, and not too many; and whether the pairs of each are sorted.
+fn groups_fit(part: &[u32]) -> Seen
+    ensures { λ r. ⌜ Sees (groupsWithin mostGroups (now (part .entry))) (GroupsApart (groupsIn (now (part .entry)))) r ⌝ }
 {
     let mut at: usize = 0;
     let mut left: usize = MOST_GROUPS;
+    let mut sorted = true;
     while at < part.len() {
         if left == 0 {
-            return false;
+            return Seen {
+                fits: false,
+                sorted: false,
+            };
         }
-        let size = group_size(&part[at..]);
-        if size == 0 {
-            return false;
+        let group = group_size(&part[at..]);
+        if group.size == 0 {
+            return Seen {
+                fits: false,
+                sorted: false,
+            };
         }
         left -= 1;
-        at += size;
+        sorted = sorted & group.sorted;
+        at += group.size;
     }
-    true
+    Seen {
+        fits: true,
+        sorted: sorted,
+    }
 }
 
 // Whether the words are a single record: count, items.
@@ -255,77 +307,253 @@ fn excluded_fit(part: &[u32]) -> bool
     part[0] as usize == part.len() - 1
 }
 
-// Whether what was seen so far is well formed, and the section is records of the shape.
-fn records_in(words: &[u32], s: Span, shape: Shape, good: bool) -> bool
+// What is seen of one section.
+fn pairs_in(words: &[u32], s: Span) -> Seen
     requires { ⌜ Fits (now words) s ⌝ }
-    ensures { λ r. ⌜ r ≡ (good && fitsAs shape (within s (now (words .entry)))) ⌝ }
+    ensures { λ r. ⌜ Sees (isSome (ranges (within s (now (words .entry))))) (Apart 2 1 (within s (now (words .entry)))) r ⌝ }
 {
-    if good {
-        let from = s.from;
-        let to = s.to;
-        return records_fit(&words[from..to], shape);
-    }
-    false
+    let from = s.from;
+    let to = s.to;
+    told(pairs_order(&words[from..to]))
 }
 
-fn groups_in(words: &[u32], s: Span, good: bool) -> bool
+fn classes_in(words: &[u32], s: Span) -> Seen
     requires { ⌜ Fits (now words) s ⌝ }
-    ensures { λ r. ⌜ r ≡ (good && groupsWithin mostGroups (within s (now (words .entry)))) ⌝ }
+    ensures { λ r. ⌜ Sees (isSome (classRanges (within s (now (words .entry))))) (Apart 3 1 (within s (now (words .entry)))) r ⌝ }
 {
-    if good {
-        let from = s.from;
-        let to = s.to;
-        return groups_fit(&words[from..to]);
-    }
-    false
+    let from = s.from;
+    let to = s.to;
+    told(triples_order(&words[from..to]))
 }
 
-fn excluded_in(words: &[u32], s: Span, good: bool) -> bool
-    requires { ⌜ Fits (now words) s ⌝ }
-    ensures { λ r. ⌜ r ≡ (good && isSome (excluded (within s (now (words .entry))))) ⌝ }
+fn heads_in(words: &[u32], s: Span, most: usize) -> HeadsSeen
+    requires { ⌜ Fits (now words) s × (most ≤ mostItems) ⌝ }
+    ensures { λ r. ⌜ SeesHeads (within s (now (words .entry))) most r ⌝ }
 {
-    if good {
-        let from = s.from;
-        let to = s.to;
-        return excluded_fit(&words[from..to]);
+    let from = s.from;
+    let to = s.to;
+    let found = heads_order(&words[from..to], most);
+    let order = found.order;
+    let marks = found.marks;
+    let heads = told(order);
+    HeadsSeen {
+        fits: heads.fits,
+        sorted: heads.sorted,
+        marks: marks,
     }
-    false
+}
+
+fn firsts_in(words: &[u32], s: Span) -> FirstsSeen
+    requires { ⌜ Fits (now words) s ⌝ }
+    ensures { λ r. ⌜ SeesFirsts (within s (now (words .entry))) r ⌝ }
+{
+    let from = s.from;
+    let to = s.to;
+    let found = firsts_order(&words[from..to]);
+    let order = found.order;
+    let places = found.places;
+    let numbers = found.numbers;
+    let firsts = told(order);
+    FirstsSeen {
+        fits: firsts.fits,
+        sorted: firsts.sorted,
+        places: places,
+        numbers: numbers,
+    }
+}
+
+fn wholes_in(words: &[u32], s: Span) -> bool
+    requires { ⌜ Fits (now words) s ⌝ }
+    ensures { λ r. ⌜ r ≡ wholesFit (within s (now (words .entry))) ⌝ }
+{
+    let from = s.from;
+    let to = s.to;
+    wholes_fit(&words[from..to])
+}
+
+fn groups_in(words: &[u32], s: Span) -> Seen
+    requires { ⌜ Fits (now words) s ⌝ }
+    ensures { λ r. ⌜ Sees (groupsWithin mostGroups (within s (now (words .entry)))) (GroupsApart (groupsIn (within s (now (words .entry))))) r ⌝ }
+{
+    let from = s.from;
+    let to = s.to;
+    groups_fit(&words[from..to])
+}
+
+fn excluded_in(words: &[u32], s: Span) -> Seen
+    requires { ⌜ Fits (now words) s ⌝ }
+    ensures { λ r. ⌜ Sees (isSome (excluded (within s (now (words .entry))))) (Apart 1 0 (within (behindCount s) (now (words .entry)))) r ⌝ }
+{
+    let from = s.from;
+    let to = s.to;
+    if excluded_fit(&words[from..to]) {
+        let first = from + 1;
+        return Seen {
+            fits: true,
+            sorted: items_rise(&words[first..to]),
+        };
+    }
+    Seen {
+        fits: false,
+        sorted: false,
+    }
+}
+
+// What is seen of the sections of pairs.
+fn sets_found(words: &[u32], ix: Sections) -> Sets
+    requires { ⌜ AllFit (now words) ix ⌝ }
+    ensures { λ r. ⌜ SetsFound (now (words .entry)) ix r ⌝ }
+{
+    let valid = pairs_in(words, ix.valid);
+    let ignored = pairs_in(words, ix.ignored);
+    let fenced = pairs_in(words, ix.fenced);
+    let marks = pairs_in(words, ix.marks);
+    let nsm = pairs_in(words, ix.nsm);
+    let escape = pairs_in(words, ix.escape);
+    let quick = pairs_in(words, ix.quick);
+    Sets {
+        valid: valid,
+        ignored: ignored,
+        fenced: fenced,
+        marks: marks,
+        nsm: nsm,
+        escape: escape,
+        quick: quick,
+    }
+}
+
+// What is seen of the others.
+fn others_found(words: &[u32], ix: Sections) -> Others
+    requires { ⌜ AllFit (now words) ix ⌝ }
+    ensures { λ r. ⌜ OthersFound (now (words .entry)) ix r ⌝ }
+{
+    let mapped = heads_in(words, ix.mapped, MOST_ITEMS);
+    let decompositions = heads_in(words, ix.decompositions, MOST_PARTS);
+    let emoji = firsts_in(words, ix.emoji);
+    let exclusions = excluded_in(words, ix.exclusions);
+    let classes = classes_in(words, ix.classes);
+    let groups = groups_in(words, ix.groups);
+    let wholes = wholes_in(words, ix.wholes);
+    Others {
+        mapped: mapped,
+        decompositions: decompositions,
+        emoji: emoji,
+        exclusions: exclusions,
+        classes: classes,
+        groups: groups,
+        wholes: wholes,
+    }
 }
 
 // Whether every section is well formed.
-fn all_fit(words: &[u32], ix: Sections) -> bool
-    requires { ⌜ AllFit (now words) ix ⌝ }
-    ensures { λ r. ⌜ r ≡ isSome (tableOf (partsOf (now (words .entry)) ix)) ⌝ }
+fn all_fit(s: Sets, o: Others) -> bool
+    ensures { λ r. ⌜ r ≡ allFit s o ⌝ }
 {
-    let valid = records_in(words, ix.valid, Shape::Pairs, true);
-    let ignored = records_in(words, ix.ignored, Shape::Pairs, valid);
-    let fenced = records_in(words, ix.fenced, Shape::Pairs, ignored);
-    let marks = records_in(words, ix.marks, Shape::Pairs, fenced);
-    let nsm = records_in(words, ix.nsm, Shape::Pairs, marks);
-    let mapped = records_in(words, ix.mapped, Shape::Headed(MOST_ITEMS), nsm);
-    let decompositions = records_in(words, ix.decompositions, Shape::Headed(MOST_PARTS), mapped);
-    let emoji = records_in(words, ix.emoji, Shape::Sequences, decompositions);
-    let exclusions = excluded_in(words, ix.exclusions, emoji);
-    let classes = records_in(words, ix.classes, Shape::Triples, exclusions);
-    let groups = groups_in(words, ix.groups, classes);
-    let wholes = records_in(words, ix.wholes, Shape::Wholes, groups);
-    records_in(words, ix.escape, Shape::Pairs, wholes)
+    let marks = s.valid.fits & s.ignored.fits & s.fenced.fits & s.marks.fits & s.nsm.fits;
+    let records = o.mapped.fits
+        & o.decompositions.fits
+        & o.emoji.fits
+        & o.exclusions.fits
+        & o.classes.fits;
+    marks & records & o.groups.fits & o.wholes & s.escape.fits & s.quick.fits
 }
 
-// The places of the sections, or a fault where the words are not a table.
+// Which of them are sorted.
+fn sorted_of(s: Sets, o: Others) -> Sorted
+    ensures { λ r. ⌜ r ≡ sortedOf s o ⌝ }
+{
+    Sorted {
+        valid: s.valid.sorted,
+        ignored: s.ignored.sorted,
+        fenced: s.fenced.sorted,
+        marks: s.marks.sorted,
+        nsm: s.nsm.sorted,
+        mapped: o.mapped.sorted,
+        decompositions: o.decompositions.sorted,
+        emoji: o.emoji.sorted,
+        exclusions: o.exclusions.sorted,
+        classes: o.classes.sorted,
+        groups: o.groups.sorted,
+        escape: s.escape.sorted,
+        quick: s.quick.sorted,
+    }
+}
+
+// Where a search may start.
+fn starts_of(o: Others) -> Starts
+    ensures { λ r. ⌜ r ≡ startsOf o ⌝ }
+{
+    let mapped = o.mapped;
+    let mapped_marks = mapped.marks;
+    let decompositions = o.decompositions;
+    let decomposition_marks = decompositions.marks;
+    let emoji = o.emoji;
+    let places = emoji.places;
+    let numbers = emoji.numbers;
+    Starts {
+        mapped: mapped_marks,
+        decompositions: decomposition_marks,
+        emoji: places,
+        numbers: numbers,
+    }
+}
+
+// The places, with what is found.
+fn found_of(ix: Sections, s: Sets, o: Others) -> Sections
+    ensures { λ r. ⌜ r ≡ foundOf ix s o ⌝ }
+{
+    let valid = ix.valid;
+    let ignored = ix.ignored;
+    let fenced = ix.fenced;
+    let marks = ix.marks;
+    let nsm = ix.nsm;
+    let mapped = ix.mapped;
+    let decompositions = ix.decompositions;
+    let emoji = ix.emoji;
+    let exclusions = ix.exclusions;
+    let classes = ix.classes;
+    let groups = ix.groups;
+    let wholes = ix.wholes;
+    let escape = ix.escape;
+    let quick = ix.quick;
+    let sorted = sorted_of(s, o);
+    let starts = starts_of(o);
+    Sections {
+        valid: valid,
+        ignored: ignored,
+        fenced: fenced,
+        marks: marks,
+        nsm: nsm,
+        mapped: mapped,
+        decompositions: decompositions,
+        emoji: emoji,
+        exclusions: exclusions,
+        classes: classes,
+        groups: groups,
+        wholes: wholes,
+        escape: escape,
+        quick: quick,
+        sorted: sorted,
+        starts: starts,
+    }
+}
+
+// The places of the sections and what is found of them, or a fault where the words are not a table.
 pub fn layout(words: &[u32]) -> Layout
-    ensures { λ r. ⌜ r ≡ layoutOf (now (words .entry)) ⌝ }
+    ensures { λ r. ⌜ LaidOut (now (words .entry)) r ⌝ }
 {
     if words.len() > MOST_WORDS {
         return Layout::Fault;
     }
     let ix = places(words);
-    let end = ix.escape.to;
+    let end = ix.quick.to;
     if end != words.len() {
         return Layout::Fault;
     }
-    if all_fit(words, ix) {
-        return Layout::Found(ix);
+    let sets = sets_found(words, ix);
+    let others = others_found(words, ix);
+    if all_fit(sets, others) {
+        return Layout::Found(found_of(ix, sets, others));
     }
     Layout::Fault
 }

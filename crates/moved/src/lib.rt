@@ -13,7 +13,8 @@ use name::part::put_label;
 use refiling::Change;
 use refiling::refile;
 use sections::Sections;
-use unpaired::PAIR_WORDS;
+use unpaired::KNOWN_WORDS;
+use unpaired::index::index_pairs;
 ghost use Prim.Native.Nat.{_≤_, _*_};
 ghost use mathlib.Core.Path.{_≡_};
 ghost use mathlib.Core.Bool.{false};
@@ -103,7 +104,8 @@ fn list_area(area: &[u32], words: &[u32], ix: Sections, list: &mut [u32], w: &mu
     requires { ⌜ Laid (now words) ix × (leastWork ≤ length (now w)) ⌝ }
     ensures { λ r. ⌜ SlotsListed (now (words .entry)) (slotsIn (now (area .entry))) (now (list .entry)) (now (list .exit)) (now (w .entry)) (now (w .exit)) r ⌝ }
 {
-    let mut unpaired = [0u32; PAIR_WORDS];
+    let mut unpaired = [0u32; KNOWN_WORDS];
+    index_pairs(words, ix, &mut unpaired);
     let mut memo = [0u32; MEMO];
     list_slots(&area[FRONT..], words, ix, list, &mut unpaired, w, &mut memo)
 }

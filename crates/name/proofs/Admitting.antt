@@ -3,19 +3,17 @@ use Prim.Native.Nat.{ℕ, _+_, _<_, _≤_}
 use native.Mathlib.Numerals.{add-one}
 use native.Mathlib.Omega.{arith}
 use mathlib.Core.Path.{_≡_, refl, sym, _∙_}
-use mathlib.Core.Bool.{Bool, true, false, not, cond}
+use mathlib.Core.Bool.{Bool, true, false, not}
 use mathlib.Core.List.{List}
-use mathlib.Core.Option.{Option, none, some}
+use mathlib.Core.Option.{none, some}
 use lib.ListN.{length, getD, drop, drop-of-length-le}
 use borrow.Author.Tests.{lt-ltb, le-ltb}
-use Rattle.lists.specs.Lists.{placeWith, isSome}
+use Rattle.lists.specs.Lists.{placeWith}
 use Rattle.limits.specs.Limits.{mostInput, leastWork}
 use Rattle.answers.specs.Verdict.{refused}
-use Rattle.table.specs.Table.{Table}
 use Rattle.table.specs.Layout.{parse}
-use Rattle.sections.specs.Laid.{Laid, layoutOf, sectionsOf}
+use Rattle.sections.specs.Laid.{Laid}
 use Rattle.sections.specs.declared.Sections.{Sections}
-use Rattle.sections.specs.declared.Layout.the-variants.{Fault, Found}
 use Rattle.table.proofs.Lookups.{drop-next}
 use Rattle.sections.proofs.SectionLaws.{laid-parse}
 use Rattle.scalar.specs.Scalar.{isScalar}
@@ -44,13 +42,9 @@ module _ (p : ℕ → Bool) (s : List ℕ) where
 
 module _ (words input : List ℕ) (work : ℕ) where
   -- 1
-  pub admitted-fault : Fault ≡ layoutOf words → admitted words work input ≡ refused 1 0
-  unfolding layoutOf admitted
-  admitted-fault e = go (parse words) refl e
-    where
-      go : (o : Option Table) → parse words ≡ o → Fault ≡ cond (isSome o) (Found (sectionsOf words)) Fault → admitted words work input ≡ refused 1 0
-      go none f g = rw f
-      go (some t) f g = absurd (let z : _≡_ {A = ℕ} 0 1 = cc in omega arith)
+  pub admitted-fault : parse words ≡ none → admitted words work input ≡ refused 1 0
+  unfolding admitted
+  admitted-fault e = rw e
 
   module _ (ix : Sections) (laid : Laid words ix) where
     -- 2

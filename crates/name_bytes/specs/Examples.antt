@@ -9,7 +9,7 @@ use Rattle.name.specs.Name.{NameResult}
 use Rattle.name_bytes.specs.NameBytes.{beside, nameBytesCall}
 
 abbrev pub words : List ℕ
-words = 4 ∷ 0x61 ∷ 0x61 ∷ 0xE9 ∷ 0xE9 ∷ 0 ∷ 0 ∷ 0 ∷ 0 ∷ 0 ∷ 0 ∷ 0 ∷ 1 ∷ 0 ∷ 0 ∷ 0 ∷ 0 ∷ 0 ∷ []
+words = 4 ∷ 0x61 ∷ 0x61 ∷ 0xE9 ∷ 0xE9 ∷ 0 ∷ 0 ∷ 0 ∷ 0 ∷ 0 ∷ 0 ∷ 0 ∷ 1 ∷ 0 ∷ 0 ∷ 0 ∷ 0 ∷ 0 ∷ 0 ∷ []
 
 abbrev result : NameValues → List ℕ → ℕ → NameResult
 result v answer work = record { values = v; answer = answer; work = replicate work 0 }

@@ -11,8 +11,10 @@ use name::part::label_end;
 use name::part::put_label;
 use one_label::Judgement;
 use one_label::judge_label;
+use quick_asked::ask;
 use sections::Sections;
-use unpaired::PAIR_WORDS;
+use unpaired::KNOWN_WORDS;
+use unpaired::index::index_pairs;
 ghost use Prim.Native.Nat.{_≤_};
 ghost use lib.ListN.{length};
 ghost use Rattle.limits.specs.Limits.{mostInput, leastWork};
@@ -37,7 +39,9 @@ fn judge_labels(
     requires { ⌜ Memo (now words) (now memo) ⌝ }
     ensures { λ r. ⌜ NameJudged (now (name .entry)) (labelsVerdict setting (theTable (now (words .entry))) 0 0 0 (labelsOf (now (name .entry)))) (now (answer .entry)) (now (answer .exit)) (now (w .entry)) (now (w .exit)) r ⌝ }
 {
-    let mut unpaired = [0u32; PAIR_WORDS];
+    let mut unpaired = [0u32; KNOWN_WORDS];
+    index_pairs(words, ix, &mut unpaired);
+    ask(words, ix, &mut unpaired, name.len());
     let mut at = 0;
     let mut done = 0;
     let mut place = 0;

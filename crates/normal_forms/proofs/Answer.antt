@@ -4,7 +4,7 @@ use native.Mathlib.Omega.{arith}
 use mathlib.Core.Path.{_≡_, refl, sym, ap, _∙_, subst}
 use mathlib.Core.Bool.{Bool}
 use mathlib.Core.Logic.{⊎-elim}
-use mathlib.Core.Option.{Option, none, some}
+use mathlib.Core.Option.{none}
 use mathlib.Core.List.{List, [], _∷_, _++_, map}
 use lib.ListN.{length, take, drop, length-map}
 use lib.Seq.{sets-eq, take-at, take-append-le, length-front, length-sets, length-take-le}
@@ -17,17 +17,16 @@ use Rattle.ending.specs.Ending.{resultOf}
 use Rattle.ending.specs.Ends.{Told, ends-fitting}
 use Rattle.ending.specs.Finish.{Finishes}
 use Rattle.sections.specs.declared.Sections.{Sections}
-use Rattle.sections.specs.declared.Layout.the-variants.{Fault, Found}
 use Rattle.table.specs.Table.{Table}
 use Rattle.table.specs.Layout.{parse, theTable}
-use Rattle.sections.specs.Laid.{layoutOf}
+use Rattle.sections.specs.Laid.{Laid}
 use Rattle.text.specs.Decomposition.{classOf, fourRounds}
 use Rattle.text.specs.Ordering.{nfd}
 use Rattle.text.specs.Composition.{compose, nfc}
 use Rattle.ordering.specs.Sorting.{sortBy}
 use Rattle.decomposition.specs.Rounds.{Appended}
 use Rattle.composition.specs.Work.{Ready, ComposedInto}
-use Rattle.sections.proofs.SectionLaws.{found-laid, laid-parse}
+use Rattle.sections.proofs.SectionLaws.{laid-parse}
 use Rattle.ordering.proofs.Sorting.{length-sort, map-sort, order-sort, sort-in-order}
 use Rattle.normal_forms.specs.declared.FormAnswer.{FormAnswer}
 use Rattle.normal_forms.specs.declared.FormAnswer.the-variants.{Formed, LayoutFault, WorkedTooLong, WorkAreaTooSmall, BufferTooSmall}
@@ -71,19 +70,15 @@ module _ (t : Table) (text : List ℕ) (room work : ℕ) where
     passes w h form = rw (long, le-leb n mostWorked short, le-leb n work w, le-leb n room h)
 
 -- by words with a layout fault
-pub fault-form : (form : Table → List ℕ → List ℕ) (text ws : List ℕ) (room work : ℕ) → layoutOf ws ≡ Fault → formBy form text ws room work ≡ refused 1 0
-unfolding formBy layoutOf
-fault-form form text ws room work e = go (parse ws) refl
-  where
-    go : (o : Option Table) → parse ws ≡ o → formBy form text ws room work ≡ refused 1 0
-    go none q = rw q
-    go (some t) q = let z : _≡_ {A = ℕ} 0 1 = (let f = rw q at e in cc) in absurd (omega arith)
+pub fault-form : (form : Table → List ℕ → List ℕ) (text ws : List ℕ) (room work : ℕ) → parse ws ≡ none → formBy form text ws room work ≡ refused 1 0
+unfolding formBy
+fault-form form text ws room work e = rw e
 
 -- by words that are laid out
-pub laid-form : (form : Table → List ℕ → List ℕ) (text ws : List ℕ) (ix : Sections) (room work : ℕ) → layoutOf ws ≡ Found ix
+pub laid-form : (form : Table → List ℕ → List ℕ) (text ws : List ℕ) (ix : Sections) (room work : ℕ) → Laid ws ix
     → formBy form text ws room work ≡ formWithin form (theTable ws) text room work
 unfolding formBy
-laid-form form text ws ix room work e = rw (laid-parse ws ix (found-laid ws ix e))
+laid-form form text ws ix room work l = rw (laid-parse ws ix l)
 
 -- the four rounds stand at the front of a buffer that has room for them
 front-rounds : (out out′ d : List ℕ) (n : ℕ) → Appended out out′ 0 d n → n ≤ length out → take n out′ ≡ d
@@ -117,10 +112,10 @@ ordered t text answer out work part classes n short w hw ho a =
     }
 
 -- the answer buffer as it was, by words with a layout fault
-pub fault-stands : (form : Table → List ℕ → List ℕ) (text ws answer : List ℕ) (work : ℕ) → layoutOf ws ≡ Fault → Stands form text ws answer answer work LayoutFault
+pub fault-stands : (form : Table → List ℕ → List ℕ) (text ws answer : List ℕ) (work : ℕ) → parse ws ≡ none → Stands form text ws answer answer work LayoutFault
 fault-stands form text ws answer work e = record { told = rw (fault-form form text ws (length answer) work e) refl; fits = omega arith; same = refl }
 
-module _ (text ws answer answer′ work work′ : List ℕ) (ix : Sections) (l : layoutOf ws ≡ Found ix) where
+module _ (text ws answer answer′ work work′ : List ℕ) (ix : Sections) (l : Laid ws ix) where
   -- an answer of full decomposition is the answer for NFD
   standing-told : (r : FormAnswer) → Standing (theTable ws) text answer answer′ work work′ r
       → Told formAnswering (formWithin nfd (theTable ws) text (length answer) (length work)) answer′ (formValues r)

@@ -7,7 +7,7 @@ use Rattle.normal_forms.specs.Forms.{Forming, nfdCall, nfcCall}
 abbrev pub words : List ℕ
 words =
     0 ∷ 0 ∷ 0 ∷ 0 ∷ 0 ∷ 0 ∷ 8 ∷ 0xE0 ∷ 2 ∷ 0x61 ∷ 0x300 ∷ 0x1EA1 ∷ 2 ∷ 0x61 ∷ 0x323 ∷ 0 ∷ 1 ∷ 0 ∷ 6 ∷ 0x300 ∷ 0x300 ∷ 230 ∷ 0x323 ∷ 0x323 ∷ 220
-    ∷ 0 ∷ 0 ∷ 0 ∷ []
+    ∷ 0 ∷ 0 ∷ 0 ∷ 0 ∷ []
 
 -- a number, a length, and the two buffers
 abbrev pub told : ℕ → ℕ → List ℕ → List ℕ → Forming

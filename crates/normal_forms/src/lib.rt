@@ -8,7 +8,8 @@ use ending::finish;
 use limits::MOST_WORKED;
 use sections::Layout;
 use sections::Sections;
-use unpaired::PAIR_WORDS;
+use unpaired::KNOWN_WORDS;
+use unpaired::index::index_pairs;
 ghost use mathlib.Core.Path.{_≡_};
 ghost use lib.ListN.{length};
 ghost use Rattle.sections.specs.Laid.{Laid};
@@ -103,7 +104,8 @@ fn nfc_front(text: &[u32], words: &[u32], answer: &mut [u32], work: &mut [u32]) 
     let FormAnswer::Formed(n) = arranged else {
         return arranged;
     };
-    let mut unpaired = [0u32; PAIR_WORDS];
+    let mut unpaired = [0u32; KNOWN_WORDS];
+    index_pairs(words, ix, &mut unpaired);
     let left = compose(words, ix, &mut unpaired, &mut answer[..n], &work[..n]);
     FormAnswer::Formed(left)
 }

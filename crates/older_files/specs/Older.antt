@@ -1,10 +1,10 @@
--- Files of version 1: the table that 01 alone reads from one, with the should-escape section empty, is the table that it unpacks to. 02,
--- Item 9. Assumes nothing.
+-- Files of versions 1 and 2: the table that 01 or Item 9 alone reads from one, with the sections that it lacks empty, is the table that it unpacks
+-- to. 02, Items 9 and 11. Assumes nothing.
 use Prim.Native.Nat.{ℕ, zero, suc, _≤_}
 use native.Mathlib.Omega.{arith}
 use mathlib.Core.Path.{_≡_, refl, sym, ap, _∙_}
 use mathlib.Core.Bool.{Bool, true, false}
-use mathlib.Core.List.{List, [], _∷_, _++_}
+use mathlib.Core.List.{List, [], _∷_, _++_, append-assoc}
 use mathlib.Core.Option.{Option, none, some, Option·some-injective, Option·none-ne-some, Option·map}
 use lib.ListN.{length, getD, take, drop, length-append, List·getD-eq-default}
 use lib.Seq.{take-append-le, drop-append-le}
@@ -14,14 +14,21 @@ use Rattle.lists.specs.Lists.{andThen}
 use Rattle.lists.specs.Laws.{then-some}
 use Rattle.answers.specs.Verdict.{accepted}
 use Rattle.table.specs.Table.{Range, Table}
-use Rattle.table.specs.Layout.{onlyIf, inFront, sectionCount, mostItems, mostParts, mostGroups, mostWords, sections, ranges, classRanges, headed, sequences, excluded, groups, wholes, tableOf, parse}
+use Rattle.table.specs.Layout.{onlyIf, inFront, mostItems, mostParts, mostGroups, sections, ranges, classRanges, headed, sequences, excluded, groups, wholes, tableOf, parse}
 use Rattle.unpack.specs.Unpack.{counted, fileWords}
 
--- 01's reading of words: "twelve sections, in this order", and "the whole at most 131,072 words". The section that is not there reads as an empty
--- one.
-unfoldable pub parse01 : List ℕ → Option Table
+-- A reading of words as n sections, at most `most` words in all. A section that is not there reads as an empty one.
+unfoldable pub reading : ℕ → ℕ → List ℕ → Option Table
 unfolding sections tableOf
-parse01 ws = onlyIf (leb (length ws) 131072) (andThen (sections 12 ws) tableOf)
+reading n most ws = onlyIf (leb (length ws) most) (andThen (sections n ws) tableOf)
+
+-- 01's reading: "twelve sections, in this order", and "the whole at most 131,072 words"
+abbrev pub parse01 : List ℕ → Option Table
+parse01 ws = reading 12 131072 ws
+
+-- the reading of 02's Item 9: "Layout now asks thirteen and allows 131,073 words"
+abbrev pub parse09 : List ℕ → Option Table
+parse09 ws = reading 13 131073 ws
 
 -- an empty section behind k sections
 sections-more : (k : ℕ) (ws : List ℕ) (ss : List (List ℕ)) → sections k ws ≡ some ss → sections (suc k) (ws ++ 0 ∷ []) ≡ some (ss ++ [] ∷ [])
@@ -51,18 +58,26 @@ part-more (s ∷ ss) (suc k) = part-more ss k
 table-more : (ss : List (List ℕ)) → tableOf (ss ++ [] ∷ []) ≡ tableOf ss
 unfolding tableOf
 table-more ss =
-    rw (part-more ss 0, part-more ss 1, part-more ss 2, part-more ss 3, part-more ss 4, part-more ss 5, part-more ss 6, part-more ss 7, part-more ss 8, part-more ss 9, part-more ss 10, part-more ss 11, part-more ss 12)
+    rw (part-more ss 0, part-more ss 1, part-more ss 2, part-more ss 3, part-more ss 4, part-more ss 5, part-more ss 6, part-more ss 7, part-more ss 8, part-more ss 9, part-more ss 10, part-more ss 11, part-more ss 12, part-more ss 13)
 
--- what 01 reads is read again once the word 0 is added
-pub older-same : (ws : List ℕ) (t : Table) → parse01 ws ≡ some t → parse (ws ++ 0 ∷ []) ≡ some t
-unfolding parse01 parse
-older-same ws t e = go (leb (length ws) 131072) refl e
+-- what n sections read is read again by n + 1 once the word 0 is added
+one-more : (n most : ℕ) (ws : List ℕ) (t : Table) → reading n most ws ≡ some t → reading (suc n) (suc most) (ws ++ 0 ∷ []) ≡ some t
+unfolding reading
+one-more n most ws t e = go (leb (length ws) most) refl e
   where
-    go : (b : Bool) → leb (length ws) 131072 ≡ b → onlyIf b (andThen (sections 12 ws) tableOf) ≡ some t → onlyIf (leb (length (ws ++ 0 ∷ [])) mostWords) (andThen (sections sectionCount (ws ++ 0 ∷ [])) tableOf) ≡ some t
+    go : (b : Bool) → leb (length ws) most ≡ b → onlyIf b (andThen (sections n ws) tableOf) ≡ some t → onlyIf (leb (length (ws ++ 0 ∷ [])) (suc most)) (andThen (sections (suc n) (ws ++ 0 ∷ [])) tableOf) ≡ some t
     go true s h =
-        let small : leb (length (ws ++ 0 ∷ [])) mostWords ≡ true = le-leb (length (ws ++ 0 ∷ [])) mostWords (omega (arith, leb-true (length ws) 131072 s, length-append ws (0 ∷ []))) in
-        then-some (sections 12 ws) tableOf t h λ ss q r. rw (small, sections-more 12 ws ss q) (table-more ss ∙ r)
+        let small : leb (length (ws ++ 0 ∷ [])) (suc most) ≡ true = le-leb (length (ws ++ 0 ∷ [])) (suc most) (omega (arith, leb-true (length ws) most s, length-append ws (0 ∷ []))) in
+        then-some (sections n ws) tableOf t h λ ss q r. rw (small, sections-more n ws ss q) (table-more ss ∙ r)
     go false s h = absurd (Option·none-ne-some t h)
+
+-- what Item 9 reads is read again once the word 0 is added, and what 01 reads once two are
+pub older-same09 : (ws : List ℕ) (t : Table) → parse09 ws ≡ some t → parse (ws ++ 0 ∷ []) ≡ some t
+unfolding parse reading
+older-same09 ws t e = one-more 13 131073 ws t e
+
+pub older-same01 : (ws : List ℕ) (t : Table) → parse01 ws ≡ some t → parse (ws ++ 0 ∷ 0 ∷ []) ≡ some t
+older-same01 ws t e = rw (append-assoc ws (0 ∷ []) (0 ∷ [])) at (older-same09 (ws ++ 0 ∷ []) t (one-more 12 131072 ws t e))
 
 -- k sections are k lists
 sections-many : (k : ℕ) (ws : List ℕ) (ss : List (List ℕ)) → sections k ws ≡ some ss → length ss ≡ k
@@ -77,13 +92,20 @@ sections-many (suc k) (n ∷ ws) ss e = go (λ rest q. sections-many k (drop n w
     go ih true none q h = absurd (Option·none-ne-some ss h)
     go ih false o q h = absurd (Option·none-ne-some ss h)
 
--- the should-escape section is what part 12 spells
-escape-of : (rs : List Range) (u t : Table) → some u ≡ some t → u .escape ≡ rs → t .escape ≡ rs
-escape-of rs u t e q = rw (← Option·some-injective u t e) q
+-- the last two sections are what parts 12 and 13 spell
+record LastRead (ss : List (List ℕ)) (t : Table) : Type 0 where
+  escape : ranges (getD ss 12 []) ≡ some (t .escape)
+  quick : ranges (getD ss 13 []) ≡ some (t .quickCheck)
 
-escape-read : (ss : List (List ℕ)) (t : Table) → tableOf ss ≡ some t → ranges (getD ss 12 []) ≡ some (t .escape)
+last-of : (ss : List (List ℕ)) (e q : List Range) (u t : Table) → some u ≡ some t → ranges (getD ss 12 []) ≡ some e → ranges (getD ss 13 []) ≡ some q
+    → u .escape ≡ e → u .quickCheck ≡ q → LastRead ss t
+last-of ss e q u t h a b c d =
+    let s : u ≡ t = Option·some-injective u t h in
+    record { escape = rw (← s, c) a; quick = rw (← s, d) b }
+
+last-read : (ss : List (List ℕ)) (t : Table) → tableOf ss ≡ some t → LastRead ss t
 unfolding tableOf
-escape-read ss t e =
+last-read ss t e =
     then-some (ranges (getD ss 0 [])) _ t e λ v0 q0 e0.
     then-some (ranges (getD ss 1 [])) _ t e0 λ v1 q1 e1.
     then-some (ranges (getD ss 2 [])) _ t e1 λ v2 q2 e2.
@@ -97,43 +119,62 @@ escape-read ss t e =
     then-some (groups (length (getD ss 10 [])) (getD ss 10 [])) _ t e9 λ v10 q10 e10.
     then-some (wholes (length (getD ss 11 [])) (getD ss 11 [])) _ t e10 λ v11 q11 e11.
     then-some (ranges (getD ss 12 [])) _ t e11 λ v12 q12 e12.
-    q12 ∙ ap some (sym (escape-of v12 _ t (only-some (leb (length v10) mostGroups) _ t e12) refl))
+    then-some (ranges (getD ss 13 [])) _ t e12 λ v13 q13 e13.
+    last-of ss v12 v13 _ t (only-some (leb (length v10) mostGroups) _ t e13) q12 q13 refl refl
   where
     only-some : {A : Type 0} (b : Bool) (o : Option A) (a : A) → onlyIf b o ≡ some a → o ≡ some a
     only-some true o a h = h
     only-some false o a h = absurd (Option·none-ne-some a h)
 
--- what 01 reads has nothing to show in braces
-pub older-empty : (ws : List ℕ) (t : Table) → parse01 ws ≡ some t → t .escape ≡ []
-unfolding parse01 ranges
-older-empty ws t e = go (leb (length ws) 131072) e
+-- behind n sections no part holds a word
+past-empty : (n i : ℕ) (ws : List ℕ) (ss : List (List ℕ)) (rs : List Range) → sections n ws ≡ some ss → n ≤ i → ranges (getD ss i []) ≡ some rs → rs ≡ []
+unfolding ranges
+past-empty n i ws ss rs q h e =
+    let past : getD ss i [] ≡ [] = List·getD-eq-default ss [] {n = i} (omega (arith, sections-many n ws ss q)) in
+    sym (Option·some-injective [] rs (sym (ap ranges past) ∙ e))
+
+-- the sections of a table that was read
+read-from : {C : Type 0} (n most : ℕ) (ws : List ℕ) (t : Table) → reading n most ws ≡ some t → ((ss : List (List ℕ)) → sections n ws ≡ some ss → LastRead ss t → C) → C
+unfolding reading
+read-from {C} n most ws t e k = go (leb (length ws) most) e
   where
-    go : (b : Bool) → onlyIf b (andThen (sections 12 ws) tableOf) ≡ some t → t .escape ≡ []
-    go true h =
-        then-some (sections 12 ws) tableOf t h λ ss q r.
-        let past : getD ss 12 [] ≡ [] = List·getD-eq-default ss [] {n = 12} (omega (arith, sections-many 12 ws ss q)) in
-        sym (Option·some-injective [] (t .escape) (sym (ap ranges past) ∙ escape-read ss t r))
+    go : (b : Bool) → onlyIf b (andThen (sections n ws) tableOf) ≡ some t → C
+    go true h = then-some (sections n ws) tableOf t h λ ss q r. k ss q (last-read ss t r)
     go false h = absurd (Option·none-ne-some t h)
 
--- A file of version 1 that 01 reads as a table: what it unpacks to is that table, and its should-escape section is empty.
-pub record OldFile (rest : List ℕ) (t : Table) : Type 0 where
+-- what 01 reads has nothing to show in braces, and what 01 or Item 9 reads has no quick-check set
+pub no-escape : (ws : List ℕ) (t : Table) → parse01 ws ≡ some t → t .escape ≡ []
+no-escape ws t e = read-from 12 131072 ws t e λ ss q l. past-empty 12 12 ws ss (t .escape) q (omega arith) (l .escape)
+
+pub no-quick : (n most : ℕ) (ws : List ℕ) (t : Table) → n ≤ 13 → reading n most ws ≡ some t → t .quickCheck ≡ []
+no-quick n most ws t h e = read-from n most ws t e λ ss q l. past-empty n 13 ws ss (t .quickCheck) q h (l .quick)
+
+-- An older file whose words were read as a table before: what it unpacks to is that table, and its quick-check set is empty.
+pub record OldFile (version : ℕ) (rest : List ℕ) (t : Table) : Type 0 where
   pub words : List ℕ
-  pub unpacks : fileWords (1 ∷ rest) ≡ accepted words
+  pub unpacks : fileWords (version ∷ rest) ≡ accepted words
   pub holds : parse words ≡ some t
-  pub empty : t .escape ≡ []
+  pub quick : t .quickCheck ≡ []
 
-pub old-file : (rest ws : List ℕ) (t : Table) → counted rest ≡ accepted ws → parse01 ws ≡ some t → OldFile rest t
+-- Version 2, where Item 9 reads its words.
+pub old-file-2 : (rest ws : List ℕ) (t : Table) → counted rest ≡ accepted ws → parse09 ws ≡ some t → OldFile 2 rest t
 unfolding fileWords
-old-file rest ws t c e = record { words = ws ++ 0 ∷ []; unpacks = rw c; holds = older-same ws t e; empty = older-empty ws t e }
+old-file-2 rest ws t c e = record { words = ws ++ 0 ∷ []; unpacks = rw c; holds = older-same09 ws t e; quick = no-quick 13 131073 ws t (omega arith) e }
 
--- A file whose words 01 does not read can become a table by the added word: eight empty sections, 1 0, three empty sections and 2 0.
+-- Version 1, where 01 reads its words: the should-escape section is empty too.
+pub old-file-1 : (rest ws : List ℕ) (t : Table) → counted rest ≡ accepted ws → parse01 ws ≡ some t → OldFile 1 rest t × (t .escape ≡ [])
+unfolding fileWords
+old-file-1 rest ws t c e =
+    (record { words = ws ++ 0 ∷ 0 ∷ []; unpacks = rw c; holds = older-same01 ws t e; quick = no-quick 12 131072 ws t (omega arith) e }, no-escape ws t e)
+
+-- A file whose words 01 does not read can become a table by the added words: eight empty sections, 1 0, three empty sections and 2 0.
 abbrev odd : List ℕ
 odd = 0 ∷ 0 ∷ 0 ∷ 0 ∷ 0 ∷ 0 ∷ 0 ∷ 0 ∷ 1 ∷ 0 ∷ 0 ∷ 0 ∷ 0 ∷ 2 ∷ 0 ∷ []
 
 pub odd-fault : parse01 odd ≡ none
-unfolding parse01
+unfolding reading
 odd-fault = refl
 
-pub odd-file : Option·map (λ (t : Table). t .escape) (parse (odd ++ 0 ∷ [])) ≡ some (record { first = 0; last = 0 } ∷ [])
+pub odd-file : Option·map (λ (t : Table). t .escape) (parse (odd ++ 0 ∷ 0 ∷ [])) ≡ some (record { first = 0; last = 0 } ∷ [])
 unfolding parse
 odd-file = refl

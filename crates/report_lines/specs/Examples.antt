@@ -22,6 +22,7 @@ table =
       groups = [];
       wholes = [];
       escape = record { first = 0x200D; last = 0x200D } ∷ record { first = 0xFFFFFFFF; last = 0xFFFFFFFF } ∷ [];
+      quickCheck = [];
     }
 
 -- a joiner inside an emoji, which stands in braces

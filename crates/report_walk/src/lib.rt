@@ -6,7 +6,8 @@ use report_lines::put_line;
 use sections::Layout;
 use sections::Sections;
 use token_walk::next_token;
-use unpaired::PAIR_WORDS;
+use unpaired::KNOWN_WORDS;
+use unpaired::index::index_pairs;
 ghost use Prim.Native.Nat.{_≤_};
 ghost use lib.ListN.{length};
 ghost use Rattle.lists.specs.Laws.{Every};
@@ -67,7 +68,8 @@ fn report_labels(words: &[u32], ix: Sections, name: &[u32], out: &mut [u8], w: &
     requires { ⌜ Every (Walkable (theTable (now words))) (labelsOf (now name)) ⌝ }
     ensures { λ r. ⌜ Adds (now (out .entry)) (now (out .exit)) (report (theTable (now (words .entry))) (now (name .entry))) nothing r ⌝ }
 {
-    let mut unpaired = [0u32; PAIR_WORDS];
+    let mut unpaired = [0u32; KNOWN_WORDS];
+    index_pairs(words, ix, &mut unpaired);
     let mut sink = Sink { at: 0, full: false };
     let mut at = 0;
     while at <= name.len() {

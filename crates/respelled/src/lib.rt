@@ -15,7 +15,8 @@ use normal_cells::normalise;
 use scanning::Scanned;
 use scanning::scan;
 use sections::Sections;
-use unpaired::PAIR_WORDS;
+use unpaired::KNOWN_WORDS;
+use unpaired::index::index_pairs;
 ghost use Prim.Native.Nat.{_≤_};
 ghost use mathlib.Core.Path.{_≡_};
 ghost use lib.ListN.{length};
@@ -86,7 +87,8 @@ fn label_text(words: &[u32], ix: Sections, label: &[u32], w: &mut [u32]) -> usiz
     match scanned {
         Scanned::Disallowed(_) => 0,
         Scanned::Tokens(tally) => {
-            let mut unpaired = [0u32; PAIR_WORDS];
+            let mut unpaired = [0u32; KNOWN_WORDS];
+            index_pairs(words, ix, &mut unpaired);
             let n = normalise(words, ix, &mut unpaired, w, tally.worked);
             text_alone(w, n)
         }

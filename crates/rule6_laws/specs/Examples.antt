@@ -30,6 +30,7 @@ sample =
       groups = [];
       wholes = [];
       escape = [];
+      quickCheck = [];
     }
 
 pub sample-shaped : Shaped sample

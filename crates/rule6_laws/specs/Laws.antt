@@ -8,7 +8,7 @@ use mathlib.Core.Option.{some}
 use lib.ListN.{length}
 use Rattle.lists.specs.Laws.{Every}
 use Rattle.table.specs.Table.{Table}
-use Rattle.text.specs.Decomposition.{classOf, single, fourRounds}
+use Rattle.text.specs.Decomposition.{single, fourRounds}
 use Rattle.text.specs.Ordering.{order, nfd}
 use Rattle.text.specs.Composition.{pair, compose, nfc}
 use Rattle.soundness.specs.Pairs.{rule6}
@@ -26,11 +26,8 @@ module _ (t : Table) (r6 : rule6 t ≡ true) where
   pub ascii-is-stable : (c : ℕ) → c < 0x80 → Stable t c
   ascii-is-stable = Stable.ascii-stable t (rule6-parts t r6)
 
-  pub pair-is-starter : (a b h : ℕ) → pair t a b ≡ some h → classOf t h ≡ 0
-  pair-is-starter a b h e = PairLaws.pair-splits t (rule6-parts t r6) a b h e .starter
-
   pub pair-decomposes : (a b h : ℕ) → pair t a b ≡ some h → fourRounds t (h ∷ []) ≡ fourRounds t (a ∷ []) ++ fourRounds t (b ∷ [])
-  pair-decomposes a b h e = PairLaws.pair-splits t (rule6-parts t r6) a b h e .parts
+  pair-decomposes = PairLaws.pair-splits t (rule6-parts t r6)
 
   pub pair-is-not-ascii : (a b h : ℕ) → pair t a b ≡ some h → 0x80 ≤ h
   pair-is-not-ascii = PairLaws.pair-high t (rule6-parts t r6)

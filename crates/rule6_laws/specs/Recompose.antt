@@ -14,9 +14,10 @@ use Rattle.table.specs.Table.{Table}
 use Rattle.text.specs.Decomposition.{classOf, fourRounds}
 use Rattle.text.specs.Ordering.{order, nfd}
 use Rattle.text.specs.Composition.{unblocked, composed, composeAfter, compose, nfc}
+use Rattle.text.specs.QuickCheck.{inOrder}
 use Rattle.text_laws.specs.Parsed.{Shaped}
 use Rattle.text_laws.specs.Rounds.{fully, rounds-append, rounds-cons, rounds-nil}
-use Rattle.text_laws.specs.Insertion.{ordered, Differs, order-behind, order-every, order-length, order-ordered, order-same}
+use Rattle.text_laws.specs.Insertion.{Differs, order-behind, order-every, order-length, order-ordered, order-same}
 use Rattle.text_laws.specs.Composing.{composing, composed-pair, compose-nil, compose-starter, compose-mark, starter-or-mark}
 use Rattle.rule6_laws.specs.Stable.{Rule6, Stable, fully-one, rounds-stable, rounds-all-stable}
 use Rattle.rule6_laws.specs.PairLaws.{pair-splits}
@@ -50,7 +51,7 @@ module _ (t : Table) (r6 : Rule6 t) where
   back-taken : (s : ℕ) (ms : List ℕ) (c : ℕ) (r : List ℕ) (h : ℕ) (out : List ℕ) → composed t s ms c ≡ some h → Back h ms r out → Back s ms (c ∷ r) out
   back-taken s ms c r h out e f hm km hr xs =
       let p = composed-pair t s ms c h e in
-      let split : fully t h ≡ fully t s ++ (c ∷ []) = pair-splits t r6 s c h (p .0) .parts ∙ rw (fully-one t c (hr .0)) in
+      let split : fully t h ≡ fully t s ++ (c ∷ []) = pair-splits t r6 s c h (p .0) ∙ rw (fully-one t c (hr .0)) in
       let one : order t (xs ++ fourRounds t out) ≡ order t (xs ++ (fully t h ++ (ms ++ r))) = f hm km (hr .1) xs in
       let two : order t (xs ++ (fully t h ++ (ms ++ r))) ≡ order t ((xs ++ fully t s) ++ c ∷ (ms ++ r)) = rw (split, append-assoc (fully t s) (c ∷ []) (ms ++ r), append-assoc xs (fully t s) (c ∷ (ms ++ r))) in
       let three : order t ((xs ++ fully t s) ++ c ∷ (ms ++ r)) ≡ order t ((xs ++ fully t s) ++ (ms ++ c ∷ r)) = past-marks t (xs ++ fully t s) c ms r km (p .1) in
@@ -100,7 +101,7 @@ module _ (t : Table) (fit : Shaped t) (r6 : Rule6 t) where
   unfolding nfd
   nfd-stable s = order-every t (Stable t) (fourRounds t s) (rounds-all-stable t fit r6 s)
 
-  pub nfd-ordered : (s : List ℕ) → ordered t (nfd t s) ≡ true
+  pub nfd-ordered : (s : List ℕ) → inOrder t (nfd t s) ≡ true
   unfolding nfd
   nfd-ordered s = order-ordered t (fourRounds t s)
 

@@ -109,10 +109,10 @@ pub syllable-number : (c : ℕ) → isSyllable c ≡ true → c - 0xAC00 < 11172
 syllable-number c h = omega (arith, ltb-true c (0xAC00 + 11172) (both-right (leb 0xAC00 c) (ltb c (0xAC00 + 11172)) h))
 
 -- jamo are no syllables
-below-syllables : (c : ℕ) → c < 0xAC00 → isSyllable c ≡ false
+pub below-syllables : (c : ℕ) → c < 0xAC00 → isSyllable c ≡ false
 below-syllables c h = rw (lt-leb 0xAC00 c h)
 
-jamo-low : (c : ℕ) → isJamo c ≡ true → c < 0xAC00
+pub jamo-low : (c : ℕ) → isJamo c ≡ true → c < 0xAC00
 jamo-low c h = ⊎-elim (λ k. ⊎-elim leading vowel (either (isLeading c) (isVowel c) k)) trailing (either (isLeading c || isVowel c) (isTrailing c) h)
   where
     leading : isLeading c ≡ true → c < 0xAC00

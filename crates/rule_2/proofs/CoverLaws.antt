@@ -1,11 +1,12 @@
 -- Laws of rule 2: the codepoints of ranges and groups, and the rule by its codepoints. Assumes nothing.
-use Prim.Native.Nat.{ℕ, zero, suc, _+_, _-_, _<_, _≤_}
+use Prim.Native.Nat.{ℕ, zero, suc, _+_, _-_, _/_, _<_, _≤_}
 use native.Mathlib.Omega.{arith}
 use mathlib.Core.Path.{_≡_, refl, sym, _∙_, ap}
 use mathlib.Core.Bool.{Bool, true, false, not, _&&_, _||_}
 use mathlib.Core.List.{List, [], _∷_, _++_}
 use mathlib.Core.Option.{Option, none, some}
-use lib.ListN.{length, take, drop}
+use lib.ListN.{length, getD, take, drop}
+use lib.Bits.{bitOr}
 use lib.Dec.{leb, ltb}
 use borrow.Author.Tests.{le-leb, lt-leb, lt-ltb, leb-true, ltb-true, ltb-false}
 use Rattle.lists.specs.Lists.{all, mem, joinedMap, andThen}
@@ -32,9 +33,20 @@ use Rattle.bit_sets.specs.Sets.{has}
 use Rattle.sound_choices.specs.Rounds.{inGroups, after, startOf, WindowOf, Holding}
 use Rattle.sound_rounds.specs.Reached.{PartsOf}
 use Rattle.sound_choices.proofs.RoundLaws.{mem-counted}
+use Rattle.sound_choices.proofs.WordLaws.{word-both}
 use Rattle.sound_rounds.proofs.ReachLaws.{after-four}
 use Rattle.rule_2.specs.Windows.{Passes}
 use Rattle.rule_2.specs.Cover.{same, coveredAt, spelled, covered}
+
+-- a word of the first set that is what the others' words are together
+pub covered-word : (valid groups set : List ℕ) (i : ℕ) → getD valid i 0 ≡ bitOr (getD set i 0) (getD groups i 0) → (d : ℕ) → d / 32 ≡ i
+    → coveredAt valid groups set d ≡ true
+unfolding coveredAt
+covered-word valid groups set i e d f = rw (word-both valid set groups i d e f) (agrees (has groups d || has set d))
+  where
+    agrees : (b : Bool) → same b b ≡ true
+    agrees true = refl
+    agrees false = refl
 
 -- the codepoints of ranges that were read from words
 pub mem-listed : (c : ℕ) (ws : List ℕ) (rs : List Range) → ranges ws ≡ some rs → mem c (listed rs) ≡ inRanges c rs

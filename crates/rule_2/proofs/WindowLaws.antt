@@ -1,5 +1,5 @@
 -- Laws of a test of every codepoint, window by window. Assumes nothing.
-use Prim.Native.Nat.{ℕ, _+_, _-_, _%_, _<_, _≤_}
+use Prim.Native.Nat.{ℕ, _+_, _-_, _*_, _/_, _%_, _<_, _≤_}
 use native.Mathlib.Omega.{arith}
 use mathlib.Core.Path.{_≡_, refl, sym, _∙_, ap, subst}
 use mathlib.Core.Bool.{Bool, true, false, false≢true}
@@ -14,25 +14,52 @@ use Rattle.bit_sets.proofs.PutLaws.{empty-has}
 use Rattle.sound_choices.specs.Rounds.{after, Holding, rowsWords}
 use Rattle.sound_choices.specs.Choices.{FirstSet}
 use Rattle.sound_rounds.specs.Reached.{RoundsChosen, Reached}
-use Rattle.rule_2.specs.Windows.{Passes}
+use Rattle.rule_2.specs.Windows.{Passes, WordPasses}
 
 -- the numbers below c pass the test
 abbrev pub Passed : (ℕ → Bool) → ℕ → Type 0
 Passed p c = (d : ℕ) → d < c → p d ≡ true
 
-module _ (p : ℕ → Bool) (c : ℕ) (w : Passed p c) where
-  pub passed-on : p c ≡ true → Passed p (c + 1)
-  passed-on e d h = go (ltb d c) refl
+-- the places of the word i before d pass it
+pub record WordPassed (p : ℕ → Bool) (i d : ℕ) : Type 0 where
+  pub low : i * 32 ≤ d
+  pub each : (e : ℕ) → i * 32 ≤ e → e < d → p e ≡ true
+
+module _ (p : ℕ → Bool) (i : ℕ) where
+  pub word-start : WordPassed p i (i * 32)
+  word-start = record { low = omega arith; each = λ e h k. absurd (omega arith) }
+
+  pub word-held : ((d : ℕ) → d / 32 ≡ i → p d ≡ true) → WordPasses p i true
+  word-held f = record { yes = λ e d h. f d h; no = λ e g. false≢true (sym e) }
+
+  module _ (d : ℕ) (w : WordPassed p i d) where
+    pub word-on : p d ≡ true → WordPassed p i (d + 1)
+    word-on e = record { low = omega (arith, w .low); each = λ c h k. go c h k (ltb c d) refl }
+      where
+        go : (c : ℕ) → i * 32 ≤ c → c < d + 1 → (b : Bool) → ltb c d ≡ b → p c ≡ true
+        go c h k true q = w .each c h (ltb-true c d q)
+        go c h k false q = let z : c ≡ d = omega (arith, ltb-false c d q) in rw z e
+
+    pub word-all : i * 32 + 32 ≤ d → WordPasses p i true
+    word-all h = word-held (λ c k. w .each c (omega arith) (omega arith))
+
+    pub word-not : d < i * 32 + 32 → p d ≡ false → WordPasses p i false
+    word-not h e = record { yes = λ f c k. absurd (false≢true f); no = λ f g. false≢true (sym e ∙ g d (omega (arith, w .low))) }
+
+-- words one after another
+module _ (p : ℕ → Bool) (i : ℕ) (r : Bool) (w : WordPasses p i r) where
+  pub words-on : r ≡ true → Passed p (i * 32) → Passed p ((i + 1) * 32)
+  words-on e v d h = go (ltb d (i * 32)) refl
     where
-      go : (b : Bool) → ltb d c ≡ b → p d ≡ true
-      go true q = w d (ltb-true d c q)
-      go false q = let z : d ≡ c = omega (arith, ltb-false d c q) in rw z e
+      go : (b : Bool) → ltb d (i * 32) ≡ b → p d ≡ true
+      go true q = v d (ltb-true d (i * 32) q)
+      go false q = w .yes e d (omega (arith, ltb-false d (i * 32) q))
 
-  pub passed-all : (bound : ℕ) → bound ≤ c → Passes p bound true
-  passed-all bound h = record { yes = λ e d k. w d (omega arith); no = λ e f. false≢true (sym e) }
+  pub words-not : r ≡ false → i < windowWords → Passes p 0x10000 false
+  words-not e h = record { yes = λ f d k. absurd (false≢true f); no = λ f g. w .no e (λ d k. g d (omega arith)) }
 
-pub passed-not : (p : ℕ → Bool) (c bound : ℕ) → p c ≡ false → c < bound → Passes p bound false
-passed-not p c bound e h = record { yes = λ f d k. absurd (false≢true f); no = λ f g. false≢true (sym e ∙ g c h) }
+pub passed-all : (p : ℕ → Bool) (c : ℕ) → Passed p c → (bound : ℕ) → bound ≤ c → Passes p bound true
+passed-all p c w bound h = record { yes = λ e d k. w d (omega arith); no = λ e f. false≢true (sym e) }
 
 -- a test of codepoints, and of the places of a window
 module _ (p q : ℕ → Bool) (base : ℕ) (e : (d : ℕ) → d < 0x10000 → p d ≡ q (base + d)) where

@@ -22,10 +22,13 @@ ghost use Rattle.soundness.specs.Valid.{rule2};
 ghost use Rattle.bit_sets.specs.Sets.{has, windowWords};
 ghost use Rattle.sound_choices.specs.Rounds.{startOf, WindowOf};
 ghost use Rattle.sound_rounds.specs.Reached.{PartsOf, RoundsChosen};
-ghost use Rattle.rule_2.specs.Windows.{Passes};
+ghost use Rattle.rule_2.specs.Windows.{Passes, WordPasses};
 ghost use Rattle.rule_2.specs.Cover.{coveredAt, covered};
 
 const WINDOW: u32 = 0x10000;
+
+// The words of a window's set.
+const WORDS: u32 = 2048;
 
 // Whether one of two sets holds the place d.
 fn either_has(a: &[u32], b: &[u32], d: u32) -> bool
@@ -55,19 +58,54 @@ fn covered_at(valid: &[u32], groups: &[u32], set: &[u32], d: u32) -> bool
     !spelled
 }
 
-// The same for every place.
+// The same for the 32 places of the word i.
+fn covered_places(valid: &[u32], groups: &[u32], set: &[u32], i: u32) -> bool
+    requires { ⌜ length (now valid) ≡ windowWords ⌝ }
+    requires { ⌜ length (now groups) ≡ windowWords ⌝ }
+    requires { ⌜ length (now set) ≡ windowWords ⌝ }
+    requires { ⌜ i < windowWords ⌝ }
+    ensures { λ r. ⌜ WordPasses (coveredAt (now (valid .entry)) (now (groups .entry)) (now (set .entry))) i r ⌝ }
+{
+    let mut d = i * 32;
+    let end = d + 32;
+    while d < end {
+        if !covered_at(valid, groups, set, d) {
+            return false;
+        }
+        d += 1;
+    }
+    true
+}
+
+// The same, at once where the word of the first set is what the others' words are together.
+fn covered_word(valid: &[u32], groups: &[u32], set: &[u32], i: u32) -> bool
+    requires { ⌜ length (now valid) ≡ windowWords ⌝ }
+    requires { ⌜ length (now groups) ≡ windowWords ⌝ }
+    requires { ⌜ length (now set) ≡ windowWords ⌝ }
+    requires { ⌜ i < windowWords ⌝ }
+    ensures { λ r. ⌜ WordPasses (coveredAt (now (valid .entry)) (now (groups .entry)) (now (set .entry))) i r ⌝ }
+{
+    let k = i as usize;
+    let spelled = set[k] | groups[k];
+    if valid[k] == spelled {
+        return true;
+    }
+    covered_places(valid, groups, set, i)
+}
+
+// The same for every word.
 fn covered_in(valid: &[u32], groups: &[u32], set: &[u32]) -> bool
     requires { ⌜ length (now valid) ≡ windowWords ⌝ }
     requires { ⌜ length (now groups) ≡ windowWords ⌝ }
     requires { ⌜ length (now set) ≡ windowWords ⌝ }
     ensures { λ r. ⌜ Passes (coveredAt (now (valid .entry)) (now (groups .entry)) (now (set .entry))) 0x10000 r ⌝ }
 {
-    let mut d: u32 = 0;
-    while d < WINDOW {
-        if !covered_at(valid, groups, set, d) {
+    let mut i: u32 = 0;
+    while i < WORDS {
+        if !covered_word(valid, groups, set, i) {
             return false;
         }
-        d += 1;
+        i += 1;
     }
     true
 }

@@ -149,6 +149,10 @@ pub starts-none : (c : ℕ) (s : List ℕ) → length s ≤ 0 → false ≡ star
 starts-none c [] h = refl
 starts-none c (x ∷ s) h = absurd (omega arith)
 
+pub first-none : (s : List ℕ) → length s ≡ 0 → _≡_ {A = ℕ} 0 (getD s 0 0)
+first-none [] h = refl
+first-none (x ∷ s) h = absurd (omega arith)
+
 -- no two are equal when stripped: the first is no later one, and the later ones are so
 module _ (x : List ℕ) (xs : List (List ℕ)) where
   pub distinct-broken : any (sameStripped x) xs ≡ true → false ≡ distinctStripped (x ∷ xs)

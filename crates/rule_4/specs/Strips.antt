@@ -1,7 +1,7 @@
 -- What the check asks of emoji sequences, given by their items with FE0F among them. Assumes nothing.
 use Prim.Native.Nat.{ℕ, _≤_, _<_}
 use mathlib.Core.Path.{_≡_}
-use mathlib.Core.Bool.{Bool, false, not, _&&_}
+use mathlib.Core.Bool.{Bool, true, false, not, _&&_}
 use mathlib.Core.List.{List, map}
 use lib.ListN.{length, getD, take, drop}
 use lib.Dec.{eqb}
@@ -30,3 +30,9 @@ pub record NextItem (s : List ℕ) (i r : ℕ) : Type 0 where
   pub skipped : strip (take i s) ≡ strip (take r s)
   pub same : strip (drop i s) ≡ strip (drop r s)
   pub item : r < length s → eqb (getD s r 0) selector ≡ false
+
+-- sequences are sorted, and the items start with one that is not FE0F
+pub record Bounded (sorted : Bool) (s : List ℕ) : Type 0 where
+  pub steady : sorted ≡ true
+  pub some : 0 < length s
+  pub plain : getD s 0 0 ≡ selector → ⊥

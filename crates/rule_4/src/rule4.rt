@@ -4,9 +4,9 @@ use table::Span;
 use table::lookup::counted;
 use table::lookup::mem_in;
 ghost use mathlib.Core.Path.{_≡_};
-ghost use mathlib.Core.Bool.{_&&_};
+ghost use mathlib.Core.Bool.{true, _&&_};
 ghost use Prim.Native.Nat.{_≤_};
-ghost use lib.ListN.{length, drop};
+ghost use lib.ListN.{length, getD, drop};
 ghost use Rattle.lists.specs.Lists.{all, any};
 ghost use Rattle.table.specs.Layout.{sequences, theTable};
 ghost use Rattle.sections.specs.Laid.{Laid};
@@ -14,7 +14,8 @@ ghost use Rattle.table.specs.Spans.{Fits, within};
 ghost use Rattle.soundness.specs.Sequences.{startsWith, twoSelectors, rule4};
 ghost use Rattle.table.specs.Part.{recordsIn};
 ghost use Rattle.sound_parts.specs.Parts.{Holds};
-ghost use Rattle.rule_4.specs.Strips.{plainSequence, sameStripped, distinctStripped, NextItem};
+ghost use Rattle.firsts.specs.Firsts.{FirstsSteady};
+ghost use Rattle.rule_4.specs.Strips.{plainSequence, sameStripped, distinctStripped, NextItem, Bounded};
 
 const SELECTOR: u32 = 0xFE0F;
 
@@ -98,13 +99,43 @@ fn same_stripped_of(items: &[u32], part: &[u32], s: Span) -> bool
     same_stripped(items, &part[from..to])
 }
 
-// Whether one of the sequences is equal to the items when stripped.
-pub fn any_same(part: &[u32], items: &[u32]) -> bool
+// The first item, or 0.
+pub fn first_of(items: &[u32]) -> u32
+    ensures { λ r. ⌜ r ≡ getD (now (items .entry)) 0 0 ⌝ }
+{
+    if items.len() == 0 {
+        return 0;
+    }
+    items[0]
+}
+
+// Whether no sequence that starts above the items, or below them, is equal to them when stripped: sequences are sorted, and the first item
+// is there and is not FE0F.
+pub fn is_bounded(sorted: bool, items: &[u32]) -> bool
+    ensures { λ r. ⌜ (r ≡ true → Bounded sorted (now (items .entry))) ⌝ }
+{
+    if items.len() == 0 {
+        return false;
+    }
+    if items[0] == SELECTOR {
+        return false;
+    }
+    sorted
+}
+
+// Whether one of the sequences is equal to the items when stripped. Where they are sorted, none from one on that starts above the items is.
+pub fn any_same(part: &[u32], sorted: bool, items: &[u32]) -> bool
     requires { ⌜ Holds sequences (now part) ⌝ }
+    requires { ⌜ (sorted ≡ true → FirstsSteady (now part)) ⌝ }
     ensures { λ r. ⌜ r ≡ any (sameStripped (now (items .entry))) (recordsIn sequences (now (part .entry))) ⌝ }
 {
+    let bounded = is_bounded(sorted, items);
+    let first = first_of(items);
     let mut i: usize = 0;
     while i < part.len() {
+        if bounded & (first < part[i + 1]) {
+            return false;
+        }
         let s = counted(part, i);
         if same_stripped_of(items, part, s) {
             return true;
@@ -115,25 +146,27 @@ pub fn any_same(part: &[u32], items: &[u32]) -> bool
 }
 
 // The same of the items at s and the sequences behind them.
-fn same_behind(part: &[u32], s: Span) -> bool
+fn same_behind(part: &[u32], sorted: bool, s: Span) -> bool
     requires { ⌜ Fits (now part) s ⌝ }
     requires { ⌜ Holds sequences (drop (s .to) (now part)) ⌝ }
+    requires { ⌜ (sorted ≡ true → FirstsSteady (drop (s .to) (now part))) ⌝ }
     ensures { λ r. ⌜ r ≡ any (sameStripped (within s (now (part .entry)))) (recordsIn sequences (drop (s .to) (now (part .entry)))) ⌝ }
 {
     let from = s.from;
     let to = s.to;
-    any_same(&part[to..], &part[from..to])
+    any_same(&part[to..], sorted, &part[from..to])
 }
 
 // Whether no two of the sequences are equal when stripped.
-fn distinct_stripped(part: &[u32]) -> bool
+fn distinct_stripped(part: &[u32], sorted: bool) -> bool
     requires { ⌜ Holds sequences (now part) ⌝ }
+    requires { ⌜ (sorted ≡ true → FirstsSteady (now part)) ⌝ }
     ensures { λ r. ⌜ r ≡ distinctStripped (recordsIn sequences (now (part .entry))) ⌝ }
 {
     let mut i: usize = 0;
     while i < part.len() {
         let s = counted(part, i);
-        if same_behind(part, s) {
+        if same_behind(part, sorted, s) {
             return false;
         }
         i = s.to;
@@ -166,24 +199,26 @@ fn plain_sequences(part: &[u32]) -> bool
     true
 }
 
-fn sequences_fit(part: &[u32]) -> bool
+fn sequences_fit(part: &[u32], sorted: bool) -> bool
     requires { ⌜ Holds sequences (now part) ⌝ }
+    requires { ⌜ (sorted ≡ true → FirstsSteady (now part)) ⌝ }
     ensures { λ r. ⌜ r ≡ (all plainSequence (recordsIn sequences (now (part .entry))) && distinctStripped (recordsIn sequences (now (part .entry)))) ⌝ }
 {
     if !plain_sequences(part) {
         return false;
     }
-    distinct_stripped(part)
+    distinct_stripped(part, sorted)
 }
 
-fn sequences_fit_of(words: &[u32], s: Span) -> bool
+fn sequences_fit_of(words: &[u32], sorted: bool, s: Span) -> bool
     requires { ⌜ Fits (now words) s ⌝ }
     requires { ⌜ Holds sequences (within s (now words)) ⌝ }
+    requires { ⌜ (sorted ≡ true → FirstsSteady (within s (now words))) ⌝ }
     ensures { λ r. ⌜ r ≡ (all plainSequence (recordsIn sequences (within s (now (words .entry)))) && distinctStripped (recordsIn sequences (within s (now (words .entry))))) ⌝ }
 {
     let from = s.from;
     let to = s.to;
-    sequences_fit(&words[from..to])
+    sequences_fit(&words[from..to], sorted)
 }
 
 // Rule 4: no sequence holds 2E, starts with FE0F or has two FE0F together; stripped, no two are equal.
@@ -191,5 +226,5 @@ pub fn keeps_rule4(words: &[u32], ix: Sections) -> bool
     requires { ⌜ Laid (now words) ix ⌝ }
     ensures { λ r. ⌜ r ≡ rule4 (theTable (now (words .entry))) ⌝ }
 {
-    sequences_fit_of(words, ix.emoji)
+    sequences_fit_of(words, ix.sorted.emoji, ix.emoji)
 }

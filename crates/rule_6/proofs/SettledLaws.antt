@@ -1,9 +1,10 @@
 -- Laws of rule 6 by its codepoints, window by window. Assumes nothing.
-use Prim.Native.Nat.{ℕ, _+_, _<_, _≤_}
+use Prim.Native.Nat.{ℕ, _+_, _-_, _*_, _/_, _<_, _≤_}
+use native.Mathlib.Omega.{arith}
 use mathlib.Core.Path.{_≡_, refl, sym, _∙_, ap}
 use mathlib.Core.Bool.{Bool, true, false, not, _||_}
 use mathlib.Core.List.{List, [], _∷_, _++_}
-use lib.ListN.{length}
+use lib.ListN.{length, getD}
 use borrow.Author.Tests.{ltb-true}
 use Rattle.lists.specs.Lists.{all, mem}
 use Rattle.lists.specs.Elements.{list-same}
@@ -13,10 +14,11 @@ use Rattle.text.specs.Hangul.{isSyllable}
 use Rattle.text.specs.Decomposition.{single, fourRounds}
 use Rattle.decomposition.proofs.Rounds.{rounds-join, rounds-four}
 use Rattle.soundness.specs.Pairs.{decomposesFully, heads}
-use Rattle.bit_sets.specs.Sets.{has}
+use Rattle.bit_sets.specs.Sets.{has, windowWords}
 use Rattle.sound_choices.specs.Rounds.{headsOf, after, startOf, Holding}
 use Rattle.sound_choices.specs.Choices.{isPoint}
 use Rattle.sound_choices.proofs.RoundLaws.{plain-single, neither-left, neither-right}
+use Rattle.sound_choices.proofs.WordLaws.{word-none}
 use Rattle.sound_rounds.proofs.ReachLaws.{after-four}
 use Rattle.rule_2.specs.Windows.{Passes}
 use Rattle.rule_6.specs.Heads.{isStable, stableAt, settled}
@@ -44,6 +46,20 @@ module _ (t : Table) (base : ℕ) (set : List ℕ) (d : ℕ) where
   pub stable-asked : (r : Bool) → has set d ≡ true → r ≡ isStable t (base + d) → r ≡ stableAt t base set d
   unfolding stableAt
   stable-asked r e f = rw e f
+
+-- the places of the word i, where the set holds none, or none of the codepoints can change
+module _ (t : Table) (base : ℕ) (set : List ℕ) (i : ℕ) where
+  pub word-free : getD set i 0 ≡ 0 → (d : ℕ) → d / 32 ≡ i → stableAt t base set d ≡ true
+  word-free z d f = sym (stable-free t base set d (word-none set i d z f))
+
+  pub word-plain : (heads : List ℕ) → Holding base heads (headsOf (t .decompositions)) → i < windowWords → getD heads i 0 ≡ 0
+      → ((d : ℕ) → d < 32 → isSyllable (base + i * 32 + d) ≡ false) → (d : ℕ) → d / 32 ≡ i → stableAt t base set d ≡ true
+  word-plain heads w h z ns d f = sym (stable-plain t base set d heads w (omega arith) (rw (none, word-none heads i d z f)))
+    where
+      none : isSyllable (base + d) ≡ false
+      none =
+          let e : base + i * 32 + (d - i * 32) ≡ base + d = omega arith in
+          ap isSyllable (sym e) ∙ ns (d - i * 32) (omega arith)
 
 -- the test of a place, and of its codepoint
 pub window-settled : (t : Table) (base : ℕ) (set : List ℕ) → Holding base set (after 4 t (startOf t true)) → (d : ℕ) → d < 0x10000

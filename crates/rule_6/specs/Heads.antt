@@ -5,7 +5,7 @@ use mathlib.Core.List.{List, [], _∷_}
 use Rattle.lists.specs.Lists.{all, mem, sameList, distinct}
 use Rattle.table.specs.Table.{Headed, Table}
 use Rattle.text.specs.Decomposition.{single, fourRounds}
-use Rattle.soundness.specs.Pairs.{heads, plainHead, sparesHangul}
+use Rattle.soundness.specs.Pairs.{heads, plainHead}
 use Rattle.bit_sets.specs.Sets.{has}
 use Rattle.sound_choices.specs.Rounds.{headsOf}
 
@@ -31,7 +31,3 @@ headFits h later = plainHead h && not (mem h (headsOf later))
 -- the heads of a list are plain and distinct
 unfoldable pub headsFit : List Headed → Bool
 headsFit rs = distinct (headsOf rs) && all plainHead (headsOf rs)
-
--- an entry first, last, class gives no jamo and no syllable a class other than 0
-abbrev pub sparesTriple : ℕ → ℕ → ℕ → Bool
-sparesTriple a b k = sparesHangul (record { first = a; last = b; class = k })

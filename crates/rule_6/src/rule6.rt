@@ -4,35 +4,39 @@ use decomposition::is_alone;
 use decomposition::replaced;
 use sections::Sections;
 use sound_choices::choices::find_first;
+use sound_parts::spared::classes_spare_of;
+use sound_parts::spared::plain_head;
 use sound_rounds::rounds::choose_rounds;
+use sound_rounds::rounds::no_syllables;
 use sound_rounds::rounds::reach;
 use table::Items;
 use table::Span;
 use table::lookup::counted;
 use table::lookup::head_in;
-use text::hangul::is_jamo;
 use text::hangul::is_syllable;
 ghost use mathlib.Core.Path.{_≡_};
-ghost use mathlib.Core.Bool.{true, _&&_, _||_};
+ghost use mathlib.Core.Bool.{true, _||_};
 ghost use Prim.Native.Nat.{_+_, _<_};
 ghost use lib.ListN.{length, drop};
-ghost use lib.Dec.{leb};
 ghost use Rattle.lists.specs.Lists.{all, mem};
 ghost use Rattle.sections.specs.Laid.{Laid};
 ghost use Rattle.table.specs.Spans.{Fits, within};
 ghost use Rattle.table.specs.Layout.{theTable};
 ghost use Rattle.text.specs.Hangul.{isSyllable};
 ghost use Rattle.soundness.specs.Scalars.{rule1};
-ghost use Rattle.soundness.specs.Pairs.{decomposesFully, heads, plainHead, rule6};
+ghost use Rattle.soundness.specs.Pairs.{decomposesFully, heads, rule6};
 ghost use Rattle.table.specs.Part.{recordsIn};
-ghost use Rattle.sound_parts.specs.Parts.{Holds, asHeaded, allTriples};
+ghost use Rattle.sound_parts.specs.Parts.{Holds, asHeaded};
 ghost use Rattle.bit_sets.specs.Sets.{has, windowWords};
 ghost use Rattle.sound_choices.specs.Rounds.{headsOf, startOf, Holding};
 ghost use Rattle.sound_rounds.specs.Reached.{PartsOf, RoundsChosen};
-ghost use Rattle.rule_2.specs.Windows.{Passes};
-ghost use Rattle.rule_6.specs.Heads.{isStable, stableAt, settled, headFits, headsFit, sparesTriple};
+ghost use Rattle.rule_2.specs.Windows.{Passes, WordPasses};
+ghost use Rattle.rule_6.specs.Heads.{isStable, stableAt, settled, headFits, headsFit};
 
 const WINDOW: u32 = 0x10000;
+
+// The words of a window's set.
+const WORDS: u32 = 2048;
 
 // Whether c decomposes no further.
 fn is_stable(words: &[u32], ix: Sections, c: u32) -> bool
@@ -41,19 +45,6 @@ fn is_stable(words: &[u32], ix: Sections, c: u32) -> bool
 {
     let parts = replaced(words, ix, c);
     is_alone(parts, c)
-}
-
-// Whether c is neither ASCII nor a syllable nor a jamo.
-fn plain_head(c: u32) -> bool
-    ensures { λ r. ⌜ r ≡ plainHead c ⌝ }
-{
-    if c < 0x80 {
-        return false;
-    }
-    if is_syllable(c) {
-        return false;
-    }
-    !is_jamo(c)
 }
 
 // Whether c is the head of one of the records.
@@ -144,7 +135,48 @@ fn stable_at(words: &[u32], ix: Sections, heads: &[u32], set: &[u32], base: u32,
     is_stable(words, ix, base + d)
 }
 
-// The same for every place.
+// The same for the 32 places of the word i.
+fn stable_places(words: &[u32], ix: Sections, heads: &[u32], set: &[u32], base: u32, i: u32) -> bool
+    requires { ⌜ Laid (now words) ix ⌝ }
+    requires { ⌜ Holding base (now heads) (headsOf (theTable (now words) .decompositions)) ⌝ }
+    requires { ⌜ length (now set) ≡ windowWords ⌝ }
+    requires { ⌜ base < 0x110000 ⌝ }
+    requires { ⌜ i < windowWords ⌝ }
+    ensures { λ r. ⌜ WordPasses (stableAt (theTable (now (words .entry))) base (now (set .entry))) i r ⌝ }
+{
+    let mut d = i * 32;
+    let end = d + 32;
+    while d < end {
+        if !stable_at(words, ix, heads, set, base, d) {
+            return false;
+        }
+        d += 1;
+    }
+    true
+}
+
+// The same, at once where the set holds none of them, or none can change.
+fn stable_word(words: &[u32], ix: Sections, heads: &[u32], set: &[u32], base: u32, i: u32) -> bool
+    requires { ⌜ Laid (now words) ix ⌝ }
+    requires { ⌜ Holding base (now heads) (headsOf (theTable (now words) .decompositions)) ⌝ }
+    requires { ⌜ length (now set) ≡ windowWords ⌝ }
+    requires { ⌜ base < 0x110000 ⌝ }
+    requires { ⌜ i < windowWords ⌝ }
+    ensures { λ r. ⌜ WordPasses (stableAt (theTable (now (words .entry))) base (now (set .entry))) i r ⌝ }
+{
+    let k = i as usize;
+    if set[k] == 0 {
+        return true;
+    }
+    if heads[k] == 0 {
+        if no_syllables(base + i * 32) {
+            return true;
+        }
+    }
+    stable_places(words, ix, heads, set, base, i)
+}
+
+// The same for every word.
 fn stable_in(words: &[u32], ix: Sections, heads: &[u32], set: &[u32], base: u32) -> bool
     requires { ⌜ Laid (now words) ix ⌝ }
     requires { ⌜ Holding base (now heads) (headsOf (theTable (now words) .decompositions)) ⌝ }
@@ -152,12 +184,12 @@ fn stable_in(words: &[u32], ix: Sections, heads: &[u32], set: &[u32], base: u32)
     requires { ⌜ base < 0x110000 ⌝ }
     ensures { λ r. ⌜ Passes (stableAt (theTable (now (words .entry))) base (now (set .entry))) 0x10000 r ⌝ }
 {
-    let mut d: u32 = 0;
-    while d < WINDOW {
-        if !stable_at(words, ix, heads, set, base, d) {
+    let mut i: u32 = 0;
+    while i < WORDS {
+        if !stable_word(words, ix, heads, set, base, i) {
             return false;
         }
-        d += 1;
+        i += 1;
     }
     true
 }
@@ -228,58 +260,6 @@ fn decompose_fully_of(words: &[u32], ix: Sections) -> bool
     let c = ix.groups.from;
     let d = ix.groups.to;
     decompose_fully(words, ix, &words[a..b], &words[c..d])
-}
-
-// Whether the codepoints from first to last and those from a to b have one in common.
-fn meets(first: u32, last: u32, a: u32, b: u32) -> bool
-    ensures { λ r. ⌜ r ≡ (leb first b && leb a last) ⌝ }
-{
-    if b < first {
-        return false;
-    }
-    a <= last
-}
-
-// Whether an entry gives no jamo and no syllable a class other than 0.
-fn spares_hangul(first: u32, last: u32, class: u32) -> bool
-    ensures { λ r. ⌜ r ≡ sparesTriple first last class ⌝ }
-{
-    if class == 0 {
-        return true;
-    }
-    if meets(first, last, 0x1100, 0x1112) {
-        return false;
-    }
-    if meets(first, last, 0x1161, 0x1175) {
-        return false;
-    }
-    if meets(first, last, 0x11A8, 0x11C2) {
-        return false;
-    }
-    !meets(first, last, 0xAC00, 0xD7A3)
-}
-
-// Whether the entries give no jamo and no syllable a class other than 0.
-fn classes_spare(part: &[u32]) -> bool
-    ensures { λ r. ⌜ r ≡ allTriples sparesTriple (now (part .entry)) ⌝ }
-{
-    let mut i: usize = 0;
-    while 2 < part.len() - i {
-        if !spares_hangul(part[i], part[i + 1], part[i + 2]) {
-            return false;
-        }
-        i += 3;
-    }
-    true
-}
-
-fn classes_spare_of(words: &[u32], s: Span) -> bool
-    requires { ⌜ Fits (now words) s ⌝ }
-    ensures { λ r. ⌜ r ≡ allTriples sparesTriple (within s (now (words .entry))) ⌝ }
-{
-    let from = s.from;
-    let to = s.to;
-    classes_spare(&words[from..to])
 }
 
 // Rule 6: four rounds decompose fully; heads are distinct, and no ASCII, syllable or jamo; no entry gives a jamo or a syllable a class

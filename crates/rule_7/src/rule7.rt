@@ -19,7 +19,7 @@ ghost use Rattle.sound_parts.specs.Parts.{Holds, asHeaded};
 ghost use Rattle.rule_7.specs.Pairs.{pairOf, samePair, samePairIn, pairFits, pairsFit};
 
 // Whether a decomposition is a composition pair.
-fn is_pair(words: &[u32], ix: Sections, head: u32, items: &[u32]) -> bool
+pub fn is_pair(words: &[u32], ix: Sections, head: u32, items: &[u32]) -> bool
     requires { ⌜ Laid (now words) ix ⌝ }
     ensures { λ r. ⌜ r ≡ pairOf (theTable (now (words .entry))) head (now (items .entry)) ⌝ }
 {

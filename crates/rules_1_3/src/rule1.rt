@@ -286,5 +286,8 @@ pub fn keeps_rule1(words: &[u32], ix: Sections) -> bool
     if !scalar_others(words, ix) {
         return false;
     }
-    scalar_pairs_of(words, ix.escape)
+    if !scalar_pairs_of(words, ix.escape) {
+        return false;
+    }
+    scalar_pairs_of(words, ix.quick)
 }

@@ -1,2 +1,3 @@
 pub mod Grouping
+pub mod Walking
 pub mod Steps

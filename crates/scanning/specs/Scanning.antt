@@ -7,6 +7,7 @@ use mathlib.Core.Option.{Option, none, some}
 use lib.ListN.{length}
 use Rattle.lists.specs.Lists.{any}
 use Rattle.table.specs.Table.{Table}
+use Rattle.text.specs.Decomposition.{fourRounds}
 use Rattle.laying.specs.declared.Run.{Run}
 use Rattle.scanning.specs.declared.Tally.{Tally}
 use Rattle.scanning.specs.declared.Which as which
@@ -49,7 +50,7 @@ pub record Went (t : Table) (s : Step) (w w′ : List ℕ) (run : Run) (k : ℕ)
   pub allowed : s ≡ disallowed → ⊥
   pub taken : k ≡ width s
   pub which : chosenBy m ≡ chosen s
-  pub lays : (ss : List Step) → Laying t ss run w → Laying t (ss ++ s ∷ []) r w′
+  pub lays : (ss : List Step) → Laying (fourRounds t) ss run w → Laying (fourRounds t) (ss ++ s ∷ []) r w′
 
 abbrev pub StepWent : Table → Step → List ℕ → List ℕ → Run → Stepped → Type 0
 StepWent t s w w′ run stepped.the-variants.Disallowed = s ≡ disallowed

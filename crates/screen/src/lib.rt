@@ -14,7 +14,8 @@ use one_label::judge_label;
 use screen_label::is_greek;
 use screen_label::show_label;
 use sections::Sections;
-use unpaired::PAIR_WORDS;
+use unpaired::KNOWN_WORDS;
+use unpaired::index::index_pairs;
 ghost use Prim.Native.Nat.{_≤_};
 ghost use lib.ListN.{length};
 ghost use Rattle.limits.specs.Limits.{mostInput, leastWork};
@@ -41,7 +42,8 @@ fn show_labels(
     requires { ⌜ Memo (now words) (now memo) ⌝ }
     ensures { λ r. ⌜ ScreenJudged (theTable (now (words .entry))) greek (now (name .entry)) (labelsTyped setting (theTable (now (words .entry))) 0 0 0 (labelsOf (now (name .entry)))) (now (answer .entry)) (now (answer .exit)) (now (w .entry)) (now (w .exit)) r ⌝ }
 {
-    let mut unpaired = [0u32; PAIR_WORDS];
+    let mut unpaired = [0u32; KNOWN_WORDS];
+    index_pairs(words, ix, &mut unpaired);
     let mut at = 0;
     let mut done = 0;
     let mut place = 0;

@@ -87,7 +87,7 @@ abbrev tiny : List ℕ → List ℕ → List ℕ → List ℕ
 tiny valid mapped sequences =
     joined
     (section valid ∷ section [] ∷ section [] ∷ section [] ∷ section [] ∷ section mapped ∷ section [] ∷ section sequences ∷ section (0 ∷ []) ∷ section []
-    ∷ section (0 ∷ section valid) ∷ section [] ∷ section [] ∷ [])
+    ∷ section (0 ∷ section valid) ∷ section [] ∷ section [] ∷ section [] ∷ [])
 
 abbrev letters : List ℕ
 letters = 0x61 ∷ 0x61 ∷ 0x3BE ∷ 0x3BE ∷ 0x3C4 ∷ 0x3C4 ∷ []

@@ -2,19 +2,33 @@
 use Prim.Native.Nat.{ℕ}
 use native.Mathlib.Omega.{arith}
 use mathlib.Core.Path.{_≡_, _∙_}
-use mathlib.Core.List.{List}
+use mathlib.Core.List.{List, [], _∷_}
+use mathlib.Core.Option.{some}
+use lib.Dec.{leb}
 use Rattle.table.specs.declared.Items.{Items}
 use Rattle.table.specs.declared.WholeAt.{WholeAt}
-use Rattle.table.specs.Layout.{mostItems, mostParts, theTable}
+use Rattle.table.specs.Table.{Range}
+use Rattle.table.specs.Layout.{mostItems, mostParts, inFront, ranges, theTable}
 use Rattle.table.specs.Spans.{within}
 use Rattle.table.specs.Lookup.{itemsOf, wholeOf}
-use Rattle.table.specs.Part.{recordsIn, headsIn, wholesIn, ItemsFound, WholeFound, HeadedPart, WholesPart}
+use Rattle.table.specs.Part.{recordsIn, headsIn, wholesIn, ItemsFound, WholeFound, WholesPart}
 use Rattle.table.specs.GroupPart.{groupsIn, GroupsPart}
-use Rattle.table.proofs.Lookups.{ExcludedHere, excluded-here}
+use Rattle.table.proofs.Lookups.{ExcludedHere, excluded-here, none-some, onlyIf-some, inFront-some}
 use Rattle.table.proofs.Searches.{headed-wider, items-narrow}
 use Rattle.sections.specs.declared.Sections.{Sections}
+use Rattle.sections.specs.Known.{spelled}
 use Rattle.sections.specs.Laid.{Laid}
 use Rattle.sections.proofs.SectionLaws.{laid-fits, laid-reads}
+
+-- ranges are read from the words that spell them, and from no others
+pub ranges-spelled : (ws : List ℕ) (rs : List Range) → ranges ws ≡ some rs → spelled rs ≡ ws
+unfolding ranges spelled
+ranges-spelled [] rs e = let same : rs ≡ [] = cc in rw same
+ranges-spelled (a ∷ []) rs e = absurd (none-some rs e)
+ranges-spelled (a ∷ b ∷ ws) rs e =
+    let p = onlyIf-some (leb a b) (inFront (record { first = a; last = b }) (ranges ws)) rs e in
+    let q = inFront-some (record { first = a; last = b }) (ranges ws) rs (p .1) in
+    rw (q .2, ranges-spelled ws (q .0) (q .1))
 
 -- where the excluded items stand
 pub laid-excluded : (ws : List ℕ) (ix : Sections) → Laid ws ix → ExcludedHere ws (ix .exclusions) (theTable ws .exclusions)
@@ -22,14 +36,6 @@ laid-excluded ws ix l = excluded-here ws (ix .exclusions) _ (laid-fits ws ix l .
 
 -- what the sections of a laid-out table answer
 module _ (ws : List ℕ) (ix : Sections) (l : Laid ws ix) where
-  pub mapped-part : HeadedPart ws (ix .mapped)
-  mapped-part = record { fits = laid-fits ws ix l .mapped; parses = rw (laid-reads ws ix l .mapped) }
-
-  pub decompositions-part : HeadedPart ws (ix .decompositions)
-  decompositions-part =
-      let e = headed-wider _ mostParts mostItems _ _ (omega arith) (laid-reads ws ix l .decompositions) in
-      record { fits = laid-fits ws ix l .decompositions; parses = rw e }
-
   pub wholes-part : WholesPart ws (ix .wholes)
   wholes-part = record { fits = laid-fits ws ix l .wholes; parses = rw (laid-reads ws ix l .wholes) }
 

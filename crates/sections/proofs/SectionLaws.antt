@@ -5,7 +5,7 @@ use native.Mathlib.Numerals.{add-one}
 use mathlib.Core.Path.{_≡_, refl, sym, ap, _∙_}
 use mathlib.Core.Bool.{Bool, true, false, cond, and-false}
 use mathlib.Core.List.{List, [], _∷_, map}
-use mathlib.Core.Option.{Option, none, some, Option·getD}
+use mathlib.Core.Option.{Option, none, some}
 use lib.ListN.{length, getD, take, drop, length-drop, drop-of-length-le}
 use lib.Seq.{drop-cons, drop-drop}
 use lib.Dec.{leb, ltb, eqb}
@@ -13,11 +13,13 @@ use borrow.Author.Tests.{ltb-true, ltb-false, leb-true, leb-false, eqb-true, lt-
 use Rattle.lists.specs.Lists.{isSome, andThen}
 use Rattle.table.specs.declared.Span.{Span}
 use Rattle.sections.specs.declared.Sections.{Sections}
-use Rattle.sections.specs.declared.Layout.the-variants.{Fault, Found}
+use Rattle.sections.specs.declared.Sorted.{Sorted}
+use Rattle.sections.specs.declared.Starts.{Starts}
 use Rattle.table.specs.Table.{Table}
-use Rattle.table.specs.Layout.{mostItems, mostParts, mostGroups, sectionCount, mostWords, onlyIf, inFront, sections, ranges, classRanges, headed, sequences, excluded, groups, wholes, tableOf, parse, emptyTable, theTable}
+use Rattle.table.specs.Layout.{mostItems, mostParts, mostGroups, sectionCount, mostWords, onlyIf, inFront, sections, ranges, classRanges, headed, sequences, excluded, groups, wholes, tableOf, parse, theTable}
 use Rattle.table.specs.Spans.{within, Fits}
-use Rattle.sections.specs.Laid.{spanAt, sectionsOf, lastEnd, AllFit, layoutOf, Laid, partsOf}
+use Rattle.sections.specs.Known.{noneSorted, noStarts}
+use Rattle.sections.specs.Laid.{spanAt, sectionsOf, bare, lastEnd, AllFit, Laid, partsOf}
 
 -- k sections from `at` on, and where the last one ends
 spans : ℕ → List ℕ → ℕ → List Span
@@ -127,7 +129,7 @@ unfolding atSpans endOf spans sectionsOf partsOf
 sections-found ws = sections-spans sectionCount ws 0 (omega arith)
 
 -- the sections, found one behind the other
-pub sections-chain : (ws : List ℕ) (a b c d e f g h i j k l m : Span) →
+pub sections-chain : (ws : List ℕ) (a b c d e f g h i j k l m n : Span) →
     a ≡ spanAt ws 0 →
     b ≡ spanAt ws (a .to) →
     c ≡ spanAt ws (b .to) →
@@ -141,9 +143,11 @@ pub sections-chain : (ws : List ℕ) (a b c d e f g h i j k l m : Span) →
     k ≡ spanAt ws (j .to) →
     l ≡ spanAt ws (k .to) →
     m ≡ spanAt ws (l .to) →
-    record { valid = a; ignored = b; fenced = c; marks = d; nsm = e; mapped = f; decompositions = g; emoji = h; exclusions = i; classes = j; groups = k; wholes = l; escape = m } ≡ sectionsOf ws
+    n ≡ spanAt ws (m .to) →
+    (x : Sorted) (y : Starts) → x ≡ noneSorted → y ≡ noStarts →
+    record { valid = a; ignored = b; fenced = c; marks = d; nsm = e; mapped = f; decompositions = g; emoji = h; exclusions = i; classes = j; groups = k; wholes = l; escape = m; quick = n; sorted = x; starts = y } ≡ sectionsOf ws
 unfolding sectionsOf
-sections-chain ws a b c d e f g h i j k l m a₁ b₁ c₁ d₁ e₁ f₁ g₁ h₁ i₁ j₁ k₁ l₁ m₁ = rw (m₁, l₁, k₁, j₁, i₁, h₁, g₁, f₁, e₁, d₁, c₁, b₁, a₁)
+sections-chain ws a b c d e f g h i j k l m n a₁ b₁ c₁ d₁ e₁ f₁ g₁ h₁ i₁ j₁ k₁ l₁ m₁ n₁ x y x₁ y₁ = rw (x₁, y₁, n₁, m₁, l₁, k₁, j₁, i₁, h₁, g₁, f₁, e₁, d₁, c₁, b₁, a₁)
 
 -- a section that ends within the words lies within them, and so does the end of the one before it
 record Back (ws : List ℕ) (at : ℕ) : Type 0 where
@@ -165,7 +169,8 @@ pub sections-fit : (ws : List ℕ) → lastEnd (sectionsOf ws) ≡ length ws →
 unfolding sectionsOf
 sections-fit ws e =
     let ix = sectionsOf ws in
-    let m = back ws (ix .wholes .to) (omega arith) in
+    let n = back ws (ix .escape .to) (omega arith) in
+    let m = back ws (ix .wholes .to) (n .earlier) in
     let l = back ws (ix .groups .to) (m .earlier) in
     let k = back ws (ix .classes .to) (l .earlier) in
     let j = back ws (ix .exclusions .to) (k .earlier) in
@@ -192,6 +197,7 @@ sections-fit ws e =
       groups = k .fits;
       wholes = l .fits;
       escape = m .fits;
+      quick = n .fits;
     }
 
 -- The words of each section spell the table's entries.
@@ -209,6 +215,7 @@ pub record Reads (ws : List ℕ) (ix : Sections) (t : Table) : Type 0 where
   pub groups : groups (length (within (ix .groups) ws)) (within (ix .groups) ws) ≡ some (t .groups)
   pub wholes : wholes (length (within (ix .wholes) ws)) (within (ix .wholes) ws) ≡ some (t .wholes)
   pub escape : ranges (within (ix .escape) ws) ≡ some (t .escape)
+  pub quick : ranges (within (ix .quick) ws) ≡ some (t .quickCheck)
   pub few : length (t .groups) ≤ mostGroups
 
 -- what follows where both steps gave something
@@ -236,10 +243,11 @@ table-reads ws ix t e =
     both (groups (length (within (ix .groups) ws)) (within (ix .groups) ws)) _ t rj λ vk ek rk.
     both (wholes (length (within (ix .wholes) ws)) (within (ix .wholes) ws)) _ t rk λ vl el rl.
     both (ranges (within (ix .escape) ws)) _ t rl λ vm em rm.
-    let h = only (leb (length vk) mostGroups) (record { valid = va; ignored = vb; fenced = vc; marks = vd; nsm = ve; mapped = vf; decompositions = vg; emoji = vh; exclusions = vi; classes = vj; groups = vk; wholes = vl; escape = vm }) t rm in
+    both (ranges (within (ix .quick) ws)) _ t rm λ vn en rn.
+    let h = only (leb (length vk) mostGroups) (record { valid = va; ignored = vb; fenced = vc; marks = vd; nsm = ve; mapped = vf; decompositions = vg; emoji = vh; exclusions = vi; classes = vj; groups = vk; wholes = vl; escape = vm; quickCheck = vn }) t rn in
     let few : length vk ≤ mostGroups = leb-true _ _ (h .0) in
     rw (← h .1)
-    (record { valid = ea; ignored = eb; fenced = ec; marks = ed; nsm = ee; mapped = ef; decompositions = eg; emoji = eh; exclusions = ei; classes = ej; groups = ek; wholes = el; escape = em; few = few })
+    (record { valid = ea; ignored = eb; fenced = ec; marks = ed; nsm = ee; mapped = ef; decompositions = eg; emoji = eh; exclusions = ei; classes = ej; groups = ek; wholes = el; escape = em; quick = en; few = few })
 
 -- a table is what the words of the sections spell, where there are not too many words and the last section ends with them
 pub parse-parts : (ws : List ℕ) →
@@ -278,48 +286,69 @@ unfolding theTable
 parse-table ws t e = rw e
 
 -- What a layout says of its words.
-pub found-laid : (ws : List ℕ) (ix : Sections) → layoutOf ws ≡ Found ix → Laid ws ix
-found-laid ws ix e = record { found = e }
-
-laid-both : (ws : List ℕ) (ix : Sections) → Laid ws ix → (parse ws ≡ some (theTable ws)) × (ix ≡ sectionsOf ws)
-unfolding layoutOf theTable
-laid-both ws ix l = go (parse ws) refl (l .found)
-  where
-    go : (o : Option Table) → parse ws ≡ o → cond (isSome o) (Found (sectionsOf ws)) Fault ≡ Found ix → (parse ws ≡ some (Option·getD (parse ws) emptyTable)) × (ix ≡ sectionsOf ws)
-    go none e h = let z : _≡_ {A = ℕ} 0 1 = cc in absurd (omega arith)
-    go (some t) e h = (rw e, cc)
-
 pub laid-parse : (ws : List ℕ) (ix : Sections) → Laid ws ix → parse ws ≡ some (theTable ws)
-laid-parse ws ix l = laid-both ws ix l .0
-
-pub laid-sections : (ws : List ℕ) (ix : Sections) → Laid ws ix → ix ≡ sectionsOf ws
-laid-sections ws ix l = laid-both ws ix l .1
+laid-parse ws ix l = go (parse ws) refl (l .parses)
+  where
+    go : (o : Option Table) → parse ws ≡ o → isSome o ≡ true → parse ws ≡ some (theTable ws)
+    go none e h = let z : _≡_ {A = ℕ} 0 1 = cc in absurd (omega arith)
+    go (some t) e h = rw (parse-table ws t e) e
 
 pub laid-small : (ws : List ℕ) (ix : Sections) → Laid ws ix → length ws ≤ mostWords
 laid-small ws ix l = parse-parsed ws (theTable ws) (laid-parse ws ix l) .small
 
 pub laid-fits : (ws : List ℕ) (ix : Sections) → Laid ws ix → AllFit ws ix
-laid-fits ws ix l = rw (laid-sections ws ix l) (parse-parsed ws (theTable ws) (laid-parse ws ix l) .fit)
+unfolding bare
+laid-fits ws ix l =
+    let f : AllFit ws (bare ix) = rw (l .places) (parse-parsed ws (theTable ws) (laid-parse ws ix l) .fit) in
+    record {
+      valid = f .valid;
+      ignored = f .ignored;
+      fenced = f .fenced;
+      marks = f .marks;
+      nsm = f .nsm;
+      mapped = f .mapped;
+      decompositions = f .decompositions;
+      emoji = f .emoji;
+      exclusions = f .exclusions;
+      classes = f .classes;
+      groups = f .groups;
+      wholes = f .wholes;
+      escape = f .escape;
+      quick = f .quick;
+    }
 
 pub laid-reads : (ws : List ℕ) (ix : Sections) → Laid ws ix → Reads ws ix (theTable ws)
-laid-reads ws ix l = rw (laid-sections ws ix l) (parse-parsed ws (theTable ws) (laid-parse ws ix l) .reads)
+unfolding bare
+laid-reads ws ix l =
+    let r : Reads ws (bare ix) (theTable ws) = rw (l .places) (parse-parsed ws (theTable ws) (laid-parse ws ix l) .reads) in
+    record {
+      valid = r .valid;
+      ignored = r .ignored;
+      fenced = r .fenced;
+      marks = r .marks;
+      nsm = r .nsm;
+      mapped = r .mapped;
+      decompositions = r .decompositions;
+      emoji = r .emoji;
+      exclusions = r .exclusions;
+      classes = r .classes;
+      groups = r .groups;
+      wholes = r .wholes;
+      escape = r .escape;
+      quick = r .quick;
+      few = r .few;
+    }
 
--- What the layout pass answers, test by test.
-layout-parts : (ws : List ℕ) →
-    layoutOf ws
-    ≡ cond (isSome (onlyIf (leb (length ws) mostWords) (cond (eqb (lastEnd (sectionsOf ws)) (length ws)) (tableOf (partsOf ws (sectionsOf ws))) none))) (Found (sectionsOf ws)) Fault
-unfolding layoutOf
-layout-parts ws = ap (λ (o : Option Table). cond (isSome o) (Found (sectionsOf ws)) Fault) (parse-parts ws)
-
-pub layout-long : (ws : List ℕ) → mostWords < length ws → Fault ≡ layoutOf ws
-layout-long ws h = sym (rw (lt-leb (length ws) mostWords h) at (layout-parts ws))
+-- What the layout pass finds, test by test.
+pub parse-long : (ws : List ℕ) → mostWords < length ws → parse ws ≡ none
+parse-long ws h = rw (lt-leb (length ws) mostWords h) at (parse-parts ws)
 
 module _ (ws : List ℕ) (small : length ws ≤ mostWords) where
-  layout-small : layoutOf ws ≡ cond (isSome (cond (eqb (lastEnd (sectionsOf ws)) (length ws)) (tableOf (partsOf ws (sectionsOf ws))) none)) (Found (sectionsOf ws)) Fault
-  layout-small = rw (le-leb (length ws) mostWords small) at (layout-parts ws)
+  parse-small : parse ws ≡ cond (eqb (lastEnd (sectionsOf ws)) (length ws)) (tableOf (partsOf ws (sectionsOf ws))) none
+  parse-small = rw (le-leb (length ws) mostWords small) at (parse-parts ws)
 
-  pub layout-open : (lastEnd (sectionsOf ws) ≡ length ws → ⊥) → Fault ≡ layoutOf ws
-  layout-open h = sym (rw (ne-eqb (lastEnd (sectionsOf ws)) (length ws) h) at layout-small)
+  pub parse-open : (lastEnd (sectionsOf ws) ≡ length ws → ⊥) → parse ws ≡ none
+  parse-open h = rw (ne-eqb (lastEnd (sectionsOf ws)) (length ws) h) at parse-small
 
-  pub layout-tells : (b : Bool) → lastEnd (sectionsOf ws) ≡ length ws → b ≡ isSome (tableOf (partsOf ws (sectionsOf ws))) → cond b (Found (sectionsOf ws)) Fault ≡ layoutOf ws
-  layout-tells b h e = sym (rw (eq-eqb (lastEnd (sectionsOf ws)) (length ws) h, ← e) at layout-small)
+  pub parse-closed : lastEnd (sectionsOf ws) ≡ length ws → parse ws ≡ tableOf (partsOf ws (sectionsOf ws))
+  parse-closed h = rw (eq-eqb (lastEnd (sectionsOf ws)) (length ws) h) at parse-small

@@ -1,1 +1,4 @@
+pub mod Known
 pub mod Laid
+pub mod Flags
+pub mod Examples

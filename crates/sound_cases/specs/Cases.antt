@@ -11,9 +11,10 @@ use Rattle.soundness.specs.Scalars.{rule1}
 use Rattle.soundness.specs.Valid.{rule2, rule3}
 use Rattle.soundness.specs.Sequences.{rule4, rule5}
 use Rattle.soundness.specs.Pairs.{rule6, rule7}
+use Rattle.soundness.specs.QuickCheck.{rule8}
 use Rattle.soundness.specs.Soundness.{soundnessOf}
 use Rattle.sound_cases.specs.Tables.{Filled, _≔_, tableWords, valid, ignored, fenced, marks, nsm, mapped, decompositions, emoji}
-use Rattle.sound_cases.specs.Tables.{exclusions, classes, groups, wholes, escape}
+use Rattle.sound_cases.specs.Tables.{exclusions, classes, groups, wholes, escape, quickCheck}
 
 -- a table, and the rules that it breaks, all of them in order
 pub record Case : Type 0 where
@@ -30,6 +31,10 @@ one n = n ∷ []
 -- a codepoint that is valid and in a group
 abbrev letter : ℕ → List Filled
 letter c = valid ≔ (c ∷ c ∷ []) ∷ groups ≔ (0 ∷ 2 ∷ c ∷ c ∷ []) ∷ []
+
+-- a quick-check set of the vowels, the trailing consonants and some more
+abbrev setWith : List ℕ → List Filled
+setWith ws = quickCheck ≔ (0x1161 ∷ 0x1175 ∷ 0x11A8 ∷ 0x11C2 ∷ ws) ∷ []
 
 -- records: n codepoints from c on, each to the next one; and each of some codepoints to 61
 abbrev chain : ℕ → ℕ → List ℕ
@@ -59,6 +64,7 @@ rule1Cases =
     ∷ (wholes ≔ (1 ∷ 0xD800 ∷ 0 ∷ []) ∷ []) breaks one 1
     ∷ (wholes ≔ (0 ∷ 1 ∷ 0xD800 ∷ []) ∷ []) breaks one 1
     ∷ (escape ≔ (0xDFFF ∷ 0xE000 ∷ []) ∷ []) breaks one 1
+    ∷ setWith (0x10FFFF ∷ 0x110000 ∷ []) breaks one 1
     -- inside a pair and a triple, both ends being scalar values
     ∷ (ignored ≔ (0xD7FF ∷ 0xE000 ∷ []) ∷ []) breaks one 1
     ∷ (classes ≔ (0xD7FF ∷ 0xE000 ∷ 0 ∷ []) ∷ []) breaks one 1
@@ -166,10 +172,44 @@ rule7Cases =
     ∷ (decompositions ≔ (0xC0 ∷ 3 ∷ 0x1100 ∷ 0x1161 ∷ 0x61 ∷ 0xC1 ∷ 2 ∷ 0x1100 ∷ 0x11A8 ∷ []) ∷ []) breaks []
     ∷ []
 
+-- Rule 8, "if it isn't empty, it holds every codepoint that isn't its own NFC and every one whose full decomposition starts with the second item
+-- of a composition pair, Hangul included."
+unfoldable pub rule8Cases : List Case
+rule8Cases =
+    -- the empty set holds none of them, and need not; the smallest one that is not empty
+    (decompositions ≔ (0x100 ∷ 1 ∷ 0x61 ∷ []) ∷ []) breaks []
+    ∷ setWith [] breaks []
+    -- a codepoint that isn't its own NFC: it decomposes to one, it is excluded, its parts compose to another
+    ∷ (setWith [] ++ decompositions ≔ (0x100 ∷ 1 ∷ 0x61 ∷ []) ∷ []) breaks one 8
+    ∷ (setWith (0x100 ∷ 0x100 ∷ []) ++ decompositions ≔ (0x100 ∷ 1 ∷ 0x61 ∷ []) ∷ []) breaks []
+    ∷ (setWith (0x300 ∷ 0x300 ∷ []) ++ decompositions ≔ (0xC0 ∷ 2 ∷ 0x61 ∷ 0x300 ∷ []) ∷ []) breaks []
+    ∷ (setWith (0x300 ∷ 0x300 ∷ []) ++ decompositions ≔ (0xC0 ∷ 2 ∷ 0x61 ∷ 0x300 ∷ []) ∷ exclusions ≔ (0xC0 ∷ []) ∷ []) breaks one 8
+    ∷ (setWith (0x300 ∷ 0x300 ∷ []) ++ decompositions ≔ (0x100 ∷ 1 ∷ 0xC0 ∷ 0xC0 ∷ 2 ∷ 0x61 ∷ 0x300 ∷ []) ∷ []) breaks one 8
+    -- the second item of a pair; of what is no pair
+    ∷ (setWith [] ++ decompositions ≔ (0xC0 ∷ 2 ∷ 0x61 ∷ 0x300 ∷ []) ∷ []) breaks one 8
+    ∷ (setWith (0xC0 ∷ 0xC0 ∷ []) ++ decompositions ≔ (0xC0 ∷ 2 ∷ 0x61 ∷ 0x300 ∷ []) ∷ exclusions ≔ (0xC0 ∷ []) ∷ []) breaks []
+    -- one that is its own NFC and starts with a second item: C1 is 300 301, and 300 is one
+    ∷ (setWith (0x300 ∷ 0x301 ∷ []) ++ decompositions ≔ (0xC0 ∷ 2 ∷ 0x61 ∷ 0x300 ∷ 0xC1 ∷ 2 ∷ 0x300 ∷ 0x301 ∷ []) ∷ []) breaks one 8
+    ∷ (setWith (0xC1 ∷ 0xC1 ∷ 0x300 ∷ 0x301 ∷ []) ++ decompositions ≔ (0xC0 ∷ 2 ∷ 0x61 ∷ 0x300 ∷ 0xC1 ∷ 2 ∷ 0x300 ∷ 0x301 ∷ []) ∷ []) breaks []
+    -- C1 is 62 C0 and composes no further than that; C0, a second item and a head, need not be held: its full decomposition starts with 61
+    ∷ (setWith (0x300 ∷ 0x300 ∷ []) ++ decompositions ≔ (0xC0 ∷ 2 ∷ 0x61 ∷ 0x300 ∷ 0xC1 ∷ 2 ∷ 0x62 ∷ 0xC0 ∷ []) ∷ []) breaks one 8
+    ∷ (setWith (0xC1 ∷ 0xC1 ∷ 0x300 ∷ 0x300 ∷ []) ++ decompositions ≔ (0xC0 ∷ 2 ∷ 0x61 ∷ 0x300 ∷ 0xC1 ∷ 2 ∷ 0x62 ∷ 0xC0 ∷ []) ∷ []) breaks []
+    -- a vowel that is missing, a trailing consonant, both ends of each
+    ∷ (quickCheck ≔ (0x1162 ∷ 0x1175 ∷ 0x11A8 ∷ 0x11C2 ∷ []) ∷ []) breaks one 8
+    ∷ (quickCheck ≔ (0x1161 ∷ 0x1174 ∷ 0x11A8 ∷ 0x11C2 ∷ []) ∷ []) breaks one 8
+    ∷ (quickCheck ≔ (0x1161 ∷ 0x1175 ∷ 0x11A9 ∷ 0x11C2 ∷ []) ∷ []) breaks one 8
+    ∷ (quickCheck ≔ (0x1161 ∷ 0x1175 ∷ 0x11A8 ∷ 0x11C1 ∷ []) ∷ []) breaks one 8
+    -- the leading consonant 1112 is a second item: it is held, and so are its syllables, the first and the last of them too
+    ∷ (setWith (0x1112 ∷ 0x1112 ∷ 0xD558 ∷ 0xD7A3 ∷ []) ++ decompositions ≔ (0xC0 ∷ 2 ∷ 0x61 ∷ 0x1112 ∷ []) ∷ []) breaks []
+    ∷ (setWith (0x1112 ∷ 0x1112 ∷ 0xD559 ∷ 0xD7A3 ∷ []) ++ decompositions ≔ (0xC0 ∷ 2 ∷ 0x61 ∷ 0x1112 ∷ []) ∷ []) breaks one 8
+    ∷ (setWith (0x1112 ∷ 0x1112 ∷ 0xD558 ∷ 0xD7A2 ∷ []) ++ decompositions ≔ (0xC0 ∷ 2 ∷ 0x61 ∷ 0x1112 ∷ []) ∷ []) breaks one 8
+    ∷ (setWith (0xD558 ∷ 0xD7A3 ∷ []) ++ decompositions ≔ (0xC0 ∷ 2 ∷ 0x61 ∷ 0x1112 ∷ []) ∷ []) breaks one 8
+    ∷ []
+
 -- the numbers of all rules that a table breaks
 unfoldable pub brokenRules : List ℕ → List ℕ
-unfolding theTable rule1 rule2 rule3 rule4 rule5 rule6 rule7
-brokenRules ws = let t = theTable ws in numbered 1 (rule1 t ∷ rule2 t ∷ rule3 t ∷ rule4 t ∷ rule5 t ∷ rule6 t ∷ rule7 t ∷ [])
+unfolding theTable rule1 rule2 rule3 rule4 rule5 rule6 rule7 rule8
+brokenRules ws = let t = theTable ws in numbered 1 (rule1 t ∷ rule2 t ∷ rule3 t ∷ rule4 t ∷ rule5 t ∷ rule6 t ∷ rule7 t ∷ rule8 t ∷ [])
   where
     numbered : ℕ → List Bool → List ℕ
     numbered n [] = []
@@ -241,3 +281,11 @@ rule7-broken = refl
 pub rule7-answers : answersTo rule7Cases ≡ map (λ (k : Case). lowest (k .broken)) rule7Cases
 unfolding soundnessOf tableWords rule7Cases
 rule7-answers = refl
+
+pub rule8-broken : brokenIn rule8Cases ≡ map (λ (k : Case). k .broken) rule8Cases
+unfolding brokenRules tableWords rule8Cases
+rule8-broken = refl
+
+pub rule8-answers : answersTo rule8Cases ≡ map (λ (k : Case). lowest (k .broken)) rule8Cases
+unfolding soundnessOf tableWords rule8Cases
+rule8-answers = refl

@@ -8,7 +8,7 @@ use mathlib.Core.Option.{Option, none, some}
 use Rattle.lists.specs.Laws.{Every}
 use Rattle.lists.specs.Lists.{joinedMap}
 use Rattle.soundness.specs.Soundness.{soundnessOf}
-use Rattle.sound_cases.specs.Tables.{Filled, _≔_, tableWords, valid, ignored, mapped, decompositions, emoji, groups}
+use Rattle.sound_cases.specs.Tables.{Filled, _≔_, tableWords, valid, ignored, mapped, decompositions, emoji, groups, quickCheck}
 use Rattle.sound_cases.specs.Cases.{brokenRules, lowest}
 
 -- a rule, and a table that breaks it alone
@@ -29,6 +29,7 @@ breakings =
     ∷ breaking 5 (valid ≔ (0x61 ∷ 0x61 ∷ []) ∷ groups ≔ (0 ∷ 2 ∷ 0x61 ∷ 0x61 ∷ []) ∷ emoji ≔ (1 ∷ 0x61 ∷ []) ∷ [])
     ∷ breaking 6 (decompositions ≔ (0x7F ∷ 1 ∷ 0x64 ∷ []) ∷ [])
     ∷ breaking 7 (decompositions ≔ (0xC0 ∷ 2 ∷ 0x65 ∷ 0x300 ∷ 0xC1 ∷ 2 ∷ 0x65 ∷ 0x300 ∷ []) ∷ [])
+    ∷ breaking 8 (quickCheck ≔ (0x66 ∷ 0x66 ∷ []) ∷ [])
     ∷ []
 
 -- each two of them, the lower rule first

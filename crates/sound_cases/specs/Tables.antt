@@ -49,6 +49,9 @@ wholes = 11
 abbrev pub escape : ℕ
 escape = 12
 
+abbrev pub quickCheck : ℕ
+quickCheck = 13
+
 -- words that stand in a section; of the exclusions, the items
 pub record Filled : Type 0 where
   pub section : ℕ

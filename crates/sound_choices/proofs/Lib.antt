@@ -2,3 +2,4 @@ pub mod RoundLaws
 pub mod WalkLaws
 pub mod ClearedLaws
 pub mod ChoiceLaws
+pub mod WordLaws

@@ -19,10 +19,10 @@ regroup true true true true true true false w = refl
 regroup true true true true true true true w = refl
 
 -- rule 1, section by section
-pub rule1-parts : (t : Table) → rule1 t ≡ rangesScalar t && recordsScalar t && othersScalar t && scalarRanges (t .escape)
+pub rule1-parts : (t : Table) → rule1 t ≡ rangesScalar t && recordsScalar t && othersScalar t && scalarRanges (t .escape) && scalarRanges (t .quickCheck)
 unfolding rule1 rangesScalar recordsScalar othersScalar
 rule1-parts t =
-    ap (λ (b : Bool). b && scalarRanges (t .escape))
+    ap (λ (b : Bool). b && scalarRanges (t .escape) && scalarRanges (t .quickCheck))
     (regroup (rangesScalar t) (scalarHeaded (t .mapped)) (scalarHeaded (t .decompositions)) (all (all isScalar) (t .emoji)) (all isScalar (t .exclusions))
     (all (λ (r : ClassRange). scalarsBetween (r .first) (r .last)) (t .classes))
     (all scalarGroup (t .groups))
@@ -30,4 +30,7 @@ rule1-parts t =
 
 -- what it says of the sections of 01
 pub rule1-first : (t : Table) → rule1 t ≡ true → (rangesScalar t && recordsScalar t && othersScalar t) ≡ true
-rule1-first t h = both-left (rangesScalar t && recordsScalar t && othersScalar t) (scalarRanges (t .escape)) (sym (rule1-parts t) ∙ h)
+rule1-first t h =
+    let a : Bool = rangesScalar t && recordsScalar t && othersScalar t in
+    let e : Bool = scalarRanges (t .escape) in
+    both-left a e (both-left (a && e) (scalarRanges (t .quickCheck)) (sym (rule1-parts t) ∙ h))

@@ -12,6 +12,7 @@ use Rattle.table.specs.Layout.{mostItems, headed, sequences}
 use Rattle.table.specs.Part.{recordsIn}
 use Rattle.table.specs.Lookup.{inRanges}
 use Rattle.scalar.specs.Scalar.{isScalar}
+use Rattle.soundness.specs.Pairs.{sparesHangul}
 use Rattle.soundness.specs.Scalars.{scalarsBetween, scalarRanges, scalarHeaded}
 
 -- every pair first, last passes the test
@@ -91,3 +92,7 @@ scalarLists v k = all isScalar (v ++ k)
 
 abbrev pub validLists : Table → ℕ → List ℕ → Bool
 validLists t h items = all (isValid t) items
+
+-- an entry first, last, class gives no jamo and no syllable a class other than 0
+abbrev pub sparesTriple : ℕ → ℕ → ℕ → Bool
+sparesTriple a b k = sparesHangul (record { first = a; last = b; class = k })

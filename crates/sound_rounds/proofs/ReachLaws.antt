@@ -1,30 +1,35 @@
 -- Laws of what is reached after some rounds. Assumes nothing.
-use Prim.Native.Nat.{ℕ, suc, _+_, _-_, _*_, _%_, _<_, _≤_}
+use Prim.Native.Nat.{ℕ, zero, suc, _+_, _-_, _*_, _/_, _%_, _<_, _≤_}
 use native.Mathlib.Numerals.{add-one}
 use native.Mathlib.Omega.{arith}
 use mathlib.Core.Path.{_≡_, refl, sym, _∙_, ap, subst}
 use mathlib.Core.Bool.{Bool, true, false, _&&_, _||_}
 use mathlib.Core.List.{List, [], _∷_, _++_, append-nil}
 use mathlib.Core.Logic.{_⊎_, inl, inr, ⊎-elim}
-use lib.ListN.{length, drop, replicate, drop-of-length-le}
+use lib.ListN.{length, getD, set, drop, replicate, drop-of-length-le}
+use lib.Bits.{bitOr}
 use lib.Dec.{ltb}
-use borrow.Author.Tests.{ltb-true, ltb-false}
+use borrow.Author.Tests.{lt-leb, le-leb, le-ltb, ltb-true, ltb-false}
 use Rattle.lists.specs.Lists.{mem, joinedMap}
+use Rattle.lists.specs.Laws.{joined-append}
 use Rattle.lists.specs.Tests.{mem-both}
 use Rattle.table.specs.Table.{Headed, Group, Table}
 use Rattle.table.specs.Layout.{headed, groups}
+use Rattle.text.specs.Hangul.{isSyllable}
 use Rattle.text.specs.Decomposition.{round, fourRounds}
 use Rattle.soundness.specs.Valid.{countedFrom}
 use Rattle.table.specs.Part.{recordsIn}
 use Rattle.sound_parts.specs.Parts.{asHeaded}
 use Rattle.bit_sets.specs.Sets.{has, Put, windowWords}
-use Rattle.bit_sets.proofs.PutLaws.{Putting, putting-on, putting-done}
+use Rattle.bit_sets.proofs.PutLaws.{Putting, putting-start, putting-on, putting-done, put-same, put-none}
 use Rattle.sound_choices.specs.Rounds.{headsOf, inGroups, headAt, replaces, after, chosenItems, keptAt, WindowOf, Holding, Chosen}
 use Rattle.sound_choices.specs.Rounds.{startOf, starting, rowPlaces, rowsWords}
 use Rattle.sound_choices.specs.Choices.{rowOf, FirstSet, choosesIn}
 use Rattle.sound_rounds.specs.Reached.{PartsOf, Aligned, RoundIn, Reached, RoundsChosen}
 use Rattle.sound_choices.proofs.RoundLaws.{round-window}
 use Rattle.sound_choices.proofs.ChoiceLaws.{RowBelow, row-other, row-past, below-start, below-on, below-done, choice-list}
+use Rattle.sound_choices.proofs.WalkLaws.{put-list}
+use Rattle.sound_choices.proofs.WordLaws.{word-none, put-or, kept-empty, kept-whole}
 use Rattle.sound_choices.proofs.ClearedLaws.{window-same, cleared-has, cleared-length, few-in}
 
 -- where rounds start
@@ -56,36 +61,85 @@ module _ (rs : List Headed) (gs : List Group) (base : ℕ) (set : List ℕ) wher
   unfolding starting
   start-groups h e w = window-same set _ _ (λ d k. rw e) w
 
-counted-suc : (a n : ℕ) → countedFrom a (suc n) ≡ a ∷ countedFrom (a + 1) n
+counted-append : (a m n : ℕ) → countedFrom a (m + n) ≡ countedFrom a m ++ countedFrom (a + m) n
 unfolding countedFrom
-counted-suc a n = rw add-one
+counted-append a zero n = let z : a + 0 ≡ a = omega arith in let y : 0 + n ≡ n = omega arith in rw (z, y)
+counted-append a (suc m) n =
+    let z : suc a + m ≡ a + suc m = omega arith in
+    let y : suc m + n ≡ suc (m + n) = omega arith in
+    rw y (ap (λ (l : List ℕ). a ∷ l) (counted-append (suc a) m n ∙ ap (λ (x : ℕ). countedFrom (suc a) m ++ countedFrom x n) z))
 
-counted-none : (a : ℕ) → countedFrom a 0 ≡ []
+one-given : (f : ℕ → List ℕ) (d : ℕ) → f d ≡ joinedMap f (countedFrom d 1)
 unfolding countedFrom
-counted-none a = refl
+one-given f d = sym (append-nil (f d))
 
--- the places of the sets of a round
-module _ (f : ℕ → List ℕ) (base : ℕ) (old cur : List ℕ) where
-  pub kept-next : (d : ℕ) → Putting (λ e. mem (base + e) (joinedMap f (countedFrom 0 0x10000)))
-      (λ e. mem (base + e) (joinedMap f (countedFrom d (0x10000 - d)))) old cur
-      → d < 0x10000 → (new : List ℕ) → Put cur new (λ e. mem (base + e) (f d))
-      → Putting (λ e. mem (base + e) (joinedMap f (countedFrom 0 0x10000)))
-      (λ e. mem (base + e) (joinedMap f (countedFrom (d + 1) (0x10000 - (d + 1))))) old new
-  kept-next d w h new p =
-      putting-on _ old _ cur w (λ e. mem (base + e) (f d)) (λ e. mem (base + e) (joinedMap f (countedFrom (d + 1) (0x10000 - (d + 1))))) new
-      (λ e k. ap (λ (l : List ℕ). mem (base + e) (joinedMap f l)) next ∙ mem-both (base + e) (f d)
-      (joinedMap f (countedFrom (d + 1) (0x10000 - (d + 1))))) p
-    where
-      next : countedFrom d (0x10000 - d) ≡ d ∷ countedFrom (d + 1) (0x10000 - (d + 1))
-      next = let k : 0x10000 - d ≡ suc (0x10000 - (d + 1)) = omega arith in ap (countedFrom d) k ∙ counted-suc d (0x10000 - (d + 1))
+none-given : (f : ℕ → List ℕ) (d : ℕ) → joinedMap f (countedFrom d 0) ≡ []
+unfolding countedFrom
+none-given f d = refl
 
-  pub kept-done : (d : ℕ) → Putting (λ e. mem (base + e) (joinedMap f (countedFrom 0 0x10000)))
-      (λ e. mem (base + e) (joinedMap f (countedFrom d (0x10000 - d)))) old cur
-      → 0x10000 ≤ d → Put old cur (λ e. mem (base + e) (joinedMap f (countedFrom 0 0x10000)))
-  kept-done d w h = putting-done _ old _ cur w (λ e k. ap (λ (l : List ℕ). mem (base + e) (joinedMap f l)) none-left)
+-- what the places from d up to `end` give, by f
+abbrev pub givenFrom : (ℕ → List ℕ) → ℕ → ℕ → ℕ → ℕ → Bool
+givenFrom f base end d e = mem (base + e) (joinedMap f (countedFrom d (end - d)))
+
+-- It is put into a set, place by place or word by word.
+module _ (f : ℕ → List ℕ) (base end : ℕ) where
+  pub given-start : (d n : ℕ) → end ≡ d + n → (old : List ℕ)
+      → Putting (λ e. mem (base + e) (joinedMap f (countedFrom d n))) (givenFrom f base end d) old old
+  given-start d n h old =
+      let z : n ≡ end - d = omega arith in
+      subst (λ (m : ℕ). Putting (λ e. mem (base + e) (joinedMap f (countedFrom d n))) (λ e. mem (base + e) (joinedMap f (countedFrom d m))) old old) z
+      (putting-start (λ e. mem (base + e) (joinedMap f (countedFrom d n))) old)
+
+  module _ (whole : ℕ → Bool) (old cur : List ℕ) where
+    given-next : (d n : ℕ) → Putting whole (givenFrom f base end d) old cur → d + n ≤ end → (new : List ℕ)
+        → Put cur new (λ e. mem (base + e) (joinedMap f (countedFrom d n))) → Putting whole (givenFrom f base end (d + n)) old new
+    given-next d n w h new p =
+        putting-on whole old _ cur w (λ e. mem (base + e) (joinedMap f (countedFrom d n))) (givenFrom f base end (d + n)) new
+        (λ e k. ap (mem (base + e)) split ∙ mem-both (base + e) (joinedMap f (countedFrom d n)) (joinedMap f (countedFrom (d + n) (end - (d + n))))) p
+      where
+        split : joinedMap f (countedFrom d (end - d)) ≡ joinedMap f (countedFrom d n) ++ joinedMap f (countedFrom (d + n) (end - (d + n)))
+        split =
+            let k : end - d ≡ n + (end - (d + n)) = omega arith in
+            ap (λ (m : ℕ). joinedMap f (countedFrom d m)) k
+            ∙ ap (joinedMap f) (counted-append d n (end - (d + n)))
+            ∙ joined-append f (countedFrom d n) (countedFrom (d + n) (end - (d + n)))
+
+    pub given-one : (d : ℕ) → Putting whole (givenFrom f base end d) old cur → d < end → (new : List ℕ) → Put cur new (λ e. mem (base + e) (f d))
+        → Putting whole (givenFrom f base end (d + 1)) old new
+    given-one d w h new p = given-next d 1 w (omega arith) new (put-list cur new base (f d) (joinedMap f (countedFrom d 1)) (one-given f d) p)
+
+    pub given-word : (i : ℕ) → Putting whole (givenFrom f base end (i * 32)) old cur → (i + 1) * 32 ≤ end → (new : List ℕ)
+        → Put cur new (λ e. mem (base + e) (joinedMap f (countedFrom (i * 32) 32))) → Putting whole (givenFrom f base end ((i + 1) * 32)) old new
+    given-word i w h new p =
+        let z : i * 32 + 32 ≡ (i + 1) * 32 = omega arith in
+        subst (λ (d : ℕ). Putting whole (givenFrom f base end d) old new) z (given-next (i * 32) 32 w (omega arith) new p)
+
+    pub given-done : (d : ℕ) → Putting whole (givenFrom f base end d) old cur → end ≤ d → Put old cur whole
+    given-done d w h =
+        let z : end - d ≡ 0 = omega arith in
+        putting-done whole old _ cur w (λ e k. ap (λ (m : ℕ). mem (base + e) (joinedMap f (countedFrom d m))) z ∙ ap (mem (base + e)) (none-given f d))
+
+-- 32 codepoints before and behind the syllables
+module _ (c d : ℕ) (h : d < 32) where
+  pub before-syllables : c + 31 < 0xAC00 → isSyllable (c + d) ≡ false
+  before-syllables k = rw (lt-leb 0xAC00 (c + d) (omega arith))
+
+  pub behind-syllables : 0xD7A3 < c → isSyllable (c + d) ≡ false
+  behind-syllables k = rw (le-leb 0xAC00 (c + d) (omega arith), le-ltb (c + d) 0xD7A4 (omega arith))
+
+-- what a round keeps of the word i: nothing where it is 0, and all of it where no record and no syllable is met
+module _ (t : Table) (base : ℕ) (from heads : List ℕ) (i : ℕ) (old : List ℕ) where
+  pub word-empty : getD from i 0 ≡ 0 → Put old old (λ e. mem (base + e) (joinedMap (keptAt t base from heads) (countedFrom (i * 32) 32)))
+  word-empty z = put-none old _ (λ e h. kept-empty t base from heads i z e)
+
+  pub word-whole : i < length old → getD heads i 0 ≡ 0 → ((d : ℕ) → d < 32 → isSyllable (base + i * 32 + d) ≡ false)
+      → Put old (set old i (bitOr (getD old i 0) (getD from i 0))) (λ e. mem (base + e) (joinedMap (keptAt t base from heads) (countedFrom (i * 32) 32)))
+  word-whole h z ns = put-same old _ _ _ (λ e k. kept-whole t base from heads i (λ d f. word-none heads i d z f) none e) (put-or old from i h)
     where
-      none-left : countedFrom d (0x10000 - d) ≡ []
-      none-left = let k : 0x10000 - d ≡ 0 = omega arith in ap (countedFrom d) k ∙ counted-none d
+      none : (d : ℕ) → d / 32 ≡ i → isSyllable (base + d) ≡ false
+      none d f =
+          let e : base + i * 32 + (d - i * 32) ≡ base + d = omega arith in
+          ap isSyllable (sym e) ∙ ns (d - i * 32) (omega arith)
 
 -- a round in a window
 module _ (t : Table) (part gs : List ℕ) (q : PartsOf t part gs) (base k : ℕ) (rows heads set other blank kept filled set′ : List ℕ) where

@@ -12,12 +12,14 @@ use sound_choices::choices::choose_in;
 use sound_choices::choices::put_chosen;
 use text::hangul::is_syllable;
 ghost use mathlib.Core.Path.{_≡_};
+ghost use mathlib.Core.Bool.{true, false};
 ghost use mathlib.Core.List.{[]};
-ghost use Prim.Native.Nat.{_+_, _%_, _<_, _≤_};
+ghost use Prim.Native.Nat.{ℕ, _+_, _*_, _%_, _<_, _≤_};
 ghost use lib.ListN.{length};
 ghost use Rattle.lists.specs.Lists.{mem, joinedMap};
 ghost use Rattle.sections.specs.Laid.{Laid};
 ghost use Rattle.table.specs.Layout.{theTable};
+ghost use Rattle.text.specs.Hangul.{isSyllable};
 ghost use Rattle.text.specs.Decomposition.{single};
 ghost use Rattle.soundness.specs.Valid.{countedFrom};
 ghost use Rattle.bit_sets.specs.Sets.{Put, windowWords};
@@ -28,6 +30,9 @@ ghost use Rattle.sound_rounds.specs.Reached.{PartsOf, Aligned, RoundIn, 
 const WINDOW: u32 = 0x10000;
 
 const ROW: u32 = 43712;
+
+// The words of a window's set.
+const WORDS: u32 = 2048;
 
 // Puts the single replacement of c into the set, as far as it is in the window.
 fn put_replaced(words: &[u32], ix: Sections, c: u32, base: u32, set: &mut [u32])
@@ -72,7 +77,79 @@ fn put_kept(
     }
 }
 
-// The same for every place.
+// The same for the 32 places of the word i.
+fn put_places_kept(
+    words: &[u32],
+    ix: Sections,
+    heads: &[u32],
+    from: &[u32],
+    base: u32,
+    i: u32,
+    to: &mut [u32],
+)
+    requires { ⌜ Laid (now words) ix ⌝ }
+    requires { ⌜ length (now heads) ≡ windowWords ⌝ }
+    requires { ⌜ length (now from) ≡ windowWords ⌝ }
+    requires { ⌜ base < 0x110000 ⌝ }
+    requires { ⌜ i < windowWords ⌝ }
+    requires { ⌜ length (now to) ≡ windowWords ⌝ }
+    ensures { λ _. ⌜ Put (now (to .entry)) (now (to .exit))
+        (λ e. mem (base + e) (joinedMap (keptAt (theTable (now (words .entry))) base (now (from .entry)) (now (heads .entry)))
+        (countedFrom (i * 32) 32))) ⌝ }
+{
+    let mut d = i * 32;
+    let end = d + 32;
+    while d < end {
+        put_kept(words, ix, heads, from, base, d, to);
+        d += 1;
+    }
+}
+
+// Whether none of the 32 codepoints from c on is a syllable.
+pub fn no_syllables(c: u32) -> bool
+    requires { ⌜ c < 0x120000 ⌝ }
+    ensures { λ r. ⌜ (r ≡ true → (d : ℕ) → d < 32 → isSyllable (c + d) ≡ false) ⌝ }
+{
+    if c + 31 < 0xAC00 {
+        return true;
+    }
+    0xD7A3 < c
+}
+
+// The same, at once where the set holds none of them, or a round changes none.
+fn put_word_kept(
+    words: &[u32],
+    ix: Sections,
+    heads: &[u32],
+    from: &[u32],
+    base: u32,
+    i: u32,
+    to: &mut [u32],
+)
+    requires { ⌜ Laid (now words) ix ⌝ }
+    requires { ⌜ length (now heads) ≡ windowWords ⌝ }
+    requires { ⌜ length (now from) ≡ windowWords ⌝ }
+    requires { ⌜ base < 0x110000 ⌝ }
+    requires { ⌜ i < windowWords ⌝ }
+    requires { ⌜ length (now to) ≡ windowWords ⌝ }
+    ensures { λ _. ⌜ Put (now (to .entry)) (now (to .exit))
+        (λ e. mem (base + e) (joinedMap (keptAt (theTable (now (words .entry))) base (now (from .entry)) (now (heads .entry)))
+        (countedFrom (i * 32) 32))) ⌝ }
+{
+    let k = i as usize;
+    if from[k] == 0 {
+        return;
+    }
+    if heads[k] == 0 {
+        if no_syllables(base + i * 32) {
+            to[k] = to[k] | from[k];
+            return;
+        }
+    }
+    put_places_kept(words, ix, heads, from, base, i, to);
+}
+
+// The same for every word.
 fn put_all_kept(words: &[u32], ix: Sections, heads: &[u32], from: &[u32], base: u32, to: &mut [u32])
     requires { ⌜ Laid (now words) ix ⌝ }
     requires { ⌜ length (now heads) ≡ windowWords ⌝ }
@@ -83,10 +160,10 @@ fn put_all_kept(words: &[u32], ix: Sections, heads: &[u32], from: &[u32], base: 
         (λ e. mem (base + e) (joinedMap (keptAt (theTable (now (words .entry))) base (now (from .entry)) (now (heads .entry)))
         (countedFrom 0 0x10000))) ⌝ }
 {
-    let mut d: u32 = 0;
-    while d < WINDOW {
-        put_kept(words, ix, heads, from, base, d, to);
-        d += 1;
+    let mut i: u32 = 0;
+    while i < WORDS {
+        put_word_kept(words, ix, heads, from, base, i, to);
+        i += 1;
     }
 }
 

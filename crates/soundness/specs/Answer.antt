@@ -13,11 +13,12 @@ use Rattle.soundness.specs.Scalars.{rule1}
 use Rattle.soundness.specs.Valid.{rule2, rule3}
 use Rattle.soundness.specs.Sequences.{rule4, rule5}
 use Rattle.soundness.specs.Pairs.{rule6, rule7}
+use Rattle.soundness.specs.QuickCheck.{rule8}
 use Rattle.soundness.specs.Soundness.{lowestBroken, soundnessOf}
 
 -- the rules in their order
 abbrev rules : List (Table → Bool)
-rules = rule1 ∷ rule2 ∷ rule3 ∷ rule4 ∷ rule5 ∷ rule6 ∷ rule7 ∷ []
+rules = rule1 ∷ rule2 ∷ rule3 ∷ rule4 ∷ rule5 ∷ rule6 ∷ rule7 ∷ rule8 ∷ []
 
 -- no rule is broken
 pub record Kept (t : Table) : Type 0 where
@@ -28,6 +29,7 @@ pub record Kept (t : Table) : Type 0 where
   pub rule-5 : rule5 t ≡ true
   pub rule-6 : rule6 t ≡ true
   pub rule-7 : rule7 t ≡ true
+  pub rule-8 : rule8 t ≡ true
 
 -- the words are laid out, and no rule is broken
 pub record Sound (words : List ℕ) : Type 0 where
@@ -51,11 +53,12 @@ unbroken-kept t e =
       rule-5 = passed (rule5 t) (each .1 .1 .1 .1 .0);
       rule-6 = passed (rule6 t) (each .1 .1 .1 .1 .1 .0);
       rule-7 = passed (rule7 t) (each .1 .1 .1 .1 .1 .1 .0);
+      rule-8 = passed (rule8 t) (each .1 .1 .1 .1 .1 .1 .1 .0);
     }
 
 kept-unbroken : (t : Table) → Kept t → lowestBroken t ≡ none
 unfolding lowestBroken
-kept-unbroken t k = rw (k .rule-1, k .rule-2, k .rule-3, k .rule-4, k .rule-5, k .rule-6, k .rule-7)
+kept-unbroken t k = rw (k .rule-1, k .rule-2, k .rule-3, k .rule-4, k .rule-5, k .rule-6, k .rule-7, k .rule-8)
 
 -- "The answer is "sound"" exactly where no rule is broken
 pub none-sound : (words : List ℕ) → soundnessOf words ≡ none → Sound words

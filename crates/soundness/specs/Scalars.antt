@@ -29,3 +29,4 @@ rule1 t =
     && all (λ (g : Group). scalarRanges (g .ranges)) (t .groups)
     && all (λ (w : Whole). all isScalar (w .valid ++ w .confused)) (t .wholes)
     && scalarRanges (t .escape)
+    && scalarRanges (t .quickCheck)

@@ -1,4 +1,4 @@
--- From words to a table, or nothing where the words have a layout fault. 01, "The table", second paragraph; 02, Item 9. Assumes nothing.
+-- From words to a table, or nothing where the words have a layout fault. 01, "The table", second paragraph; 02, Items 9 and 11. Assumes nothing.
 use Prim.Native.Nat.{ℕ, zero, suc, _/_, _%_}
 use mathlib.Core.Bool.{Bool, true, false, _&&_}
 use mathlib.Core.List.{List, [], _∷_}
@@ -18,12 +18,12 @@ mostParts = 4
 abbrev pub mostGroups : ℕ
 mostGroups = 256
 
--- 02, Item 9: "Layout now asks thirteen and allows 131,073 words"
+-- 02, Item 11: "layout asks fourteen and allows 131,074 words"
 abbrev pub sectionCount : ℕ
-sectionCount = 13
+sectionCount = 14
 
 abbrev pub mostWords : ℕ
-mostWords = 131073
+mostWords = 131074
 
 -- "a class at most 255, flags at most 3"
 abbrev pub mostClass : ℕ
@@ -149,7 +149,8 @@ tableOf ss =
       groups ← groups (length (part 10)) (part 10)
       wholes ← wholes (length (part 11)) (part 11)
       escape ← ranges (part 12)
-      onlyIf (leb (length groups) mostGroups) (some (record { valid = valid; ignored = ignored; fenced = fenced; marks = marks; nsm = nsm; mapped = mapped; decompositions = decompositions; emoji = emoji; exclusions = exclusions; classes = classes; groups = groups; wholes = wholes; escape = escape }))
+      quickCheck ← ranges (part 13)
+      onlyIf (leb (length groups) mostGroups) (some (record { valid = valid; ignored = ignored; fenced = fenced; marks = marks; nsm = nsm; mapped = mapped; decompositions = decompositions; emoji = emoji; exclusions = exclusions; classes = classes; groups = groups; wholes = wholes; escape = escape; quickCheck = quickCheck }))
 
 -- The table that the words hold, or nothing on a layout fault: "Anything else, words left over included, is a layout fault."
 unfoldable pub parse : List ℕ → Option Table
@@ -173,6 +174,7 @@ emptyTable =
       groups = [];
       wholes = [];
       escape = [];
+      quickCheck = [];
     }
 
 -- the table that the words hold

@@ -41,3 +41,7 @@ wholeOf ws c = firstWith (λ (w : Whole). mem c (w .confused)) ws
 -- 02, Item 9: c is among the "codepoints in the table's new should-escape section (pairs)"
 abbrev pub shouldEscape : Table → ℕ → Bool
 shouldEscape t c = inRanges c (t .escape)
+
+-- 02, Item 11: c is in "the quick-check set as pairs in a fourteenth section"
+abbrev pub inQuickCheck : Table → ℕ → Bool
+inQuickCheck t c = inRanges c (t .quickCheck)

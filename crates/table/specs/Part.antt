@@ -87,11 +87,7 @@ pub record WholeFound (ws : List ℕ) (whole : Option Whole) (r : WholeAt) : Typ
   pub same : wholeAt ws r ≡ whole
   pub fits : WholeFits ws r
 
--- a part that lies within the words and parses as records, and as wholes
-pub record HeadedPart (ws : List ℕ) (s : Span) : Type 0 where
-  pub fits : Fits ws s
-  pub parses : isSome (headed (length (within s ws)) mostItems (within s ws)) ≡ true
-
+-- a part that lies within the words and parses as wholes
 pub record WholesPart (ws : List ℕ) (s : Span) : Type 0 where
   pub fits : Fits ws s
   pub parses : isSome (wholes (length (within s ws)) (within s ws)) ≡ true

@@ -1,4 +1,4 @@
--- A name table as a record of thirteen lists. 01, "The table", second paragraph; 02, Item 9. Assumes nothing.
+-- A name table as a record of fourteen lists. 01, "The table", second paragraph; 02, Items 9 and 11. Assumes nothing.
 use Prim.Native.Nat.{ℕ}
 use mathlib.Core.Bool.{Bool}
 use mathlib.Core.List.{List}
@@ -30,7 +30,7 @@ pub record Whole : Type 0 where
   pub valid : List ℕ
   pub confused : List ℕ
 
--- the sections in the order of the words: 01's twelve, then the should-escape section of 02's Item 9
+-- the sections in the order of the words: 01's twelve, the should-escape section of 02's Item 9, the quick-check set of its Item 11
 pub record Table : Type 0 where
   pub valid : List Range
   pub ignored : List Range
@@ -45,3 +45,4 @@ pub record Table : Type 0 where
   pub groups : List Group
   pub wholes : List Whole
   pub escape : List Range
+  pub quickCheck : List Range

@@ -13,7 +13,7 @@ ghost use Rattle.table.specs.Layout.{mostItems, headed, wholes};
 ghost use Rattle.table.specs.Lookup.{itemsOf, wholeOf};
 ghost use Rattle.table.specs.Spans.{Fits, within};
 ghost use Rattle.table.specs.GroupPart.{groupAt};
-ghost use Rattle.table.specs.Part.{inPairs, classAmong, inFour, Skipped, countedAt, headsIn, wholesIn, HeadedPart, WholesPart, ItemsFound, WholeFound};
+ghost use Rattle.table.specs.Part.{inPairs, classAmong, inFour, Skipped, countedAt, headsIn, wholesIn, WholesPart, ItemsFound, WholeFound};
 
 // Whether c lies from first to last. Both tests are made, since where pairs stand in random order a branch at the first would be a guess.
 pub fn between(c: u32, first: u32, last: u32) -> bool
@@ -203,33 +203,6 @@ pub fn whole_in(part: &[u32], c: u32) -> WholeAt
     WholeAt::Unconfused
 }
 
-// Whether c lies in one of the pairs of a section.
-pub fn in_pairs_of(words: &[u32], s: Span, c: u32) -> bool
-    requires { ⌜ Fits (now words) s ⌝ }
-    ensures { λ r. ⌜ r ≡ inPairs c (within s (now (words .entry))) ⌝ }
-{
-    let from = s.from;
-    let to = s.to;
-    in_pairs(&words[from..to], c)
-}
-
-// Where the items of the first record of a section with head c stand among the words.
-pub fn head_in_of(words: &[u32], s: Span, c: u32) -> Items
-    requires { ⌜ HeadedPart (now words) s ⌝ }
-    ensures { λ r. ⌜ ItemsFound (now (words .entry)) mostItems (itemsOf (headsIn (within s (now (words .entry)))) c) r ⌝ }
-{
-    let from = s.from;
-    let to = s.to;
-    let found = head_in(&words[from..to], c);
-    match found {
-        Items::At(t) => Items::At(Span {
-            from: from + t.from,
-            to: from + t.to,
-        }),
-        Items::Nothing => Items::Nothing,
-    }
-}
-
 // Where the lists of the first whole of a section whose confused list has c stand among the words.
 pub fn whole_in_of(words: &[u32], s: Span, c: u32) -> WholeAt
     requires { ⌜ WholesPart (now words) s ⌝ }
@@ -251,14 +224,4 @@ pub fn whole_in_of(words: &[u32], s: Span, c: u32) -> WholeAt
         },
         WholeAt::Unconfused => WholeAt::Unconfused,
     }
-}
-
-// The class of the first triple of a section with c in it, or 0.
-pub fn class_in_of(words: &[u32], s: Span, c: u32) -> u32
-    requires { ⌜ Fits (now words) s ⌝ }
-    ensures { λ r. ⌜ r ≡ classAmong c (within s (now (words .entry))) ⌝ }
-{
-    let from = s.from;
-    let to = s.to;
-    class_in(&words[from..to], c)
 }

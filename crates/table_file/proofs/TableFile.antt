@@ -30,7 +30,7 @@ module _ (file before after : List ℕ) where
 
   module _ (short : length file ≤ mostFile) (room : mostTable ≤ length before) where
     -- the file holds words, and there is room for them
-    module _ (ws : List ℕ) (e : fileWords file ≡ accepted ws) (long : 1 + 4 * length ws ≤ length file) where
+    module _ (ws : List ℕ) (e : fileWords file ≡ accepted ws) (long : 4 * length ws ≤ length file + 3) where
       table-held : (r : Unpacked) → unpackValues r ≡ record { number = 0; count = length ws } → after ≡ filled (length before) ws
           → TableIs file before after r
       unfolding tableWords

@@ -12,7 +12,7 @@ use Rattle.unpack.specs.Unpack.{fileWords}
 abbrev pub mostFile : ℕ
 mostFile = 32768
 
--- the words of such a file, at 4 bytes each, and the one that may be added are fewer than this
+-- the words of such a file, at 4 bytes each, and the two that may be added are no more than this
 abbrev pub mostTable : ℕ
 mostTable = mostFile / 4
 

@@ -2,4 +2,5 @@ pub mod Hangul
 pub mod Decomposition
 pub mod Ordering
 pub mod Composition
+pub mod QuickCheck
 pub mod Classes

@@ -15,14 +15,16 @@ use Rattle.table.specs.Layout.{parse, theTable}
 use Rattle.text.specs.Decomposition.{classOf, round, fourRounds}
 use Rattle.text.specs.Ordering.{insert, order}
 use Rattle.text.specs.Composition.{pair, compose, nfc}
+use Rattle.text.specs.QuickCheck.{inOrder, isSecond}
 use Rattle.text_laws.specs.Parsed.{Shaped, parsed-shaped, theTable-shaped}
 use Rattle.text_laws.specs.Rounds
 use Rattle.text_laws.specs.Insertion
-use Rattle.text_laws.specs.Insertion.{ordered, Differs}
+use Rattle.text_laws.specs.Insertion.{Differs}
 use Rattle.text_laws.specs.Runs
 use Rattle.text_laws.specs.Runs.{sortRuns}
 use Rattle.text_laws.specs.Exchange
 use Rattle.text_laws.specs.Exchange.{Exchanges}
+use Rattle.text_laws.specs.Pairing
 use Rattle.text_laws.specs.Composing
 
 -- Tables that were read from words: each decomposition has from 1 to 4 items, each class is at most 255.
@@ -69,10 +71,10 @@ module _ (t : Table) where
   pub ordering-every : (P : ℕ → Type 0) (s : List ℕ) → Every P s → Every P (order t s)
   ordering-every = Insertion.order-every t
 
-  pub ordering-orders : (s : List ℕ) → ordered t (order t s) ≡ true
+  pub ordering-orders : (s : List ℕ) → inOrder t (order t s) ≡ true
   ordering-orders = Insertion.order-ordered t
 
-  pub ordered-stays : (s : List ℕ) → ordered t s ≡ true → order t s ≡ s
+  pub ordered-stays : (s : List ℕ) → inOrder t s ≡ true → order t s ≡ s
   ordered-stays = Insertion.order-same t
 
   -- Unicode Standard, D109: it is reached by exchanging neighbours out of order, and whatever exchanges are made, where none is left
@@ -80,7 +82,7 @@ module _ (t : Table) where
   pub ordering-by-exchanges : (s : List ℕ) → Exchanges t s (order t s)
   ordering-by-exchanges = Exchange.order-exchanges t
 
-  pub exchanges-end-alike : (s r : List ℕ) → Exchanges t s r → ordered t r ≡ true → r ≡ order t s
+  pub exchanges-end-alike : (s r : List ℕ) → Exchanges t s r → inOrder t r ≡ true → r ≡ order t s
   exchanges-end-alike s r e h = Exchange.exchanged-ordered t e h
 
   -- it sorts each run of codepoints with a class other than 0 by class, stably, and moves no others
@@ -110,6 +112,13 @@ module _ (t : Table) where
   back-first = Insertion.order-back t
 
   -- Composition.
+
+  pub pair-is-starter : (a b h : ℕ) → pair t a b ≡ some h → classOf t h ≡ 0
+  pair-is-starter = Pairing.pair-starts t
+
+  -- a codepoint composes with one before it only if it is a second item
+  pub pair-has-second : (a b h : ℕ) → pair t a b ≡ some h → isSecond t b ≡ true
+  pair-has-second = Pairing.pair-second t
 
   pub composition-source : (d : List ℕ) (y : ℕ) → mem y (compose t d) ≡ true → (mem y d ≡ true) ⊎ ((a : ℕ) × (b : ℕ) × (pair t a b ≡ some y))
   composition-source = Composing.compose-from t

@@ -5,4 +5,5 @@ pub mod Insertion
 pub mod Runs
 pub mod Exchange
 pub mod Composing
+pub mod Pairing
 pub mod Syllables

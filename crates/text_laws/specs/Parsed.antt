@@ -100,7 +100,8 @@ sections-shaped ss t e =
     then-some (groups (length (getD ss 10 [])) (getD ss 10 [])) _ t e9 λ v10 q10 e10.
     then-some (wholes (length (getD ss 11 [])) (getD ss 11 [])) _ t e10 λ v11 q11 e11.
     then-some (ranges (getD ss 12 [])) _ t e11 λ v12 q12 e12.
-    shaped-of (getD ss 6 []) (getD ss 9 []) ds cs eds ecs _ t (only-some (leb (length v10) mostGroups) _ t e12) refl refl
+    then-some (ranges (getD ss 13 [])) _ t e12 λ v13 q13 e13.
+    shaped-of (getD ss 6 []) (getD ss 9 []) ds cs eds ecs _ t (only-some (leb (length v10) mostGroups) _ t e13) refl refl
 
 -- every table that was read from words is so shaped
 pub parsed-shaped : (ws : List ℕ) (t : Table) → parse ws ≡ some t → Shaped t

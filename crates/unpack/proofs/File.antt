@@ -21,14 +21,17 @@ file-empty [] h = refl
 file-empty (v ∷ f) h = absurd (omega arith)
 
 -- The rows of the versions.
-pub version-1 : (v : ℕ) → v ≡ 1 → lacks v ≡ some 1
+pub version-1 : (v : ℕ) → v ≡ 1 → lacks v ≡ some 2
 version-1 v e = rw e
 
-pub version-2 : (v : ℕ) → v ≡ 2 → lacks v ≡ some 0
+pub version-2 : (v : ℕ) → v ≡ 2 → lacks v ≡ some 1
 version-2 v e = rw e
 
-pub not-named : (v : ℕ) → (v ≡ 1 → ⊥) → (v ≡ 2 → ⊥) → lacks v ≡ none
-not-named v m n = rw (ne-eqb v 1 m, ne-eqb v 2 n)
+pub version-3 : (v : ℕ) → v ≡ 3 → lacks v ≡ some 0
+version-3 v e = rw e
+
+pub not-named : (v : ℕ) → (v ≡ 1 → ⊥) → (v ≡ 2 → ⊥) → (v ≡ 3 → ⊥) → lacks v ≡ none
+not-named v m n o = rw (ne-eqb v 1 m, ne-eqb v 2 n, ne-eqb v 3 o)
 
 -- what the answer says of a version, where it is known
 pub lack-given : (v : ℕ) (r : Lacking) (k : ℕ) → r ≡ Sections k → Lacks v r → lacks v ≡ some k
@@ -37,14 +40,15 @@ lack-given v r k e h = subst (λ (x : Lacking). Lacks v x) e h
 pub lack-none : (v : ℕ) (r : Lacking) → r ≡ NotNamed → Lacks v r → lacks v ≡ none
 lack-none v r e h = subst (λ (x : Lacking). Lacks v x) e h
 
--- no version lacks more than one
-pub lacks-few : (v k : ℕ) → lacks v ≡ some k → k ≤ 1
-lacks-few v k e = go (eqb v 1) (eqb v 2) e
+-- no version lacks more than two
+pub lacks-few : (v k : ℕ) → lacks v ≡ some k → k ≤ 2
+lacks-few v k e = go (eqb v 1) (eqb v 2) (eqb v 3) e
   where
-    go : (a b : Bool) → cond a (some 1) (cond b (some 0) none) ≡ some k → k ≤ 1
-    go true b h = let q : 1 ≡ k = Option·some-injective 1 k h in omega arith
-    go false true h = let q : 0 ≡ k = Option·some-injective 0 k h in omega arith
-    go false false h = absurd (Option·none-ne-some k h)
+    go : (a b c : Bool) → cond a (some 2) (cond b (some 1) (cond c (some 0) none)) ≡ some k → k ≤ 2
+    go true b c h = let q : 2 ≡ k = Option·some-injective 2 k h in omega arith
+    go false true c h = let q : 1 ≡ k = Option·some-injective 1 k h in omega arith
+    go false false true h = let q : 0 ≡ k = Option·some-injective 0 k h in omega arith
+    go false false false h = absurd (Option·none-ne-some k h)
 
 pub file-version : (f : List ℕ) → 0 < length f → lacks (getD f 0 0) ≡ none → fileWords f ≡ refused 20 0
 unfolding fileWords
@@ -90,9 +94,9 @@ file-words (v ∷ a ∷ b ∷ c ∷ d ∷ r) k n h e q l =
       long = omega arith;
     }
 
--- A file either unpacks to at most one word more than its length tells, or is refused with a number over 0.
+-- A file either unpacks to at most two words more than its length tells, or is refused with a number over 0.
 pub data Said (f : List ℕ) : Type 0 where
-  holding : (ws : List ℕ) → fileWords f ≡ accepted ws → 1 + 4 * length ws ≤ length f → Said f
+  holding : (ws : List ℕ) → fileWords f ≡ accepted ws → 4 * length ws ≤ length f + 3 → Said f
   refusing : (k p : ℕ) → fileWords f ≡ refused (suc k) p → Said f
 
 counted-said : (v k : ℕ) → lacks v ≡ some k → (r : List ℕ) → Said (v ∷ r)

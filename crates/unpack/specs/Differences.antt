@@ -12,9 +12,9 @@ use Rattle.unpack.specs.Unpack.{Unpacking, unpackCall}
 abbrev pub Right : (List ℕ → List ℕ → Unpacking) → List ℕ → List ℕ → Type 0
 Right p file before = p file before ≡ unpackCall file (length before)
 
--- the file of version 2 with the one word w, which is below 256
+-- the file of version 3 with the one word w, which is below 256
 abbrev pub oneWord : ℕ → List ℕ
-oneWord w = 2 ∷ 0 ∷ 0 ∷ 0 ∷ 1 ∷ 0 ∷ 0 ∷ 0 ∷ w ∷ []
+oneWord w = 3 ∷ 0 ∷ 0 ∷ 0 ∷ 1 ∷ 0 ∷ 0 ∷ 0 ∷ w ∷ []
 
 -- It does nothing to the buffer, whatever it answers: wrong on the empty file, with a buffer that holds a 7.
 abbrev pub doesNothing : UnpackValues → List ℕ → List ℕ → Unpacking

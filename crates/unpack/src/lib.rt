@@ -24,8 +24,9 @@ fn lack_of(version: u8) -> Lacking
     ensures { λ r. ⌜ Lacks version r ⌝ }
 {
     match version {
-        1 => Lacking::Sections(1),
-        2 => Lacking::Sections(0),
+        1 => Lacking::Sections(2),
+        2 => Lacking::Sections(1),
+        3 => Lacking::Sections(0),
         _ => Lacking::NotNamed,
     }
 }

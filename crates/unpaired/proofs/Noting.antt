@@ -1,18 +1,21 @@
 -- Laws of the test of a composition pair, and of the set of the records that are none. Assumes nothing.
-use Prim.Native.Nat.{ℕ, _<_}
+use Prim.Native.Nat.{ℕ, _+_, _-_, _*_, _/_, _≤_, _<_}
 use native.Mathlib.Omega.{arith}
-use mathlib.Core.Path.{_≡_, refl, sym, _∙_}
-use mathlib.Core.Bool.{Bool, true, false, _||_}
-use mathlib.Core.List.{List}
-use lib.ListN.{replicate, length-replicate}
+use mathlib.Core.Path.{_≡_, refl, sym, _∙_, ap}
+use mathlib.Core.Bool.{Bool, true, false, _||_, false≢true}
+use mathlib.Core.List.{List, _++_}
+use lib.ListN.{length, getD, take, drop, replicate, length-append, length-take, length-drop, length-replicate, List·getD-append}
+use lib.Seq.{getD-take, getD-drop, getD-append-add}
 use lib.Dec.{eqb}
 use borrow.Author.Tests.{eq-eqb, ne-eqb, eqb-true}
 use Rattle.lists.specs.Lists.{mem}
-use Rattle.table.specs.Table.{Table}
-use Rattle.bit_sets.specs.Sets.{has, Put}
+use Rattle.table.specs.Table.{Table, Headed}
+use Rattle.bit_sets.specs.Sets.{has, bit, Put}
 use Rattle.bit_sets.proofs.PutLaws.{empty-has}
 use Rattle.text.specs.Decomposition.{classOf}
-use Rattle.unpaired.specs.Unpaired.{mayCompose, pairWords, pairPlaces, isPairAt, Unpaired, Asked}
+use Rattle.unpaired.specs.Index.{bitWords, knownWords, madePlace, secondsPlace, secondPlace, slotPlace, Listed, Entered, Indexed, BitPut, Filled}
+use Rattle.unpaired.specs.Unpaired.{mayCompose, pairPlaces, isPairAt, QuickHolds, Unpaired, Asked}
+use Rattle.unpaired.proofs.Places.{each-map}
 
 -- what is asked of a head and a first item, in turn
 module _ (t : Table) (head a : ℕ) where
@@ -26,25 +29,105 @@ module _ (t : Table) (head a : ℕ) where
     pub may-first : (j : ℕ) → k ≡ 0 → j ≡ classOf t a → eqb j 0 ≡ mayCompose t head a
     may-first j z je = rw (← e, n, ← ke, eq-eqb k 0 z, ← je)
 
+-- a bit that is put among the first words
+pub bit-put : (old mid : List ℕ) (d : ℕ) → length old ≡ knownWords → Put (take bitWords old) mid (λ e. eqb e d) → BitPut old (mid ++ drop bitWords old) d
+unfolding has
+bit-put old mid d size p =
+    record {
+      room = length-append mid (drop bitWords old) ∙ simp length-drop (omega (arith, long));
+      each = λ e h. front e h ∙ p .each e (omega (arith, short, h)) ∙ ap (λ (b : Bool). eqb e d || b) (behind e h);
+      slots = λ k h. let n : length mid + (k - bitWords) ≡ k = omega (arith, long) in
+          rw n at (getD-append-add mid (drop bitWords old) (k - bitWords) 0) ∙ slot k h;
+    }
+  where
+    short : length (take bitWords old) ≡ bitWords
+    short = simp length-take (omega arith)
+
+    long : length mid ≡ bitWords
+    long = p .room ∙ short
+
+    front : (e : ℕ) → e < bitWords * 32 → has (mid ++ drop bitWords old) e ≡ has mid e
+    front e h = rw (List·getD-append mid (drop bitWords old) 0 (e / 32) (omega (arith, long)))
+
+    behind : (e : ℕ) → e < bitWords * 32 → has (take bitWords old) e ≡ has old e
+    behind e h = rw (getD-take bitWords old (e / 32) 0 (omega arith))
+
+    slot : (k : ℕ) → bitWords ≤ k → getD (drop bitWords old) (k - bitWords) 0 ≡ getD old k 0
+    slot k h = let n : bitWords + (k - bitWords) ≡ k = omega arith in rw n at (getD-drop bitWords old (k - bitWords) 0)
+
+or-right : (a b : Bool) → b ≡ true → (a || b) ≡ true
+or-right true b e = refl
+or-right false b e = e
+
+module _ (old new : List ℕ) (d : ℕ) (p : BitPut old new d) where
+  -- another bit stays
+  pub bit-kept : (e : ℕ) → e < bitWords * 32 → (e ≡ d → ⊥) → has new e ≡ has old e
+  bit-kept e h n = rw (ne-eqb e d n) at (p .each e h)
+
+  pub bit-second : (b : ℕ) → has old (secondPlace b) ≡ true → has new (secondPlace b) ≡ true
+  bit-second b h = p .each (secondPlace b) (omega arith) ∙ or-right (eqb (secondPlace b) d) (has old (secondPlace b)) h
+
+  index-kept : (rs : List Headed) → Indexed rs old → Indexed rs new
+  index-kept rs i =
+      record {
+        each = each-map (Entered old) (Entered new) (λ q x e a b h. listed q a b (e a b h)) 0 rs (i .each);
+        slots = λ k h. rw (p .slots k h) (i .slots k h);
+      }
+    where
+      listed : (q a b : ℕ) → Listed old q a b → Listed new q a b
+      listed q a b l =
+          let s : getD new (slotPlace a b) 0 ≡ getD old (slotPlace a b) 0 = p .slots (slotPlace a b) (omega arith) in
+          record { second = bit-second b (l .second); from = rw s (l .from); below = rw s (l .below) }
+
 -- the set of the records that were found to be none
 module _ (t : Table) (set : List ℕ) (number : ℕ) (u : Unpaired t set) where
   pub unpaired-known : number < pairPlaces → (b : Bool) → isPairAt t number ≡ b → has set number ≡ true → Asked t set b false
   unpaired-known h b e k = record { is = sym (u .each number h k) ∙ e; unpaired = u }
 
-  pub unpaired-more : (set′ : List ℕ) → isPairAt t number ≡ false → Put set set′ (λ e. eqb e number) → Unpaired t set′
-  unpaired-more set′ e p =
+  pub unpaired-more : number < pairPlaces → (set′ : List ℕ) → isPairAt t number ≡ false → BitPut set set′ number → Unpaired t set′
+  unpaired-more low set′ e p =
       record {
         size = p .room ∙ u .size;
-        each = λ i h k. go i h (eqb i number) refl (sym (p .each i (rw (u .size) h)) ∙ k);
+        each = λ i h k. go i h (eqb i number) refl (sym (p .each i (omega arith)) ∙ k);
+        quick = λ k. u .quick (sym (bit-kept set set′ number p pairPlaces (omega arith) (λ q. omega arith)) ∙ k);
+        index = λ k. index-kept set set′ number p (t .decompositions) (u .index (sym (bit-kept set set′ number p madePlace (omega arith) (λ q. omega arith)) ∙ k));
       }
     where
       go : (i : ℕ) → i < pairPlaces → (b : Bool) → eqb i number ≡ b → (b || has set i) ≡ true → isPairAt t i ≡ false
       go i h true q k = rw (eqb-true i number q) e
       go i h false q k = u .each i h k
 
-pub unpaired-none : (t : Table) → Unpaired t (replicate pairWords 0)
+-- rule 8 is noted
+pub unpaired-quick : (t : Table) (set set′ : List ℕ) → Unpaired t set → QuickHolds t → BitPut set set′ pairPlaces → Unpaired t set′
+unpaired-quick t set set′ u q p =
+    record {
+      size = p .room ∙ u .size;
+      each = λ i h k. u .each i h (sym (bit-kept set set′ pairPlaces p i (omega arith) (λ e. omega arith)) ∙ k);
+      quick = λ k. q;
+      index = λ k. index-kept set set′ pairPlaces p (t .decompositions) (u .index (sym (bit-kept set set′ pairPlaces p madePlace (omega arith) (λ e. omega arith)) ∙ k));
+    }
+
+-- the index is made
+pub unpaired-made : (t : Table) (set set′ : List ℕ) → Filled (t .decompositions) set → BitPut set set′ madePlace → Unpaired t set′
+unpaired-made t set set′ f p =
+    record {
+      size = p .room ∙ f .size;
+      each = λ i h k. none i (omega arith) (λ e. omega arith) k;
+      quick = λ k. none pairPlaces (omega arith) (λ e. omega arith) k;
+      index = λ k. index-kept set set′ madePlace p (t .decompositions) (f .index);
+    }
+  where
+    none : {A : Type 0} → (d : ℕ) → d < secondsPlace → (d ≡ madePlace → ⊥) → has set′ d ≡ true → A
+    none d h n k = absurd (false≢true (sym (f .clear d h) ∙ sym (bit-kept set set′ madePlace p d (omega arith) n) ∙ k))
+
+pub unpaired-none : (t : Table) → Unpaired t (replicate knownWords 0)
 unpaired-none t =
     record {
-      size = length-replicate {A = ℕ} pairWords 0;
-      each = λ i h k. let z : _≡_ {A = Bool} false true = sym (empty-has pairWords i) ∙ k in absurd (let o : _≡_ {A = ℕ} 0 1 = cc in omega arith);
+      size = length-replicate {A = ℕ} knownWords 0;
+      each = λ i h k. none i k;
+      quick = λ k. none pairPlaces k;
+      index = λ k. none madePlace k;
     }
+  where
+    none : {A : Type 0} → (d : ℕ) → has (replicate knownWords 0) d ≡ true → A
+    none d k = absurd (false≢true (sym (empty-has knownWords d) ∙ k))

@@ -1,21 +1,40 @@
 // Composition pairs among the decomposition records. Which records are no composition pairs is found once in a call: `unpaired` is lent by the
-// call and has a bit for each record that was found to be none.
+// call and has a bit for each record that was found to be none; behind them one that says that rule 8 was found to hold, and an index of the
+// records.
+pub mod index;
+
 use bit_sets::has;
 use bit_sets::put;
 use sections::Sections;
 use text::class;
 
-// The words of that set: 131,073 words hold at most 43,691 records.
-pub const PAIR_WORDS: usize = 1366;
+// The words of that set: 1,366 of bits for the records, of which at most 43,691 stand in 131,073 words, one of two bits more, and the index.
+pub const KNOWN_WORDS: usize = 2519;
+
+// Those of them that are bits.
+const BIT_WORDS: usize = 1495;
+
+// The bit that says that text outside the quick-check set whose classes stand in order is its own NFC.
+pub const QUICK_PLACE: u32 = 43712;
 
 ghost use mathlib.Core.Path.{_≡_};
-ghost use Prim.Native.Nat.{_<_};
+ghost use Prim.Native.Nat.{_<_, _*_};
+ghost use lib.ListN.{length};
 ghost use Rattle.sections.specs.Laid.{Laid};
 ghost use Rattle.table.specs.Layout.{theTable};
+ghost use Rattle.unpaired.specs.Index.{bitWords, knownWords, BitPut};
 ghost use Rattle.unpaired.specs.Unpaired.{mayCompose, pairPlaces, isPairAt, Unpaired, Asked};
 
+// Puts a bit.
+pub fn put_bit(unpaired: &mut [u32], d: u32)
+    requires { ⌜ (length (now unpaired) ≡ knownWords) × (d < bitWords * 32) ⌝ }
+    ensures { λ _. ⌜ BitPut (now (unpaired .entry)) (now (unpaired .exit)) d ⌝ }
+{
+    put(&mut unpaired[..BIT_WORDS], d);
+}
+
 // Whether a decomposition of head to two items, the first of them a, is a composition pair.
-fn may_compose(head: u32, words: &[u32], ix: Sections, a: u32) -> bool
+pub fn may_compose(head: u32, words: &[u32], ix: Sections, a: u32) -> bool
     requires { ⌜ Laid (now words) ix ⌝ }
     ensures { λ r. ⌜ r ≡ mayCompose (theTable (now (words .entry))) head a ⌝ }
 {
@@ -28,7 +47,7 @@ fn may_compose(head: u32, words: &[u32], ix: Sections, a: u32) -> bool
     class::class_of(words, ix, a) == 0
 }
 
-// The same of the record with this number, which is asked for once if it is none.
+// The same of the record with the bit `number`, which is asked for once if it is none.
 pub fn is_pair(
     words: &[u32],
     ix: Sections,
@@ -48,6 +67,6 @@ pub fn is_pair(
     if may_compose(head, words, ix, a) {
         return true;
     }
-    put(unpaired, number);
+    put_bit(unpaired, number);
     false
 }

@@ -4,8 +4,9 @@
 use crate::engine::Engine;
 use crate::tally::Tally;
 use gen::{Rng, Vocabulary};
+use plain::calls::QUICK_FROM;
 use plain::limits::{INPUT, WORKED, WORK_WORDS};
-use plain::{Kind, Label, Name, Refusal, Soundness};
+use plain::{Kind, Label, Lookup, Name, Pass, Refusal, Soundness, Token, STOP};
 use std::fmt;
 
 #[derive(Clone, Copy, Debug)]
@@ -14,6 +15,8 @@ pub struct Settings {
     pub first_seed: u64,
     pub tables: u64,
     pub names_per_table: usize,
+    /// Further names, so long that rules 6 to 8 are looked for.
+    pub lengthened_per_table: usize,
     /// Table files for each table.
     pub files_per_table: usize,
     /// Further tables for the soundness check alone, seeded after the others.
@@ -28,6 +31,7 @@ impl Default for Settings {
             first_seed: 1,
             tables: 2_000,
             names_per_table: 100,
+            lengthened_per_table: 1,
             files_per_table: 4,
             more_soundness: 3_000,
             keep: 20,
@@ -45,6 +49,13 @@ pub struct Counts {
     /// Names, each counted once, that were accepted.
     pub accepted_names: u64,
     pub longest_names: u64,
+    /// Names so long that rules 6 to 8 are looked for, made so.
+    pub lengthened_names: u64,
+    /// Those for which they are found.
+    pub with_rules: u64,
+    /// Of these the labels with text, and those whose text is all left as it is.
+    pub their_labels: u64,
+    pub kept_labels: u64,
     pub accepted_longest_names: u64,
     /// Emoji, ASCII, unrestricted group, restricted group.
     pub kinds: [u64; 4],
@@ -71,6 +82,13 @@ impl CallCounts {
     }
 }
 
+impl std::ops::AddAssign<&CallCounts> for CallCounts {
+    fn add_assign(&mut self, other: &CallCounts) {
+        self.accepted += other.accepted;
+        self.refused += &other.refused;
+    }
+}
+
 impl fmt::Display for CallCounts {
     fn fmt(&self, f: &mut fmt::Formatter) -> fmt::Result {
         write!(f, "accepted {}; refused{}", self.accepted, self.refused)
@@ -80,9 +98,26 @@ impl fmt::Display for CallCounts {
 /// What the calls can refuse, and the rules that the check can name.
 const REFUSALS: std::ops::RangeInclusive<u32> = 1..=15;
 const UNPACK_REFUSALS: std::ops::RangeInclusive<u32> = 20..=22;
-const RULES: std::ops::RangeInclusive<u32> = 0..=7;
+const RULES: std::ops::RangeInclusive<u32> = 0..=plain::soundness::LAST_RULE;
 
 impl Counts {
+    fn add_lengthened(&mut self, table: &[u32], name: &[u32]) {
+        self.lengthened_names += 1;
+        let Some(mut pass) = Pass::read(table) else { return };
+        pass.look_for_rules();
+        if !pass.found().rules {
+            return;
+        }
+        self.with_rules += 1;
+        for label in name.split(|&c| c == STOP) {
+            let tokens = plain::tokens(&pass, label).unwrap_or_default();
+            let texts =
+                || tokens.iter().filter_map(|token| if let Token::Text(text) = token { Some(text) } else { None });
+            self.their_labels += u64::from(texts().next().is_some());
+            self.kept_labels += u64::from(texts().next().is_some() && texts().all(|text| pass.keeps(text)));
+        }
+    }
+
     /// What was reached too seldom, as the comparison asks it: every refusal
     /// and kind 500 times, every soundness answer 200 times, 40,000 accepted
     /// names and a name of as many codepoints as an input may have.
@@ -113,7 +148,29 @@ impl Counts {
         ask("unpacked".into(), self.unpack_calls.accepted, 500);
         ask("accepted names".into(), self.accepted_names, 40_000);
         ask("longest names".into(), self.longest_names, 1);
+        ask("labels left as they are".into(), self.kept_labels, 80);
         missing
+    }
+}
+
+impl std::ops::AddAssign<&Counts> for Counts {
+    fn add_assign(&mut self, other: &Counts) {
+        self.tables += other.tables;
+        self.names += other.names;
+        self.name_calls += &other.name_calls;
+        self.label_calls += &other.label_calls;
+        self.accepted_names += other.accepted_names;
+        self.longest_names += other.longest_names;
+        self.lengthened_names += other.lengthened_names;
+        self.with_rules += other.with_rules;
+        self.their_labels += other.their_labels;
+        self.kept_labels += other.kept_labels;
+        self.accepted_longest_names += other.accepted_longest_names;
+        self.kinds.iter_mut().zip(other.kinds).for_each(|(kind, more)| *kind += more);
+        self.sound += other.sound;
+        self.broken += &other.broken;
+        self.unpack_calls += &other.unpack_calls;
+        self.differences += other.differences;
     }
 }
 
@@ -121,6 +178,11 @@ impl fmt::Display for Counts {
     fn fmt(&self, f: &mut fmt::Formatter) -> fmt::Result {
         writeln!(f, "tables {}, names {}, accepted {}", self.tables, self.names, self.accepted_names)?;
         writeln!(f, "names of {INPUT} codepoints {}, accepted {}", self.longest_names, self.accepted_longest_names)?;
+        writeln!(
+            f,
+            "names of {QUICK_FROM} codepoints and more {}, rules 6 to 8 found for {}, of {} labels with text {} left as they are",
+            self.lengthened_names, self.with_rules, self.their_labels, self.kept_labels
+        )?;
         writeln!(f, "name call: {}", self.name_calls)?;
         writeln!(f, "label call: {}", self.label_calls)?;
         let [emoji, ascii, group, restricted] = self.kinds;
@@ -146,13 +208,24 @@ impl Report {
         }
     }
 
-    /// Prints what was met; panics where the engines differ or something was
-    /// reached too seldom.
-    pub fn check(&self) {
+    /// What both met, and the differences of both.
+    pub fn add(&mut self, other: Report) {
+        self.counts += &other.counts;
+        self.differences.extend(other.differences);
+    }
+
+    /// Prints what was met, and the differences.
+    pub fn show(&self) {
         say(&self.counts);
         for difference in &self.differences {
             say(difference);
         }
+    }
+
+    /// Prints what was met; panics where the engines differ or something was
+    /// reached too seldom.
+    pub fn check(&self) {
+        self.show();
         assert_eq!(self.counts.differences, 0);
         assert_eq!(self.counts.missing(), Vec::<String>::new());
     }
@@ -202,49 +275,73 @@ fn first_difference(a: &[u32], b: &[u32]) -> String {
     }
 }
 
-/// Two engines that are asked the same, with what they answered so far.
-struct Both<'a> {
-    a: &'a dyn Engine,
-    b: &'a dyn Engine,
+/// Engines that are asked the same, with what the first one answered so far.
+struct All<'a> {
+    first: &'a dyn Engine,
+    others: &'a [&'a dyn Engine],
     settings: &'a Settings,
     report: Report,
 }
 
 /// Runs both engines over the same tables and names.
 pub fn compare(a: &dyn Engine, b: &dyn Engine, settings: &Settings) -> Report {
-    let mut both = Both { a, b, settings, report: Report::default() };
+    compare_all(a, &[b], settings)
+}
+
+/// Runs all of these engines over the same tables and names, each held against
+/// the first.
+pub fn compare_all(first: &dyn Engine, others: &[&dyn Engine], settings: &Settings) -> Report {
+    compare_over(first, others, settings, gen::table)
+}
+
+/// The same with tables made in another way.
+pub fn compare_over(
+    first: &dyn Engine,
+    others: &[&dyn Engine],
+    settings: &Settings,
+    table: impl Fn(&mut Rng) -> gen::Made,
+) -> Report {
+    let mut all = All { first, others, settings, report: Report::default() };
     for seed in settings.first_seed..settings.first_seed + settings.tables {
         let mut rng = Rng::new(seed);
-        let made = gen::table(&mut rng);
-        both.soundness(seed, &made.words);
+        let made = table(&mut rng);
+        all.soundness(seed, &made.words);
         let vocabulary = Vocabulary::new(&mut rng, &made.builder);
         for _ in 0..settings.names_per_table {
             let name = vocabulary.name(&mut rng);
-            both.name_and_label(&mut rng, seed, &made.words, &name);
+            all.name_and_label(&mut rng, seed, &made.words, &name);
+        }
+        for _ in 0..settings.lengthened_per_table {
+            let name = vocabulary.lengthened_name(&mut rng, QUICK_FROM);
+            all.report.counts.add_lengthened(&made.words, &name);
+            all.name_and_label(&mut rng, seed, &made.words, &name);
         }
         for _ in 0..settings.files_per_table {
             let (file, room) = gen::file(&mut rng, &made.words);
-            both.unpack(seed, &file, room);
+            all.unpack(seed, &file, room);
         }
     }
     let first = settings.first_seed + settings.tables;
     for seed in first..first + settings.more_soundness {
-        both.soundness(seed, &gen::table(&mut Rng::new(seed)).words);
+        all.soundness(seed, &table(&mut Rng::new(seed)).words);
     }
-    both.report
+    all.report
 }
 
-impl Both<'_> {
+impl All<'_> {
     fn soundness(&mut self, seed: u64, table: &[u32]) {
-        let (x, y) = (self.a.soundness(table), self.b.soundness(table));
+        let x = self.first.soundness(table);
         self.report.counts.tables += 1;
         match x {
             Soundness::Sound => self.report.counts.sound += 1,
             Soundness::Broken(rule) => self.report.counts.broken.add(rule),
         }
-        if x != y {
-            self.report
-                .differ(self.settings, || format!("seed {seed}: soundness {x:?} and {y:?}\n  table {}", hex(table)));
+        for other in self.others {
+            let y = other.soundness(table);
+            if x != y {
+                let text = || format!("seed {seed}: soundness {x:?} and {y:?}\n  table {}", hex(table));
+                self.report.differ(self.settings, text);
+            }
         }
     }
 
@@ -279,7 +376,7 @@ impl Both<'_> {
         self.label(seed, table, label, room, work);
     }
 
-    /// One call by both engines, each with its own marks in the buffers; the
+    /// One call by all engines, each with its own marks in the buffers; the
     /// first engine's answer. `about` says what a difference starts and ends
     /// with.
     fn call<R: PartialEq + fmt::Debug>(
@@ -293,15 +390,19 @@ impl Both<'_> {
             let given = call(engine, &mut answer, &mut area);
             (given, answer, area)
         };
-        let (x, y) = (run(self.a, 1), run(self.b, 2));
-        if x != y {
+        let x = run(self.first, 1);
+        for (number, other) in self.others.iter().enumerate() {
+            let y = run(*other, 2 + number as u32);
+            if x == y {
+                continue;
+            }
             self.report.differ(self.settings, || {
                 let [start, end] = about();
                 let answers = first_difference(&x.1, &y.1);
                 let areas = first_difference(&x.2, &y.2);
                 format!(
-                    "{start}\n  answer room {room}, work area {work}\n  {:?}\n  {:?}\n  answer: {answers}\n  work area: {areas}{end}",
-                    x.0, y.0
+                    "{start}\n  answer room {room}, work area {work}\n  {:?}\n  {:?}, engine {}\n  answer: {answers}\n  work area: {areas}{end}",
+                    x.0, y.0, number + 1
                 )
             });
         }

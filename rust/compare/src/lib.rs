@@ -8,10 +8,12 @@ pub mod older;
 pub mod plain_engine;
 pub mod screens;
 pub mod tally;
+pub mod tiny;
 
 pub use again::{check_again, check_joining};
 pub use engine::Engine;
-pub use harness::{compare, say, Counts, Report, Settings};
+pub use harness::{compare, compare_all, compare_over, say, Counts, Report, Settings};
 pub use older::check_older;
-pub use plain_engine::{Indexed, Plain};
+pub use plain_engine::{Indexed, Passed, Plain, Slow};
 pub use tally::Tally;
+pub use tiny::check_tiny;

@@ -17,6 +17,14 @@ impl Tally {
     }
 }
 
+impl std::ops::AddAssign<&Tally> for Tally {
+    fn add_assign(&mut self, other: &Tally) {
+        for (number, count) in &other.0 {
+            *self.0.entry(*number).or_default() += count;
+        }
+    }
+}
+
 /// As in ` 5:7 6:120`.
 impl fmt::Display for Tally {
     fn fmt(&self, f: &mut fmt::Formatter) -> fmt::Result {

@@ -3,6 +3,7 @@
 
 use gen::small::*;
 use plain::limits::{INPUT, SCREEN, SCREEN_ANY, WORKED, WORK_WORDS};
+use plain::soundness::{missing_in_quick_check, LAST_RULE};
 use plain::*;
 
 const NO_ROOM: u32 = 15;
@@ -388,6 +389,7 @@ fn layout_cases() {
     assert!(!holds(&|b| b.valid.push((2, 1))));
     assert!(!holds(&|b| b.nsm.push((2, 1))));
     assert!(!holds(&|b| b.escape.push((2, 1))));
+    assert!(!holds(&|b| b.quick_check.push((2, 1))));
     assert!(!holds(&|b| b.groups.push((0, vec![(2, 1)]))));
     assert!(!holds(&|b| b.classes.push((2, 1, 0))));
     assert!(holds(&|b| b.classes.push((2, 0xFFFF_FFFF, 255))));
@@ -397,15 +399,15 @@ fn layout_cases() {
     assert!(holds(&|b| b.groups.resize(256, (0, vec![]))));
     assert!(!holds(&|b| b.groups.resize(257, (0, vec![]))));
     assert!(holds(&|b| b.wholes.push((vec![], vec![]))));
-    // Sections by hand: thirteen empty ones, exclusions with their one record.
-    let empty: Vec<Vec<u32>> = (0..13).map(|i| if i == 8 { vec![0] } else { vec![] }).collect();
+    // Sections by hand: fourteen empty ones, exclusions with their one record.
+    let empty: Vec<Vec<u32>> = (0..14).map(|i| if i == 8 { vec![0] } else { vec![] }).collect();
     let with = |i: usize, words: &[u32]| {
         let mut sections = empty.clone();
         sections[i] = words.to_vec();
         parse(&plain::table::join_sections(&sections)).is_some()
     };
     assert!(with(0, &[]));
-    for section in [0, 1, 2, 3, 4, 12] {
+    for section in [0, 1, 2, 3, 4, 12, 13] {
         assert!(with(section, &[5, 5]));
         assert!(with(section, &[0, 0xFFFF_FFFF]));
         assert!(!with(section, &[5]));
@@ -435,7 +437,7 @@ fn layout_cases() {
     past[0] = 2;
     *past.last_mut().unwrap() = 0xFFFF_FFFF;
     assert!(parse(&past).is_none(), "a section that runs past the end");
-    // 131,073 words and two more: 14 words stand beside the pairs or triples.
+    // 131,074 words and two more: 15 words stand beside the pairs or triples.
     let sized = |total: usize| {
         let mut sections = empty.clone();
         let rest = total - words.len();
@@ -447,8 +449,8 @@ fn layout_cases() {
         assert_eq!(words.len(), total);
         parse(&words).is_some()
     };
-    assert!(sized(131_072) && sized(131_073));
-    assert!(!sized(131_074) && !sized(131_075));
+    assert!(sized(131_073) && sized(131_074));
+    assert!(!sized(131_075) && !sized(131_076));
 }
 
 #[test]
@@ -465,13 +467,16 @@ fn unpack_cases() {
     assert_eq!(run(&[], 3), no(21));
     assert_eq!(run(&[1], 3), no(21));
     assert_eq!(run(&[0], 3), no(20));
-    assert_eq!(run(&[3, 9, 9], 3), no(20), "a wrong version with a wrong length");
+    assert_eq!(run(&[4, 9, 9], 3), no(20), "a wrong version with a wrong length");
     assert_eq!(run(&[2], 3), no(21));
+    assert_eq!(run(&[3], 3), no(21));
     assert_eq!(run(&[1, 0, 0, 0], 3), no(21));
-    assert_eq!(run(&[1, 0, 0, 0, 0], 3), (Ok(1), vec![0]));
-    assert_eq!(run(&[1, 0, 0, 0, 0], 0), no(22), "no room for the word that is added");
-    assert_eq!(run(&[2, 0, 0, 0, 0], 0), (Ok(0), vec![]));
-    for version in [0, 3, 4, 255] {
+    assert_eq!(run(&[1, 0, 0, 0, 0], 3), (Ok(2), vec![0, 0]));
+    assert_eq!(run(&[1, 0, 0, 0, 0], 1), no(22), "room for one of the words that are added");
+    assert_eq!(run(&[2, 0, 0, 0, 0], 3), (Ok(1), vec![0]));
+    assert_eq!(run(&[2, 0, 0, 0, 0], 0), no(22), "no room for the word that is added");
+    assert_eq!(run(&[3, 0, 0, 0, 0], 0), (Ok(0), vec![]));
+    for version in [0, 4, 5, 255] {
         assert_eq!(run(&[version, 0, 0, 0, 0], 3), no(20));
     }
     assert_eq!(run(&[1, 0, 0, 0, 0, 7], 3), no(21));
@@ -481,17 +486,20 @@ fn unpack_cases() {
     assert_eq!(run(&pack(&words), 2), (Ok(2), words.to_vec()));
     assert_eq!(run(&pack(&words), 5), (Ok(2), words.to_vec()));
     assert_eq!(run(&pack(&words), 1), no(22), "a buffer too small by one");
-    assert_eq!(pack(&words), [2, 0, 0, 0, 2, 1, 2, 3, 4, 255, 255, 255, 255]);
-    let older = plain::pack_as(1, &words);
+    assert_eq!(pack(&words), [3, 0, 0, 0, 2, 1, 2, 3, 4, 255, 255, 255, 255]);
+    let older = plain::pack_as(2, &words);
     assert_eq!(run(&older, 3), (Ok(3), vec![words[0], words[1], 0]));
     assert_eq!(run(&older, 2), no(22), "the word that is added has no room");
+    let oldest = plain::pack_as(1, &words);
+    assert_eq!(run(&oldest, 4), (Ok(4), vec![words[0], words[1], 0, 0]));
+    assert_eq!(run(&oldest, 3), no(22), "one of the words that are added has no room");
     // More words than a table may have: unpacking has no such limit.
-    let many = vec![3; 131_074];
-    assert_eq!(run(&pack(&many), 131_074).0, Ok(131_074));
+    let many = vec![3; 131_075];
+    assert_eq!(run(&pack(&many), 131_075).0, Ok(131_075));
 }
 
-/// A file of version 1 can have a layout fault without the word that is added,
-/// and none with it; a file of version 2 that lacks a section has one.
+/// A file of version 1 can have a layout fault without the words that are added,
+/// and none with them; a file of version 3 that lacks a section has one.
 #[test]
 fn older_files_that_had_a_fault() {
     let words = |file: &[u8]| {
@@ -504,14 +512,22 @@ fn older_files_that_had_a_fault() {
     let odd = [0, 0, 0, 0, 0, 0, 0, 0, 1, 0, 0, 0, 0, 2, 0];
     assert!(compare::older::twelve(&odd).is_none() && parse(&odd).is_none());
     let unpacked = words(&plain::pack_as(1, &odd));
-    assert_eq!(unpacked, [&odd[..], &[0]].concat());
+    assert_eq!(unpacked, [&odd[..], &[0, 0]].concat());
     assert_eq!(parse(&unpacked).unwrap().to_builder().escape, [(0, 0)]);
     assert_eq!(soundness(&unpacked), Soundness::Sound);
     let twelve = &odd[..13];
     assert!(compare::older::twelve(twelve).is_some());
     assert_eq!(soundness(&words(&plain::pack_as(1, twelve))), Soundness::Sound);
+    assert_eq!(soundness(&words(&plain::pack_as(2, &[twelve, &[0]].concat()))), Soundness::Sound);
+    assert_eq!(soundness(&words(&plain::pack_as(2, twelve))), Soundness::Broken(0));
     assert_eq!(words(&pack(twelve)), twelve);
     assert_eq!(soundness(twelve), Soundness::Broken(0));
+}
+
+/// The least quick-check set of the small table: the second items of its pairs
+/// and of Hangul's.
+fn needed() -> Vec<(u32, u32)> {
+    vec![(0x300, 0x300), (0x303, 0x303), (0x655, 0x655), (0x1161, 0x1175), (0x11A8, 0x11C2)]
 }
 
 /// For each rule changes that break it and no other rule.
@@ -523,7 +539,7 @@ fn each_soundness_rule_alone() {
         let words = b.to_words();
         let table = parse(&words).unwrap();
         let index = Index::new(&table);
-        for other in 1..=7 {
+        for other in 1..=LAST_RULE {
             let broken = plain::soundness::broken(&index, other);
             assert_eq!(broken.is_some(), other == rule, "rule {other}: {broken:?}");
         }
@@ -538,6 +554,7 @@ fn each_soundness_rule_alone() {
     alone(1, &|b| b.nsm.push((0, 0xFFFF_FFFF)));
     alone(1, &|b| b.exclusions.push(0x110000));
     alone(1, &|b| b.escape.push((0xDFFF, 0xE000)));
+    alone(1, &|b| b.quick_check = [needed(), vec![(0x10FFFF, 0x110000)]].concat());
     alone(1, &|b| b.wholes.push((vec![], vec![0xDFFF])));
     alone(1, &|b| b.wholes.push((vec![0xDFFF], vec![])));
     alone(1, &|b| b.mapped.push((0xD800, vec![0x61])));
@@ -587,6 +604,37 @@ fn each_soundness_rule_alone() {
     alone(7, &|b| b.decompositions.push((0x2460, vec![0x61, 0x300])));
     alone(7, &|b| b.decompositions.push((0x2460, vec![0x1100, 0x1161])));
     alone(7, &|b| b.decompositions.push((0x2460, vec![0xAC00, 0x11A8])));
+    // 8: a second item that is missing, those of Hangul from end to end
+    for i in 0..needed().len() {
+        let mut set = needed();
+        set.remove(i);
+        alone(8, &|b| b.quick_check = set.clone());
+    }
+    for (first, last) in [(0x1162, 0x1175), (0x1161, 0x1174)] {
+        alone(8, &|b| b.quick_check = [&needed()[..3], &[(first, last), (0x11A8, 0x11C2)]].concat());
+    }
+    for (first, last) in [(0x11A9, 0x11C2), (0x11A8, 0x11C1)] {
+        alone(8, &|b| b.quick_check = [&needed()[..4], &[(first, last)]].concat());
+    }
+    // what isn't its own NFC, and what starts with a second item: 2461 is 63 64, and 63 is one
+    let with = |more: &[(u32, u32)]| [&needed()[..], more].concat();
+    let changes: [(&[(u32, u32)], (u32, u32), &[(u32, Vec<u32>)]); 5] = [
+        (&[], (0x2460, 0x2460), &[(0x2460, vec![0x2461])]),
+        (&[(0x63, 0x64)], (0x2461, 0x2461), &[(0x2460, vec![0x62, 0x63]), (0x2461, vec![0x63, 0x64])]),
+        (&[(0x1112, 0x1112), (0xD559, 0xD7A3)], (0xD558, 0xD558), &[(0x2460, vec![0x61, 0x1112])]),
+        (&[(0x1112, 0x1112), (0xD558, 0xD7A2)], (0xD7A3, 0xD7A3), &[(0x2460, vec![0x61, 0x1112])]),
+        (&[(0xD558, 0xD7A3)], (0x1112, 0x1112), &[(0x2460, vec![0x61, 0x1112])]),
+    ];
+    for (set, missing, records) in &changes {
+        alone(8, &|b| {
+            b.quick_check = with(set);
+            b.decompositions.extend_from_slice(records);
+        });
+        let mut b = small_table();
+        b.quick_check = with(&[set, &[*missing][..]].concat());
+        b.decompositions.extend_from_slice(records);
+        assert_eq!(soundness_report(&b.to_words()), None);
+    }
 
     // What breaks none.
     let fine = |change: &dyn Fn(&mut TableBuilder)| {
@@ -594,6 +642,8 @@ fn each_soundness_rule_alone() {
         change(&mut b);
         assert_eq!(soundness_report(&b.to_words()), None);
     };
+    fine(&|b| b.quick_check = needed());
+    fine(&|b| b.quick_check = vec![(0, 0xD7FF)]);
     fine(&|b| b.decompositions.push((0x2460, vec![0x2460])));
     fine(&|b| b.decompositions.extend((0x2460..0x2464).map(|h| (h, vec![h + 1]))));
     fine(&|b| b.decompositions.extend([(0x2460, vec![0x2461]), (0x2461, vec![0xAC01])]));
@@ -613,6 +663,28 @@ fn each_soundness_rule_alone() {
     fine(&|b| b.valid.extend([(0x61, 0x70), (0x61, 0x70)]));
 }
 
+/// Rule 8 is asked of few codepoints, and means every number.
+#[test]
+fn rule_8_of_every_codepoint() {
+    let every = || (0..=0x10FFFF).chain([0x110000, 0x7FFF_FFFF, 0xFFFF_FFFF]);
+    let (mut kept, mut broken) = (0, 0);
+    for seed in 0.. {
+        let made = gen::table(&mut gen::Rng::new(8_000 + seed));
+        let Some(table) = parse(&made.words) else { continue };
+        let index = Index::new(&table);
+        let lower = (1..8).any(|rule| plain::soundness::broken(&index, rule).is_some());
+        if lower || made.builder.quick_check.is_empty() {
+            continue;
+        }
+        let due = missing_in_quick_check(&index, every()).is_some();
+        assert_eq!(plain::soundness::broken(&index, 8).is_some(), due, "seed {seed}");
+        *(if due { &mut broken } else { &mut kept }) += 1;
+        if kept >= 3 && broken >= 3 {
+            return;
+        }
+    }
+}
+
 /// Wide ranges, overlapping and repeated, wide class entries, and many heads
 /// that all grow.
 #[test]
@@ -622,7 +694,7 @@ fn soundness_ends_soon() {
     assert_eq!(soundness(&words), Soundness::Broken(1));
     let table = parse(&words).unwrap();
     let index = Index::new(&table);
-    for rule in 1..=7 {
+    for rule in 1..=LAST_RULE {
         let broken = plain::soundness::broken(&index, rule).is_some();
         assert_eq!(broken, rule <= 2, "rule {rule}"); // 2E and FE0F are valid
     }

@@ -1,15 +1,46 @@
 //! The random comparison and demand 3, on the plain engine.
 
 use compare::screens::{check_coming_back, check_screens, indexed, plain_normal, plainly};
-use compare::{check_again, check_joining, check_older, compare, say, Indexed, Plain, Settings};
+use compare::{check_again, check_joining, check_older, check_tiny, compare, compare_all, compare_over, say};
+use compare::{Indexed, Passed, Plain, Settings, Slow};
+use gen::Rng;
+use plain::{parse, Index, Lookup, Pass, Table};
 
-/// The generators reach everything that the comparison asks for, and the index
-/// gives what reading from the front gives.
+/// The generators reach everything that the comparison asks for; searching by
+/// halves, leaving text as it is and the index give what reading from the front
+/// gives.
 #[test]
-fn counts_are_reached() {
+fn the_pass_changes_nothing() {
     let settings = Settings::default();
     assert!(settings.tables >= 2_000 && settings.tables * settings.names_per_table as u64 >= 200_000);
-    compare(&Plain, &Indexed, &settings).check();
+    compare_all(&Slow, &[&Plain, &Passed, &Indexed], &settings).check();
+}
+
+/// The same with every section searched by halves and text left as it is, and
+/// with one section at a time out of order, overlapping, doubled or damaged.
+#[test]
+fn disturbed_sections() {
+    let settings = Settings {
+        first_seed: 9_000_000,
+        tables: 3_000,
+        names_per_table: 20,
+        lengthened_per_table: 1,
+        files_per_table: 0,
+        more_soundness: 0,
+        keep: 5,
+    };
+    let report = compare_over(&Slow, &[&Plain, &Passed], &settings, gen::disturbed::disturbed_table);
+    report.show();
+    assert!(report.counts.differences == 0 && 4 * report.counts.with_rules > report.counts.lengthened_names);
+}
+
+/// Small tables: what the pass finds of rules 6 to 8 is so, and nothing differs.
+#[test]
+fn small_random_tables() {
+    let counts = check_tiny(10_000_000, 150_000);
+    say(counts);
+    assert!(10 * counts.found > counts.tables && 2 * counts.found > counts.keep_rules, "{counts}");
+    assert!(counts.kept > counts.tables && 2 * counts.kept > counts.normal, "{counts}");
 }
 
 /// The worked length of a name without a disallowed codepoint, whatever else is
@@ -70,10 +101,10 @@ fn joining_joins() {
     check_joining(&Plain, 2_000_000, 300);
 }
 
-/// Files of version 1 give the answers that they gave.
+/// Files of versions 1 and 2 give the answers that they gave.
 #[test]
 fn older_files() {
-    check_older(&Plain, 7_000_000, 2_000);
+    check_older(&Plain, 7_000_000, 1_200);
 }
 
 /// The generators reach everything of the screen form that the comparison asks
@@ -89,52 +120,66 @@ fn screen_forms_come_back() {
     check_coming_back(&plainly, &plain_normal, 8_100_000, 400);
 }
 
-/// Every lookup of the index is that of the table.
-#[test]
-fn index_equals_table() {
-    use gen::Rng;
-    use plain::{parse, Index, Lookup};
-    let mut asked = 0u64;
-    for seed in 3_000_000..3_000_400 {
-        let mut rng = Rng::new(seed);
-        let words = gen::table(&mut rng).words;
-        let Some(table) = parse(&words) else { continue };
-        let index = Index::new(&table);
-        // Every word of the table, its neighbours and the edges.
-        let mut codes: Vec<u32> = words.iter().flat_map(|&w| [w.wrapping_sub(1), w, w.wrapping_add(1)]).collect();
-        codes.extend([0, 0x2E, 0xFE0F, 0x10FFFF, 0x110000, u32::MAX]);
-        codes.sort_unstable();
-        codes.dedup();
-        for &c in &codes {
-            assert_eq!(table.is_valid(c), index.is_valid(c), "seed {seed}, {c:X}");
-            assert_eq!(table.is_ignored(c), index.is_ignored(c), "seed {seed}, {c:X}");
-            assert_eq!(table.is_fenced(c), index.is_fenced(c), "seed {seed}, {c:X}");
-            assert_eq!(table.is_mark(c), index.is_mark(c), "seed {seed}, {c:X}");
-            assert_eq!(table.is_nsm(c), index.is_nsm(c), "seed {seed}, {c:X}");
-            assert_eq!(table.mapping(c), index.mapping(c), "seed {seed}, {c:X}");
-            assert_eq!(table.decomposition(c), index.decomposition(c), "seed {seed}, {c:X}");
-            assert_eq!(table.class(c), index.class(c), "seed {seed}, {c:X}");
-            assert_eq!(table.whole_of(c), index.whole_of(c), "seed {seed}, {c:X}");
-            for group in 0..table.group_count().min(20) {
-                assert_eq!(table.group_holds(group, c), index.group_holds(group, c), "seed {seed}, {c:X}");
-            }
-            asked += 1;
-        }
-        for r in &table.decompositions {
-            let (a, b) = (r.items[0], *r.items.last().unwrap());
-            assert_eq!(table.composite(a, b), index.composite(a, b), "seed {seed}, {a:X} {b:X}");
-        }
-        for _ in 0..200 {
-            let mut rest: Vec<u32> = Vec::new();
-            if !table.emoji.is_empty() {
-                rest.extend(*rng.pick(&table.emoji));
-            }
-            rest.push(*rng.pick(&codes));
-            let at = rng.below(rest.len());
-            rest.remove(at);
-            assert_eq!(table.find_emoji(&rest), index.find_emoji(&rest), "seed {seed}, {rest:X?}");
+/// Every lookup of this one is that of the table.
+fn looks_up_alike(table: &Table, other: &impl Lookup, words: &[u32], rng: &mut Rng, seed: u64) -> usize {
+    // Every word of the table, its neighbours and the edges.
+    let mut codes: Vec<u32> = words.iter().flat_map(|&w| [w.wrapping_sub(1), w, w.wrapping_add(1)]).collect();
+    codes.extend([0, 0x2E, 0xFE0F, 0x10FFFF, 0x110000, u32::MAX]);
+    codes.sort_unstable();
+    codes.dedup();
+    for &c in &codes {
+        assert_eq!(table.is_valid(c), other.is_valid(c), "seed {seed}, {c:X}");
+        assert_eq!(table.is_ignored(c), other.is_ignored(c), "seed {seed}, {c:X}");
+        assert_eq!(table.is_fenced(c), other.is_fenced(c), "seed {seed}, {c:X}");
+        assert_eq!(table.is_mark(c), other.is_mark(c), "seed {seed}, {c:X}");
+        assert_eq!(table.is_nsm(c), other.is_nsm(c), "seed {seed}, {c:X}");
+        assert_eq!(table.mapping(c), other.mapping(c), "seed {seed}, {c:X}");
+        assert_eq!(table.decomposition(c), other.decomposition(c), "seed {seed}, {c:X}");
+        assert_eq!(table.class(c), other.class(c), "seed {seed}, {c:X}");
+        assert_eq!(table.whole_of(c), other.whole_of(c), "seed {seed}, {c:X}");
+        assert_eq!(table.should_escape(c), other.should_escape(c), "seed {seed}, {c:X}");
+        for group in 0..table.group_count().min(20) {
+            assert_eq!(table.group_holds(group, c), other.group_holds(group, c), "seed {seed}, {c:X}");
         }
     }
-    say(format!("index: {asked} codepoints"));
-    assert!(asked > 50_000);
+    for r in &table.decompositions {
+        let (a, b) = (r.items[0], *r.items.last().unwrap());
+        assert_eq!(table.composite(a, b), other.composite(a, b), "seed {seed}, {a:X} {b:X}");
+        let b = *rng.pick(&codes);
+        assert_eq!(table.composite(a, b), other.composite(a, b), "seed {seed}, {a:X} {b:X}");
+    }
+    for (number, sequence) in table.emoji.iter().enumerate() {
+        assert_eq!(other.emoji(number), *sequence, "seed {seed}, {number}");
+    }
+    for _ in 0..200 {
+        let mut rest: Vec<u32> = Vec::new();
+        if !table.emoji.is_empty() {
+            rest.extend(*rng.pick(&table.emoji));
+        }
+        rest.push(*rng.pick(&codes));
+        let at = rng.below(rest.len());
+        rest.remove(at);
+        assert_eq!(table.find_emoji(&rest), other.find_emoji(&rest), "seed {seed}, {rest:X?}");
+    }
+    codes.len()
+}
+
+/// Every lookup of the index and of the pass is that of the table, and the pass
+/// finds the same layout faults.
+#[test]
+fn index_and_pass_equal_table() {
+    let mut asked = 0;
+    for seed in 3_000_000..3_000_800 {
+        let mut rng = Rng::new(seed);
+        let words = gen::table(&mut rng).words;
+        let pass = Pass::read(&words);
+        let Some(table) = parse(&words) else {
+            assert!(pass.is_none(), "seed {seed}");
+            continue;
+        };
+        asked += looks_up_alike(&table, &Index::new(&table), &words, &mut rng, seed);
+        looks_up_alike(&table, &pass.expect("no fault"), &words, &mut rng, seed);
+    }
+    say(format!("index and pass: {asked} codepoints"));
+    assert!(asked > 100_000);
 }

@@ -4,10 +4,11 @@ use compare::screens::{both, compare_screens, plainly, Asked};
 use compare::{compare, say, Engine, Plain, Settings};
 use plain::label::{self, Finished};
 use plain::limits::{INPUT, WORKED, WORK_WORDS};
+use plain::soundness::LAST_RULE;
 use plain::text::{compose, four_rounds, order};
 use plain::tokens::strip;
 use plain::*;
-use std::collections::BTreeSet;
+use std::collections::{BTreeSet, HashSet};
 
 /// Declares an enum of engines, right ones and wrong ones, and the list of
 /// those that are wrong.
@@ -394,7 +395,15 @@ impl Engine for Assembled {
 
 /// What the tests run over: a tenth of the whole comparison.
 fn settings() -> Settings {
-    Settings { first_seed: 7_000, tables: 200, names_per_table: 100, files_per_table: 1, more_soundness: 0, keep: 3 }
+    Settings {
+        first_seed: 7_000,
+        tables: 200,
+        names_per_table: 100,
+        lengthened_per_table: 0,
+        files_per_table: 1,
+        more_soundness: 0,
+        keep: 3,
+    }
 }
 
 /// With nothing wrong the assembled engine is the plain one; and the source's
@@ -416,11 +425,17 @@ wrongs! {
     FiveFirstSentence,
     SixRoundsOnly,
     SevenWithoutHangul,
+    EightOfHeadsAlone,
+    EightWithoutVowels,
+    EightWithoutSyllables,
+    EightOfTheEmptySet,
     LengthBeforeVersion,
     RoomBeforeLength,
     AddedWordNotAsked,
     NothingAdded,
+    OneAddedToVersion1,
     EscapeNotScalar,
+    QuickCheckNotScalar,
     LeavesWords,
 }
 
@@ -443,9 +458,12 @@ impl Engine for Checks {
         let hangul_pair = |r: &Record| matches!(*r.items, [a, b] if plain::text::hangul_composite(a, b).is_some());
         let judged = |rule: u32| match (self.0, rule) {
             (WrongCheck::EverySound, _) => false,
-            (WrongCheck::EscapeNotScalar, 1) => {
+            (WrongCheck::EscapeNotScalar | WrongCheck::QuickCheckNotScalar, 1) => {
                 let mut rest = table.to_builder();
-                rest.escape.clear();
+                match self.0 {
+                    WrongCheck::EscapeNotScalar => rest.escape.clear(),
+                    _ => rest.quick_check.clear(),
+                }
                 let words = rest.to_words();
                 let rest = parse(&words).expect("a table without that section");
                 plain::soundness::broken(&Index::new(&rest), 1).is_some()
@@ -462,11 +480,31 @@ impl Engine for Checks {
                 plain::text::one_round(&table, &four) != four
             }),
             (WrongCheck::SevenWithoutHangul, 7) => broken(7) && !table.decompositions.iter().any(hangul_pair),
+            // As if the set held all that this version does not ask.
+            (WrongCheck::EightOfHeadsAlone | WrongCheck::EightWithoutVowels | WrongCheck::EightWithoutSyllables, 8)
+                if table.quick_check.iter().next().is_some() =>
+            {
+                let mut more = table.to_builder();
+                let items = more.decompositions.iter().flat_map(|d| d.1.iter().map(|&c| (c, c))).collect::<Vec<_>>();
+                match self.0 {
+                    WrongCheck::EightWithoutVowels => more.quick_check.push((0x1161, 0x1175)),
+                    WrongCheck::EightWithoutSyllables => more.quick_check.push((0xAC00, 0xD7A3)),
+                    _ => {
+                        let heads: HashSet<u32> = more.decompositions.iter().map(|d| d.0).collect();
+                        more.quick_check.extend(items.into_iter().filter(|(c, _)| !heads.contains(c)));
+                        more.quick_check.extend([(0x1100, 0x11FF), (0xAC00, 0xD7A3)]);
+                    }
+                }
+                let words = more.to_words();
+                let more = parse(&words).expect("a table with more in that section");
+                plain::soundness::broken(&Index::new(&more), 8).is_some()
+            }
+            (WrongCheck::EightOfTheEmptySet, 8) => broken(8) || table.quick_check.iter().next().is_none(),
             _ => broken(rule),
         };
         let rule = match self.0 {
-            WrongCheck::HighestRule => (1..=7).rev().find(|&rule| judged(rule)),
-            _ => (1..=7).find(|&rule| judged(rule)),
+            WrongCheck::HighestRule => (1..=LAST_RULE).rev().find(|&rule| judged(rule)),
+            _ => (1..=LAST_RULE).find(|&rule| judged(rule)),
         };
         rule.map_or(Soundness::Sound, Soundness::Broken)
     }
@@ -481,11 +519,15 @@ impl Engine for Checks {
             WrongCheck::RoomBeforeLength if number == 21 && count.is_some_and(|n| n as usize > old.len()) => {
                 refuse(22, 0)
             }
-            // The word that is added is left out of the room, or out altogether.
+            // The words that are added are left out of the room, or out altogether.
             WrongCheck::AddedWordNotAsked if number == 22 && count.is_some_and(|n| n as usize == old.len()) => {
                 Ok(old.len())
             }
-            WrongCheck::NothingAdded if file.first() == Some(&1) => right.map(|n| n - 1),
+            WrongCheck::NothingAdded => match file.first() {
+                Some(&version @ (1 | 2)) => right.map(|n| n + usize::from(version) - 3),
+                _ => right,
+            },
+            WrongCheck::OneAddedToVersion1 if file.first() == Some(&1) => right.map(|n| n - 1),
             WrongCheck::LeavesWords => {
                 let due = right.unwrap_or(0);
                 answer[due..].copy_from_slice(&old[due..]);
@@ -498,7 +540,8 @@ impl Engine for Checks {
 
 #[test]
 fn wrong_checks_are_found() {
-    let settings = Settings { tables: 300, names_per_table: 0, files_per_table: 4, more_soundness: 300, ..settings() };
+    let settings =
+        Settings { tables: 300, names_per_table: 0, files_per_table: 4, more_soundness: 2_400, ..settings() };
     for &wrong in WRONG_CHECKS {
         let report = compare(&Plain, &Checks(wrong), &settings);
         say(format!("{wrong:?}: {} differences", report.counts.differences));

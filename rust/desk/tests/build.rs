@@ -120,14 +120,15 @@ fn an_archive_is_built_where_something_of_it_has_changed() {
 }
 
 /// The module that is kept is the one that was compiled, with the words that rt
-/// gave.
+/// gave, and those that keep large frames apart.
 #[test]
 fn the_module_of_an_archive_is_kept() {
     let repository = Repository::new("module");
     repository.calls("build_archive boundary");
     let read = |name: &str| fs::read_to_string(repository.0.join("target/staticlib").join(name)).expect("a file");
     assert_eq!(read("boundary.bc"), "the module of boundary\n");
-    assert_eq!(read("libboundary.a"), "-x ir module.bc -o module.o\nthe module of boundary\n");
+    let words = "-x ir module.bc -o module.o -mllvm -inline-max-stacksize=2048";
+    assert_eq!(read("libboundary.a"), format!("{words}\nthe module of boundary\n"));
 }
 
 #[test]

@@ -1,7 +1,12 @@
 //! Times the proved calls beside the plain version, in one run, in seconds of
 //! the processor, and measures the stack that they use. Not a test.
-//! `cargo run --release --offline -p engine --example bench`
+//! `cargo run --release --offline -p engine --example bench [fast | calls | stacks] [PROGRAM FOLDER]..`
+//!
+//! Without a word all of it. `fast` is what 02's Item 11 asks: it times further
+//! line programs too, each in a folder that has its names.tab.
 
+#[path = "timing/fast.rs"]
+mod fast;
 #[allow(dead_code)]
 #[path = "../tests/painted/mod.rs"]
 mod painted;
@@ -178,6 +183,14 @@ fn stacks(full: &[u32], names: &[Vec<u32>], worst: &[(&str, Vec<u32>)]) {
 }
 
 fn main() {
+    let words: Vec<String> = std::env::args().skip(1).collect();
+    let known = |word: &&String| ["fast", "calls", "stacks"].contains(&word.as_str());
+    let chosen = words.first().filter(known);
+    let wanted = |part: &str| chosen.is_none_or(|word| word == part);
+    if wanted("fast") {
+        let programs = words[usize::from(chosen.is_some())..].chunks_exact(2);
+        fast::run(&programs.map(|of| (of[0].clone(), of[1].clone())).collect::<Vec<_>>());
+    }
     let full = standin::full().words;
     let small = standin::names().words;
     let names = NAMES.map(codepoints);
@@ -188,6 +201,10 @@ fn main() {
         ("1,024 codepoints: 1A00 and 1,023 marks", followed(0x1A00, &[0x1A1B, 0x1A1A, 0x1A19, 0x1A18, 0x1A17], 1_023)),
         ("1,020 codepoints: 170 long emoji", family.repeat(170)),
     ];
-    times(&full, &small, &names, &worst);
-    stacks(&full, &names, &worst);
+    if wanted("calls") {
+        times(&full, &small, &names, &worst);
+    }
+    if wanted("stacks") {
+        stacks(&full, &names, &worst);
+    }
 }

@@ -45,9 +45,10 @@ impl Unpacked {
     }
 }
 
-/// Unpacks a table file, of version 1 or 2. To one of version 1 a word is
-/// added, the 0 of the section that it lacks: it is counted and needs its room.
-/// Words past the table are zero; after a refusal all are.
+/// Unpacks a table file, of version 1, 2 or 3. To one of version 1 two words are
+/// added and to one of version 2 one, the 0 of each section that it lacks: they
+/// are counted and need their room. Words past the table are zero; after a
+/// refusal all are.
 pub fn unpack(file: &[u8], answer: &mut [u32]) -> Unpacked {
     raw::unpack(file, answer)
 }

@@ -2,7 +2,7 @@
 
 mod proved;
 
-use compare::{check_again, check_joining, check_older, compare, Engine, Plain, Settings};
+use compare::{check_again, check_joining, check_older, compare, compare_over, Engine, Plain, Settings, Slow};
 use engine::{Refusal, Soundness};
 use gen::worst::DEEP;
 use plain::limits::{INPUT, WORKED, WORK_WORDS};
@@ -13,6 +13,25 @@ use proved::Proved;
 #[test]
 fn random_names_and_tables() {
     compare(&Plain, &Proved, &Settings::default()).check();
+}
+
+/// Tables of which all is found that a pass can find, with one section at a time
+/// out of order, overlapping, doubled or damaged; more of their names are so long
+/// that rules 6 to 8 are looked for. By the slow ways too.
+#[test]
+fn disturbed_sections() {
+    let settings = Settings {
+        first_seed: 9_100_000,
+        tables: 2_000,
+        names_per_table: 20,
+        lengthened_per_table: 2,
+        files_per_table: 0,
+        more_soundness: 0,
+        keep: 5,
+    };
+    let report = compare_over(&Plain, &[&Proved, &Slow], &settings, gen::disturbed::disturbed_table);
+    report.show();
+    assert!(report.counts.differences == 0 && report.counts.kept_labels > settings.tables / 2);
 }
 
 /// Demand 3, first half, run.
@@ -27,10 +46,10 @@ fn joining_joins() {
     check_joining(&Proved, 6_000_000, 600);
 }
 
-/// Files of version 1 give the answers that they gave.
+/// Files of versions 1 and 2 give the answers that they gave.
 #[test]
 fn older_files() {
-    check_older(&Proved, 7_000_000, 2_000);
+    check_older(&Proved, 7_000_000, 1_000);
 }
 
 /// Every case of "Names at the counter" and every example of ENSIP-15 that the
@@ -88,8 +107,7 @@ fn errors_met_in_the_field() {
 fn soundness_of_deep_tables() {
     standin::shards::on_all_processors(DEEP.len(), |i| {
         let hard = &DEEP[i];
-        let due = if hard.answer == 8 { Soundness::Sound } else { Soundness::Broken(hard.answer) };
-        assert_eq!(Proved.soundness(&(hard.table)().to_words()), due, "{}", hard.name);
+        assert_eq!(Proved.soundness(&(hard.table)().to_words()), hard.answer, "{}", hard.name);
     });
 }
 

@@ -5,9 +5,9 @@ use gen::{small_table, Rng};
 use plain::table::join_sections;
 use plain::{parse, TableBuilder};
 
-/// Thirteen empty sections, exclusions with its one record.
+/// Fourteen empty sections, exclusions with its one record.
 fn empty() -> Vec<Vec<u32>> {
-    (0..13).map(|i| if i == 8 { vec![0] } else { vec![] }).collect()
+    (0..14).map(|i| if i == 8 { vec![0] } else { vec![] }).collect()
 }
 
 /// The sections above, with this one in its place.
@@ -35,7 +35,7 @@ fn the_end_of_the_words() {
     assert!(fault(&words), "words left over");
     words.pop();
     for place in 0..words.len() {
-        for count in [2, 14, u32::MAX] {
+        for count in [2, 15, u32::MAX] {
             let mut words = words.clone();
             words[place] = count;
             assert!(fault(&words), "a count past the end");
@@ -45,7 +45,7 @@ fn the_end_of_the_words() {
 
 #[test]
 fn pairs_and_triples() {
-    for place in [0, 1, 2, 3, 4, 12] {
+    for place in [0, 1, 2, 3, 4, 12, 13] {
         assert!(!fault(&with(place, &[5, 5, 0, u32::MAX])));
         assert!(fault(&with(place, &[5])));
         assert!(fault(&with(place, &[5, 6, 7])));
@@ -102,7 +102,7 @@ fn the_most_words() {
     for more in [0, 2] {
         let mut sections = empty();
         sections[9] = vec![7; 3];
-        sections[0] = vec![7; most - 17 + more];
+        sections[0] = vec![7; most - 18 + more];
         let words = join_sections(&sections);
         assert_eq!(words.len(), most + more);
         assert_eq!(fault(&words), more > 0);

@@ -43,7 +43,8 @@ fn an_empty_file_has_a_wrong_length() {
 fn one_byte() {
     refused(21, &[1]);
     refused(21, &[2]);
-    for version in (0..=255).filter(|v| ![1, 2].contains(v)) {
+    refused(21, &[3]);
+    for version in (0..=255).filter(|v| ![1, 2, 3].contains(v)) {
         refused(20, &[version]);
     }
 }
@@ -53,12 +54,13 @@ fn a_part_of_the_head_has_a_wrong_length() {
     for length in 1..5 {
         refused(21, &file(1, 0, &[])[..length]);
         refused(21, &file(2, 0, &[])[..length]);
+        refused(21, &file(3, 0, &[])[..length]);
     }
 }
 
 #[test]
 fn a_wrong_version_comes_before_a_wrong_length() {
-    for version in [0, 3, 4, 255] {
+    for version in [0, 4, 5, 255] {
         refused(20, &file(version, 0, &[]));
         refused(20, &file(version, 7, &[1, 2]));
     }
@@ -87,19 +89,22 @@ fn the_count_is_not_cut_to_32_bits() {
 #[test]
 fn no_words() {
     for room in [0, 1, 9] {
-        given(&[], &file(2, 0, &[]), room);
+        given(&[], &file(3, 0, &[]), room);
     }
-    for room in [1, 9] {
-        given(&[0], &file(1, 0, &[]), room);
+    for room in [2, 9] {
+        given(&[0], &file(2, 0, &[]), room - 1);
+        given(&[0, 0], &file(1, 0, &[]), room);
     }
-    assert_eq!(run(&file(1, 0, &[]), 0), (Unpacked { number: 22, count: 0 }, vec![]));
+    assert_eq!(run(&file(2, 0, &[]), 0), (Unpacked { number: 22, count: 0 }, vec![]));
+    assert_eq!(run(&file(1, 0, &[]), 1), (Unpacked { number: 22, count: 0 }, vec![0]));
 }
 
 #[test]
 fn the_first_byte_of_a_word_is_the_highest() {
     let bytes = [0x12, 0x34, 0x56, 0x78, 0xFF, 0, 0, 1];
-    given(&[0x1234_5678, 0xFF00_0001], &file(2, 2, &bytes), 2);
-    given(&[0x1234_5678, 0xFF00_0001, 0], &file(1, 2, &bytes), 3);
+    given(&[0x1234_5678, 0xFF00_0001], &file(3, 2, &bytes), 2);
+    given(&[0x1234_5678, 0xFF00_0001, 0], &file(2, 2, &bytes), 3);
+    given(&[0x1234_5678, 0xFF00_0001, 0, 0], &file(1, 2, &bytes), 4);
 }
 
 #[test]
@@ -107,8 +112,10 @@ fn a_buffer_too_small_by_one() {
     for words in [1, 2, 30] {
         let file = plain::pack(&vec![5; words]);
         assert_eq!(run(&file, words - 1), (Unpacked { number: 22, count: 0 }, vec![0; words - 1]));
-        let older = plain::pack_as(1, &vec![5; words]);
-        assert_eq!(run(&older, words), (Unpacked { number: 22, count: 0 }, vec![0; words]));
+        for (version, room) in [(2, words), (1, words + 1)] {
+            let older = plain::pack_as(version, &vec![5; words]);
+            assert_eq!(run(&older, room), (Unpacked { number: 22, count: 0 }, vec![0; room]));
+        }
     }
 }
 
@@ -118,26 +125,36 @@ fn an_exact_fit_and_larger_buffers() {
         let words: Vec<u32> = (0..length).map(|i| 0x0102_0304 * i).collect();
         for more in [0, 1, 2, 100] {
             given(&words, &plain::pack(&words), length as usize + more);
-            let added = [&words[..], &[0]].concat();
-            given(&added, &plain::pack_as(1, &words), length as usize + 1 + more);
+            for (version, added) in [(2, &[0][..]), (1, &[0, 0])] {
+                let due = [&words[..], added].concat();
+                given(&due, &plain::pack_as(version, &words), due.len() + more);
+            }
         }
     }
 }
 
 /// Eight empty sections, 1 0, three empty sections and 2 0 are a layout fault, and
-/// a sound table with the word that is added; a version 2 file of twelve sections
+/// a sound table with the words that are added; a version 3 file of twelve sections
 /// unpacks and is a layout fault.
 #[test]
-fn the_word_that_is_added_and_the_layout() {
+fn the_words_that_are_added_and_the_layout() {
     let odd = [0, 0, 0, 0, 0, 0, 0, 0, 1, 0, 0, 0, 0, 2, 0];
-    let added = [&odd[..], &[0]].concat();
-    given(&added, &plain::pack_as(1, &odd), 16);
+    let added = [&odd[..], &[0, 0]].concat();
+    given(&added, &plain::pack_as(1, &odd), 17);
     assert_eq!((soundness(&odd), soundness(&added)), (Soundness::Broken(0), Soundness::Sound));
     let twelve = &odd[..13];
     let thirteen = [twelve, &[0]].concat();
+    let fourteen = [twelve, &[0, 0]].concat();
     given(twelve, &plain::pack(twelve), 13);
-    given(&thirteen, &plain::pack_as(1, twelve), 14);
-    assert_eq!((soundness(twelve), soundness(&thirteen)), (Soundness::Broken(0), Soundness::Sound));
+    given(&fourteen, &plain::pack_as(1, twelve), 15);
+    given(&fourteen, &plain::pack_as(2, &thirteen), 15);
+    assert_eq!((soundness(twelve), soundness(&thirteen)), (Soundness::Broken(0), Soundness::Broken(0)));
+    assert_eq!(soundness(&fourteen), Soundness::Sound);
+    // A set of 0 alone: vowels and trailing consonants are missing.
+    let odd = [&thirteen[..], &[2, 0]].concat();
+    let added = [&odd[..], &[0]].concat();
+    given(&added, &plain::pack_as(2, &odd), 17);
+    assert_eq!((soundness(&odd), soundness(&added)), (Soundness::Broken(0), Soundness::Broken(8)));
 }
 
 #[test]

@@ -62,13 +62,14 @@ fn another(rng: &mut Rng, c: u32) -> u32 {
 /// An entry that layout refuses, and what it is called.
 type Entry = (&'static str, fn(&mut Rng, &mut TableBuilder));
 
-const ENTRIES: [Entry; 9] = [
+const ENTRIES: [Entry; 10] = [
     ("groups: flags 4", |_, b| b.groups.push((4, vec![]))),
     ("groups: 257", |_, b| b.groups.resize(257, (0, vec![(0x61, 0x61)]))),
     ("classes: 256", |_, b| b.classes.push((0x300, 0x301, 256))),
     ("classes: first over last", |_, b| b.classes.push((0x301, 0x300, 230))),
     ("ignored: first over last", |_, b| b.ignored.push((0x301, 0x300))),
     ("should-escape: first over last", |_, b| b.escape.push((0x301, 0x300))),
+    ("quick-check: first over last", |_, b| b.quick_check.push((0x301, 0x300))),
     ("emoji: 0 or 33 items", |rng, b| b.emoji.push(vec![0x1F468; *rng.pick(&[0, 33])])),
     ("mapped: 0 or 33 items", |rng, b| b.mapped.push((0x2160, vec![0x61; *rng.pick(&[0, 33])]))),
     ("decompositions: 0 or 5 items", |rng, b| b.decompositions.push((0x1EFC, vec![0x61; *rng.pick(&[0, 5])]))),

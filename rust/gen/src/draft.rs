@@ -2,10 +2,11 @@
 
 use crate::pools::*;
 use crate::rng::Rng;
-use plain::text::hangul_composite;
+use plain::lookup::is_composition_pair;
+use plain::text::{four_rounds, hangul_composite, nfc, nfd};
 use plain::tokens::strip;
-use plain::{parse, Index, Ranges, TableBuilder, FE0F, STOP};
-use std::collections::{BTreeMap, HashSet};
+use plain::{parse, Index, Lookup, Ranges, Record, TableBuilder, FE0F, STOP};
+use std::collections::{BTreeMap, BTreeSet, HashSet};
 
 /// A table as far as it is made, and what later sections want to know of the
 /// earlier ones.
@@ -41,7 +42,31 @@ pub(crate) fn draft(rng: &mut Rng) -> TableBuilder {
     marks_and_nsm(rng, &mut d);
     wholes(rng, &mut d);
     escape(rng, &mut d);
+    quick_check(&mut d);
+    // Most tables as the maker writes them: every section sorted.
+    if mixed(&d.b) % 5 < 3 {
+        sort_sections(&mut d.b);
+    }
     d.b
+}
+
+/// A number from the words of the sections so far: what is chosen by it leaves
+/// the random numbers of all else as they are.
+fn mixed(b: &TableBuilder) -> u64 {
+    b.to_words().iter().fold(0, |sum: u64, &word| sum.rotate_left(5) ^ u64::from(word))
+}
+
+/// Sorts what can be searched by halves. Entries that overlap stay so.
+pub(crate) fn sort_sections(b: &mut TableBuilder) {
+    let groups = b.groups.iter_mut().map(|(_, pairs)| pairs);
+    let lists =
+        [&mut b.valid, &mut b.ignored, &mut b.fenced, &mut b.marks, &mut b.nsm, &mut b.escape, &mut b.quick_check];
+    lists.into_iter().chain(groups).for_each(|pairs| pairs.sort());
+    b.classes.sort();
+    b.exclusions.sort_unstable();
+    b.mapped.sort_by_key(|(head, _)| *head);
+    b.decompositions.sort_by_key(|(head, _)| *head);
+    b.emoji.sort();
 }
 
 impl Draft {
@@ -409,6 +434,50 @@ fn escape(rng: &mut Rng, d: &mut Draft) {
         let last = if rng.percent(30) && first < 0xD000 { first + rng.code(0, 0x40) } else { first };
         d.b.escape.push((first, last));
     }
+}
+
+/// The quick-check set: none, or what 02's Item 11 asks of one, in some order and
+/// with others beside it. Its numbers come from the other sections.
+fn quick_check(d: &mut Draft) {
+    let rng = &mut Rng::new(mixed(&d.b));
+    if rng.percent(40) {
+        return;
+    }
+    let needed = needs_quick_check(&d.b);
+    d.b.quick_check = Ranges::new(needed.iter().copied()).pairs().to_vec();
+    if rng.percent(30) {
+        d.b.quick_check = needed;
+        rng.shuffle(&mut d.b.quick_check);
+    }
+    for _ in 0..rng.below(3) {
+        let first = if rng.percent(50) { rng.code(0, 0xD700) } else { d.a_valid(rng) };
+        let last = if rng.percent(30) && first < 0xD000 { first + rng.code(0, 0x400) } else { first };
+        let at = rng.below(d.b.quick_check.len() + 1);
+        d.b.quick_check.insert(at, (first, last));
+    }
+}
+
+/// 02, Item 11: "every codepoint that isn't its own NFC and every one whose full
+/// decomposition starts with the second item of a composition pair, Hangul
+/// included".
+pub(crate) fn needs_quick_check(b: &TableBuilder) -> Vec<(u32, u32)> {
+    const JAMO: [(u32, u32); 2] = [(0x1161, 0x1175), (0x11A8, 0x11C2)];
+    let words = b.to_words();
+    let table = parse(&words).expect("a table as far as it is made");
+    let index = Index::new(&table);
+    let pair = |r: &&Record| is_composition_pair(&table, |c| index.class(c), r);
+    let mut seconds: HashSet<u32> = table.decompositions.iter().filter(pair).map(|r| r.items[1]).collect();
+    seconds.extend(JAMO.iter().flat_map(|&(first, last)| first..=last));
+    let asked: BTreeSet<u32> = table.decompositions.iter().map(|r| r.head).chain(seconds.iter().copied()).collect();
+    let needed = asked.into_iter().filter(|&c| {
+        let starts = |text: Vec<u32>| seconds.contains(&text[0]);
+        nfc(&index, &[c]) != [c] || starts(nfd(&index, &[c])) || starts(four_rounds(&index, &[c]))
+    });
+    let mut out: Vec<(u32, u32)> = needed.map(|c| (c, c)).collect();
+    // The syllables of a leading jamo that is a second item.
+    let leading = (0x1100..=0x1112).filter(|c| seconds.contains(c));
+    out.extend(leading.map(|c| 0xAC00 + 588 * (c - 0x1100)).map(|first| (first, first + 587)));
+    out
 }
 
 fn wholes(rng: &mut Rng, d: &mut Draft) {

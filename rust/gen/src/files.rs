@@ -7,9 +7,10 @@ pub fn file(rng: &mut Rng, words: &[u32]) -> (Vec<u8>, usize) {
     let words = if rng.percent(60) { &words[..rng.below(words.len().min(12) + 1)] } else { words };
     let mut file = plain::pack(words);
     file[0] = match rng.below(20) {
-        0..=3 => *rng.pick(&[0, 3, 4, 255, 128]),
-        4..=11 => 1,
-        _ => 2,
+        0..=3 => *rng.pick(&[0, 4, 5, 255, 128]),
+        4..=8 => 1,
+        9..=13 => 2,
+        _ => 3,
     };
     match rng.below(10) {
         0 => file.truncate(rng.below(file.len() + 1)),
@@ -21,7 +22,7 @@ pub fn file(rng: &mut Rng, words: &[u32]) -> (Vec<u8>, usize) {
     }
     let room = match rng.below(6) {
         0 => words.len().saturating_sub(1),
-        1 => words.len() + rng.below(2),
+        1 => words.len() + rng.below(3),
         2 => rng.below(words.len() + 1),
         3 => 0,
         _ => words.len() + rng.between(1, 20),

@@ -2,6 +2,7 @@
 //! table has, and of table files. The same seed gives the same things.
 
 mod damage;
+pub mod disturbed;
 mod draft;
 pub mod files;
 pub mod names;
@@ -10,6 +11,7 @@ pub mod rng;
 pub mod screens;
 pub mod small;
 pub mod tables;
+pub mod tiny;
 mod unsound;
 pub mod wholes;
 pub mod worst;

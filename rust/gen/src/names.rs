@@ -375,6 +375,30 @@ impl Vocabulary {
         name
     }
 
+    /// A name of any kind made longer by so many codepoints: something ignored or
+    /// letters put in, or a label of letters beside it.
+    pub fn lengthened_name(&self, rng: &mut Rng, by: usize) -> Vec<u32> {
+        let mut name = loop {
+            let name = self.name(rng);
+            if name.len() < by {
+                break name;
+            }
+        };
+        let letters = if self.groups.is_empty() { &self.ascii } else { &rng.pick(&self.groups).letters };
+        let way = rng.below(4);
+        let more: Vec<u32> = match way {
+            0 | 1 if !self.ignored.is_empty() => vec![*rng.pick(&self.ignored); by],
+            2 => (0..by).map(|_| Self::one(rng, letters)).collect(),
+            _ => vec![Self::one(rng, &self.ascii); by],
+        };
+        if way == 3 {
+            return [&more[..], &[STOP], &name].concat();
+        }
+        let at = rng.below(name.len() + 1);
+        name.splice(at..at, more);
+        name
+    }
+
     pub fn name(&self, rng: &mut Rng) -> Vec<u32> {
         let mut name = match rng.below(1000) {
             0..=4 => Vec::new(),

@@ -37,7 +37,7 @@ pub fn table(rng: &mut Rng) -> Made {
         }
         45..=84 => {
             // The later rules have more ways to be hidden by a lower one.
-            let rule = *rng.pick(&[1, 2, 3, 4, 4, 5, 5, 6, 6, 7, 7]);
+            let rule = *rng.pick(&[1, 2, 3, 4, 4, 5, 5, 6, 6, 7, 7, 8, 8]);
             what.push(break_rule(rng, &mut builder, rule));
             while rng.percent(20) {
                 let rule = rng.code(rule, LAST_RULE);

@@ -1,6 +1,7 @@
 //! Sound tables made unsound: for each rule of the soundness check the ways to
 //! break it, and no lower rule where that is easy.
 
+use crate::draft::needs_quick_check;
 use crate::pools::*;
 use crate::rng::Rng;
 use plain::tokens::strip;
@@ -19,7 +20,7 @@ struct Spare {
 type Way = (&'static str, fn(&mut Rng, &mut TableBuilder, &Spare));
 
 /// The rules, from 1.
-const RULES: [&[Way]; 7] = [&RULE_1, &RULE_2, &RULE_3, &RULE_4, &RULE_5, &RULE_6, &RULE_7];
+const RULES: [&[Way]; 8] = [&RULE_1, &RULE_2, &RULE_3, &RULE_4, &RULE_5, &RULE_6, &RULE_7, &RULE_8];
 
 /// The number of rules.
 pub(crate) const LAST_RULE: u32 = RULES.len() as u32;
@@ -48,7 +49,7 @@ fn put_in<T>(rng: &mut Rng, list: &mut Vec<T>, entry: T) {
     list.insert(at, entry);
 }
 
-const RULE_1: [Way; 13] = [
+const RULE_1: [Way; 14] = [
     ("ignored: no scalar value", |_, b, s| b.ignored.push((s.no_scalar, s.no_scalar))),
     ("classes: no scalar value", |_, b, s| b.classes.push((s.no_scalar, s.no_scalar.max(0xE000), 230))),
     ("mapped: head no scalar value", |_, b, s| b.mapped.push((s.no_scalar, vec![s.valid]))),
@@ -62,6 +63,7 @@ const RULE_1: [Way; 13] = [
     ("exclusions: no scalar value", |_, b, s| b.exclusions.push(s.no_scalar)),
     ("wholes: no scalar value", |_, b, s| b.wholes.push((vec![s.no_scalar], vec![s.valid]))),
     ("should-escape: no scalar value", |_, b, s| b.escape.push((s.no_scalar, s.no_scalar))),
+    ("quick-check: no scalar value", |_, b, s| b.quick_check.push((s.no_scalar, s.no_scalar))),
     ("groups: no scalar value", |_, b, s| b.groups[0].1.push((s.no_scalar, s.no_scalar))),
     ("NSM: surrogates within a pair", |_, b, _| b.nsm.push((0xD000, 0xE000))),
     ("mapped: a valid item that is no scalar value", |rng, b, s| {
@@ -202,5 +204,38 @@ const RULE_7: [Way; 3] = [
     ("composition pairs: L V", |_, b, _| b.decompositions.push((0x1EFA, vec![0x1100, 0x1161]))),
     ("composition pairs: LV T", |rng, b, _| {
         b.decompositions.push((0x1EFB, vec![0xAC00 + 28 * rng.code(0, 398), 0x11A8]));
+    }),
+];
+
+const RULE_8: [Way; 6] = [
+    ("quick-check: one left out", |rng, b, _| {
+        b.quick_check = needs_quick_check(b);
+        let i = rng.below(b.quick_check.len());
+        b.quick_check.remove(i);
+    }),
+    ("quick-check: one codepoint alone", |_, b, s| b.quick_check = vec![(s.valid, s.valid)]),
+    ("quick-check: a vowel or trailing consonant left out", |rng, b, _| {
+        let c = *rng.pick(&[0x1161, 0x1168, 0x1175, 0x11A8, 0x11B0, 0x11C2]);
+        b.quick_check = needs_quick_check(b);
+        b.quick_check.retain(|&(first, last)| c < first || last < c);
+    }),
+    ("quick-check: heads alone", |_, b, _| {
+        let heads: HashSet<u32> = b.decompositions.iter().map(|d| d.0).collect();
+        b.quick_check = needs_quick_check(b);
+        b.quick_check.retain(|&(c, _)| heads.contains(&c));
+        b.quick_check.extend([(0x1161, 0x1175), (0x11A8, 0x11C2)]);
+    }),
+    ("quick-check: a new head", |rng, b, s| {
+        b.quick_check = needs_quick_check(b);
+        put_in(rng, &mut b.decompositions, (0x1EFC, vec![s.valid]));
+    }),
+    ("quick-check: a syllable of a second item left out", |rng, b, _| {
+        let l = rng.code(0, 18);
+        put_in(rng, &mut b.decompositions, (0x1EFD, vec![0x61, 0x1100 + l]));
+        b.quick_check = needs_quick_check(b);
+        let first = 0xAC00 + 588 * l;
+        let c = first + *rng.pick(&[0, 1, 27, 28, 300, 586, 587]);
+        b.quick_check.retain(|&pair| pair != (first, first + 587));
+        b.quick_check.extend([(first, c - 1), (c + 1, first + 587)].iter().filter(|(first, last)| first <= last));
     }),
 ];

@@ -1,10 +1,11 @@
-//! Tables that make one job long: each fills the 131,073 words with what that
+//! Tables that make one job long: each fills the 131,074 words with what that
 //! job reads most often.
 
 pub mod texts;
 
 use crate::Rng;
 use plain::limits::TABLE_WORDS;
+use plain::Soundness::{self, Broken, Sound};
 use plain::TableBuilder;
 
 /// The first codepoint used; all from here to 10FFFF are scalar values.
@@ -13,50 +14,55 @@ const FIRST: u32 = 0x20000;
 /// Hangul syllables.
 const SYLLABLES: (u32, u32) = (0xAC00, 0xD7A3);
 
-/// A table for the soundness check, and what the check has to answer: 0 to 7,
-/// or 8 for sound.
+/// A table for the soundness check, and what the check has to answer.
 pub struct Hard {
     pub name: &'static str,
     pub table: fn() -> TableBuilder,
-    pub answer: u32,
+    pub answer: Soundness,
 }
 
 /// Long sections: what is asked of each entry is asked of every other.
-pub const LONG: [Hard; 23] = [
-    Hard { name: "wide ranges", table: wide_ranges, answer: 1 },
-    Hard { name: "wide classes", table: wide_classes, answer: 1 },
-    Hard { name: "many ignored pairs", table: many_ignored, answer: 8 },
-    Hard { name: "many wholes", table: many_wholes, answer: 8 },
-    Hard { name: "many valid pairs in one group", table: many_valid, answer: 8 },
-    Hard { name: "many pairs of one group", table: many_group_pairs, answer: 8 },
-    Hard { name: "single codepoints, valid and of a group", table: single_pairs, answer: 8 },
-    Hard { name: "single codepoints, of 256 groups", table: many_groups, answer: 8 },
-    Hard { name: "single codepoints of a group before a pair of all", table: covered_singles, answer: 8 },
-    Hard { name: "wide pairs of one group", table: wide_pairs, answer: 8 },
-    Hard { name: "records of codepoints to themselves", table: to_themselves, answer: 8 },
-    Hard { name: "many mappings", table: many_mappings, answer: 8 },
-    Hard { name: "emoji of one codepoint", table: single_emoji, answer: 8 },
-    Hard { name: "emoji after a valid codepoint", table: emoji_after_valid, answer: 8 },
-    Hard { name: "long emoji that start alike", table: long_emoji, answer: 8 },
-    Hard { name: "long emoji that start alike and go on valid", table: long_emoji_valid, answer: 8 },
-    Hard { name: "emoji of six that start alike by chance", table: emoji_by_chance, answer: 8 },
-    Hard { name: "composition pairs and exclusions", table: pairs_and_exclusions, answer: 8 },
-    Hard { name: "composition pairs and classes", table: pairs_and_classes, answer: 8 },
-    Hard { name: "a composition pair, and its items with heads excluded last", table: pairs_excluded_last, answer: 8 },
-    Hard { name: "heads that all grow", table: growing_heads, answer: 6 },
-    Hard { name: "items that no group holds", table: many_items, answer: 8 },
-    Hard { name: "chains of four rounds", table: long_chains, answer: 8 },
+pub const LONG: [Hard; 25] = [
+    Hard { name: "wide ranges", table: wide_ranges, answer: Broken(1) },
+    Hard { name: "wide classes", table: wide_classes, answer: Broken(1) },
+    Hard { name: "many ignored pairs", table: many_ignored, answer: Sound },
+    Hard { name: "many wholes", table: many_wholes, answer: Sound },
+    Hard { name: "many valid pairs in one group", table: many_valid, answer: Sound },
+    Hard { name: "many pairs of one group", table: many_group_pairs, answer: Sound },
+    Hard { name: "single codepoints, valid and of a group", table: single_pairs, answer: Sound },
+    Hard { name: "single codepoints, of 256 groups", table: many_groups, answer: Sound },
+    Hard { name: "single codepoints of a group before a pair of all", table: covered_singles, answer: Sound },
+    Hard { name: "wide pairs of one group", table: wide_pairs, answer: Sound },
+    Hard { name: "records of codepoints to themselves", table: to_themselves, answer: Sound },
+    Hard { name: "many mappings", table: many_mappings, answer: Sound },
+    Hard { name: "emoji of one codepoint", table: single_emoji, answer: Sound },
+    Hard { name: "emoji after a valid codepoint", table: emoji_after_valid, answer: Sound },
+    Hard { name: "long emoji that start alike", table: long_emoji, answer: Sound },
+    Hard { name: "long emoji that start alike and go on valid", table: long_emoji_valid, answer: Sound },
+    Hard { name: "emoji of six that start alike by chance", table: emoji_by_chance, answer: Sound },
+    Hard { name: "composition pairs and exclusions", table: pairs_and_exclusions, answer: Sound },
+    Hard { name: "composition pairs and classes", table: pairs_and_classes, answer: Sound },
+    Hard {
+        name: "a composition pair, and its items with heads excluded last",
+        table: pairs_excluded_last,
+        answer: Sound,
+    },
+    Hard { name: "composition pairs outside the set", table: pairs_outside, answer: Sound },
+    Hard { name: "the same, and a second item outside the set", table: second_outside, answer: Sound },
+    Hard { name: "heads that all grow", table: growing_heads, answer: Broken(6) },
+    Hard { name: "items that no group holds", table: many_items, answer: Sound },
+    Hard { name: "chains of four rounds", table: long_chains, answer: Sound },
 ];
 
 /// Decompositions that grow or share items: a check that decomposes codepoint by
 /// codepoint takes many minutes on some of these.
 pub const DEEP: [Hard; 6] = [
-    Hard { name: "heads that become 256", table: deep_heads, answer: 8 },
-    Hard { name: "heads that become 256, and a long valid section", table: deep_heads_long_valid, answer: 8 },
-    Hard { name: "many ways up", table: many_ways_up, answer: 8 },
-    Hard { name: "jamo of syllables beside deep heads", table: jamo_of_syllables, answer: 8 },
-    Hard { name: "thousands that come from syllables alone", table: from_syllables, answer: 6 },
-    Hard { name: "the same, and a long group", table: from_syllables_long_group, answer: 6 },
+    Hard { name: "heads that become 256", table: deep_heads, answer: Sound },
+    Hard { name: "heads that become 256, and a long valid section", table: deep_heads_long_valid, answer: Sound },
+    Hard { name: "many ways up", table: many_ways_up, answer: Sound },
+    Hard { name: "jamo of syllables beside deep heads", table: jamo_of_syllables, answer: Sound },
+    Hard { name: "thousands that come from syllables alone", table: from_syllables, answer: Broken(6) },
+    Hard { name: "the same, and a long group", table: from_syllables_long_group, answer: Broken(6) },
 ];
 
 /// For refusal 13: each of nine codepoints decomposes to four of the next, so
@@ -123,13 +129,14 @@ pub fn in_random_order(table: TableBuilder) -> TableBuilder {
         groups: table.groups.into_iter().map(|(flags, pairs)| (flags, shuffled(pairs))).collect(),
         wholes: shuffled(table.wholes),
         escape: shuffled(table.escape),
+        quick_check: shuffled(table.quick_check),
     }
 }
 
 /// How many records of so many words fit beside `other` words, the counts of
 /// the sections and of the exclusions.
 fn fit(words: usize, other: usize) -> u32 {
-    ((TABLE_WORDS - 14 - other) / words) as u32
+    ((TABLE_WORDS - 15 - other) / words) as u32
 }
 
 /// So many codepoints from `first` on, each a pair of its own, `step` apart.
@@ -306,6 +313,28 @@ pub fn pairs_and_classes() -> TableBuilder {
     TableBuilder { decompositions: pairs(count), classes, ..TableBuilder::default() }
 }
 
+/// The vowels and the trailing consonants, which every quick-check set has.
+const HANGUL_SECONDS: [(u32, u32); 2] = [(0x1161, 0x1175), (0x11A8, 0x11C2)];
+
+/// Composition pairs whose second items are in the quick-check set and whose
+/// heads are not: each is composed again.
+pub fn pairs_outside() -> TableBuilder {
+    let count = fit(4, 8);
+    let decompositions = (0..count).map(|i| (FIRST + i, vec![0xE0000, 0xF0000 + i])).collect();
+    let quick_check = [&HANGUL_SECONDS[..], &[(0xF0000, 0xF0000 + count)]].concat();
+    TableBuilder { decompositions, quick_check, ..TableBuilder::default() }
+}
+
+/// The same, and one second item is a head that the set does not hold: it is
+/// asked of each head whether it starts with a second item.
+pub fn second_outside() -> TableBuilder {
+    let mut table = pairs_outside();
+    let last = table.decompositions.last_mut().expect("many");
+    last.1[1] = FIRST;
+    table.quick_check.push((last.0, last.0));
+    table
+}
+
 /// Every head decomposes to four times the next one.
 pub fn growing_heads() -> TableBuilder {
     let last = FIRST + 0x5000;
@@ -459,12 +488,8 @@ mod tests {
         for hard in LONG.iter().chain(&DEEP) {
             for table in [(hard.table)(), in_random_order((hard.table)())] {
                 let words = table.to_words();
-                let answer = match plain::soundness(&words) {
-                    plain::Soundness::Sound => 8,
-                    plain::Soundness::Broken(rule) => rule,
-                };
                 assert!((60_000..=TABLE_WORDS).contains(&words.len()), "{}: {} words", hard.name, words.len());
-                assert_eq!(answer, hard.answer, "{}", hard.name);
+                assert_eq!(plain::soundness(&words), hard.answer, "{}", hard.name);
             }
         }
     }

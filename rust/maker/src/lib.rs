@@ -80,7 +80,23 @@ pub fn valid(spec: &Spec, nf: &Nf) -> BTreeSet<u32> {
     out
 }
 
-/// The table of these two files.
+/// The records by their heads, ascending; records of one head keep their order,
+/// since the first one counts.
+fn by_head(records: &[(u32, Vec<u32>)]) -> Vec<(u32, Vec<u32>)> {
+    let mut out = records.to_vec();
+    out.sort_by_key(|(head, _)| *head);
+    out
+}
+
+/// The same, ascending.
+fn ascending<T: Ord + Clone>(entries: &[T]) -> Vec<T> {
+    let mut out = entries.to_vec();
+    out.sort();
+    out
+}
+
+/// The table of these two files, with every section sorted, so that it can be
+/// searched by halves.
 pub fn make(spec: &Spec, nf: &Nf) -> TableBuilder {
     TableBuilder {
         valid: pairs(valid(spec, nf)),
@@ -88,23 +104,26 @@ pub fn make(spec: &Spec, nf: &Nf) -> TableBuilder {
         fenced: pairs(spec.fenced.iter().copied()),
         marks: pairs(spec.cm.iter().copied()),
         nsm: pairs(spec.nsm.iter().copied()),
-        mapped: spec.mapped.clone(),
-        decompositions: nf.decomp.clone(),
-        emoji: spec.emoji.clone(),
-        exclusions: nf.exclusions.clone(),
+        mapped: by_head(&spec.mapped),
+        decompositions: by_head(&nf.decomp),
+        emoji: ascending(&spec.emoji),
+        exclusions: ascending(&nf.exclusions),
         classes: classes(&nf.ranks),
         groups: spec.groups.iter().map(|g| (g.flags(), pairs(g.characters.iter().copied()))).collect(),
         wholes: spec.wholes.iter().map(|w| (w.valid.clone(), w.confused.clone())).collect(),
         escape: pairs(spec.escape.iter().copied()),
+        quick_check: pairs(nf.qc.iter().copied()),
     }
 }
 
-/// A table for NFC and NFD alone: decompositions, exclusions and classes.
+/// A table for NFC and NFD alone: decompositions, exclusions, classes and the
+/// quick-check set.
 pub fn make_nf(nf: &Nf) -> TableBuilder {
     TableBuilder {
-        decompositions: nf.decomp.clone(),
-        exclusions: nf.exclusions.clone(),
+        decompositions: by_head(&nf.decomp),
+        exclusions: ascending(&nf.exclusions),
         classes: classes(&nf.ranks),
+        quick_check: pairs(nf.qc.iter().copied()),
         ..TableBuilder::default()
     }
 }

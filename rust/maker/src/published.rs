@@ -26,7 +26,8 @@ pub struct Whole {
 }
 
 /// What a table needs of `spec.json`. Its valid characters follow from the
-/// groups; `nfc_check` has no part in a table.
+/// groups; `nfc_check` has no part in a table: it is a subset of the quick-check
+/// set of `nf.json`, and too small for rule 8.
 #[derive(Clone, Debug, PartialEq, Eq)]
 pub struct Spec {
     /// The version of Unicode, where the file names it.
@@ -48,6 +49,8 @@ pub struct Nf {
     pub decomp: Vec<(u32, Vec<u32>)>,
     /// By combining class, ascending; class 0 is not among them.
     pub ranks: Vec<Vec<u32>>,
+    /// The quick-check set: NFC_QC is No or Maybe.
+    pub qc: Vec<u32>,
 }
 
 /// A file's value, which has to be a map.
@@ -179,6 +182,7 @@ impl Nf {
             exclusions: codepoints(key(&v, "exclusions")?, "exclusions")?,
             decomp: rows(key(&v, "decomp")?, "decomp", |r| record(r, 4))?,
             ranks,
+            qc: codepoints(key(&v, "qc")?, "qc")?,
         })
     }
 
@@ -229,7 +233,8 @@ mod tests {
         assert!(Nf::read("[]").unwrap_err().contains("a list"));
         assert!(Nf::read("7").unwrap_err().contains("a map is expected"));
         assert!(Spec::read(&format!("\u{FEFF}{SPEC}")).unwrap_err().contains("line 1: a byte order mark"));
-        let nf = r#"{"exclusions":[],"decomp":[[192,[65,768,1,2,3]]],"ranks":[]}"#;
+        let nf = r#"{"exclusions":[],"decomp":[[192,[65,768,1,2,3]]],"ranks":[],"qc":[]}"#;
         assert!(Nf::read(nf).unwrap_err().contains("1 to 4"));
+        assert!(Nf::read(r#"{"exclusions":[],"decomp":[],"ranks":[]}"#).unwrap_err().contains("qc is missing"));
     }
 }

@@ -168,6 +168,11 @@ impl Reduction {
         for rank in &mut small.ranks {
             rank.retain(|c| keep.contains(c) || heads.contains(c));
         }
+        // Of the quick-check set what rule 8 can ask for: heads, second items, and V and T jamo.
+        let seconds: BTreeSet<u32> =
+            small.decomp.iter().filter(|(_, items)| items.len() == 2).map(|(_, items)| items[1]).collect();
+        let jamo = |c: u32| (0x1161..=0x1175).contains(&c) || (0x11A8..=0x11C2).contains(&c);
+        small.qc.retain(|c| heads.contains(c) || seconds.contains(c) || jamo(*c));
         Ok((out, small))
     }
 }

@@ -44,10 +44,10 @@ fn makes_the_committed_tables() {
     let run = maketable(&["--nf", path(&nf), path(&out)]);
     assert_eq!(run.status.code(), Some(0));
     let file = std::fs::read(&out).unwrap();
-    assert!(file.len() > 30_000 && file[0] == 2);
+    assert!(file.len() > 30_000 && file[0] == 3);
 }
 
-const NF: &str = r#"{"exclusions": [], "decomp": [[224, [97, 768]]], "ranks": [[768]]}"#;
+const NF: &str = r#"{"exclusions": [], "decomp": [[224, [97, 768]]], "ranks": [[768]], "qc": []}"#;
 
 fn small_spec(mapped: &str) -> String {
     format!(
@@ -87,9 +87,10 @@ fn a_small_table_word_by_word() {
         &[12, 2, 6, 0x61, 0x63, 0xE0, 0xE0, 0x2019, 0x2019, 1, 2, 0x430, 0x430],
         &[4, 1, 0x61, 1, 0x430],
         &[4, 0x300, 0x300, 0x200D, 0x200D],
+        &[0],
     ]
     .concat();
-    let mut file = vec![2];
+    let mut file = vec![3];
     file.extend((words.len() as u32).to_be_bytes());
     file.extend(words.iter().flat_map(|w| w.to_be_bytes()));
     assert_eq!(std::fs::read(&out).unwrap(), file);

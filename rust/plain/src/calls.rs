@@ -3,6 +3,7 @@
 
 use crate::label::{judge, LabelFault, LabelForm};
 use crate::lookup::Lookup;
+use crate::pass::Pass;
 use crate::table::{parse, Table};
 use crate::{is_scalar, limits, STOP};
 use answers::{Kind, Label, Name, Refusal};
@@ -30,6 +31,23 @@ pub fn check_room<'t>(table: &'t [u32], work: &[u32]) -> Result<Table<'t>, Refus
     check_work(work)?;
     Ok(table)
 }
+
+/// The same with what one pass finds; rules 6 to 8 are looked for where the
+/// input has `QUICK_FROM` codepoints: a shorter one would pay more for that than
+/// it saves.
+pub fn check_room_by_pass<'t>(table: &'t [u32], work: &[u32], input: &[u32]) -> Result<Pass<'t>, Refusal> {
+    let Some(mut pass) = Pass::read(table) else {
+        return refuse(1, 0);
+    };
+    check_work(work)?;
+    if (QUICK_FROM..=limits::INPUT).contains(&input.len()) {
+        pass.look_for_rules();
+    }
+    Ok(pass)
+}
+
+/// The shortest input for which rules 6 to 8 are looked for.
+pub const QUICK_FROM: usize = 512;
 
 /// 2 alone.
 pub fn check_work(work: &[u32]) -> Result<(), Refusal> {
@@ -163,8 +181,8 @@ pub fn name_with(
     answer: &mut [u32],
     work: &mut [u32],
 ) -> Result<Name, Refusal> {
-    let table = check_room(table, work);
-    name_by(table.as_ref().map_err(|r| *r), setting, name, answer, work)
+    let pass = check_room_by_pass(table, work, name);
+    name_by(pass.as_ref().map_err(|r| *r), setting, name, answer, work)
 }
 
 /// The label call with a setting.
@@ -175,8 +193,8 @@ pub fn label_with(
     answer: &mut [u32],
     work: &mut [u32],
 ) -> Result<Label, Refusal> {
-    let table = check_room(table, work);
-    label_by(table.as_ref().map_err(|r| *r), setting, label, answer, work)
+    let pass = check_room_by_pass(table, work, label);
+    label_by(pass.as_ref().map_err(|r| *r), setting, label, answer, work)
 }
 
 /// The name call with the setting 0.

@@ -1,5 +1,5 @@
 //! 01, "The table": a version byte, a count of words, the words, all
-//! big-endian, and nothing after. 02, Item 9: the versions.
+//! big-endian, and nothing after. 02, Items 9 and 11: the versions.
 
 use answers::Refusal;
 
@@ -7,8 +7,9 @@ use answers::Refusal;
 /// named.
 fn lacking(version: u8) -> Option<usize> {
     match version {
-        1 => Some(1),
-        2 => Some(0),
+        1 => Some(2),
+        2 => Some(1),
+        3 => Some(0),
         _ => None,
     }
 }
@@ -51,7 +52,7 @@ pub fn unpack(file: &[u8], answer: &mut [u32]) -> Result<usize, Refusal> {
 
 /// The file of these words, of the last version.
 pub fn pack(words: &[u32]) -> Vec<u8> {
-    pack_as(2, words)
+    pack_as(3, words)
 }
 
 /// The same with another version byte.

@@ -3,7 +3,7 @@
 use crate::limits;
 use crate::lookup::Lookup;
 use crate::table::Whole;
-use crate::text::{append_four_rounds, compose, nfd, order};
+use crate::text::{append_four_rounds, compose, full_length, nfd, order};
 use crate::tokens::{strip, tokens, Token};
 use answers::Kind;
 use std::collections::BTreeSet;
@@ -67,19 +67,10 @@ pub fn judge(t: &impl Lookup, label: &[u32], before: usize) -> Result<LabelForm,
                 finished.push(Finished::Emoji(emoji));
             }
             Token::Text(text) => {
-                let mut decomposed = Vec::new();
-                for &c in text {
-                    append_four_rounds(t, c, &mut decomposed);
-                    // The length only grows: past the limit the rest is not
-                    // needed to know that it is 7.
-                    if too_long(worked + decomposed.len()) {
-                        return Err(LabelFault::Number(7));
-                    }
-                }
-                worked += decomposed.len();
-                order(t, &mut decomposed);
-                let nfc = compose(t, &decomposed);
-                composed |= nfc.len() < decomposed.len();
+                let room = limits::WORKED.checked_sub(before + worked);
+                let (nfc, length) = room.and_then(|most| normal(t, text, most)).ok_or(LabelFault::Number(7))?;
+                worked += length;
+                composed |= nfc.len() < length;
                 finished.push(Finished::Text(nfc));
             }
         }
@@ -90,6 +81,24 @@ pub fn judge(t: &impl Lookup, label: &[u32], before: usize) -> Result<LabelForm,
     let kind = kind_of(t, &finished).map_err(LabelFault::Number)?;
     let answer = joined(&finished);
     Ok(LabelForm { answer, kind, tokens: finished, worked, composed })
+}
+
+/// A text in NFC, and the length of its full decomposition; `None` where that is
+/// over `most`.
+fn normal(t: &impl Lookup, text: &[u32], most: usize) -> Option<(Vec<u32>, usize)> {
+    if t.keeps(text) {
+        return Some((text.to_vec(), full_length(t, text, most)?));
+    }
+    let mut decomposed = Vec::new();
+    for &c in text {
+        append_four_rounds(t, c, &mut decomposed);
+        // The length only grows: past the limit the rest is not needed.
+        if decomposed.len() > most {
+            return None;
+        }
+    }
+    order(t, &mut decomposed);
+    Some((compose(t, &decomposed), decomposed.len()))
 }
 
 /// All tokens put together.

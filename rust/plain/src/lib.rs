@@ -3,23 +3,27 @@
 //! 01 in the comments). It is the reference that the proved engine is compared
 //! with and the baseline for its speed, so it is clear before it is fast.
 //!
-//! * `table`: words to thirteen sections, and back.
+//! * `table`: words to fourteen sections, and back.
 //! * `lookup`: what the rules ask a table. `Table` answers by reading from the
-//!   front; `Index` gives the same answers faster.
+//!   front; `Index` gives the same answers faster, and so does `Pass`.
 //! * `text`: Hangul, classes, decomposition, ordering, composition.
 //! * `tokens`: emoji matching and the walk over one label.
 //! * `label`: the rules of one label.
 //! * `groups`: the search for 12 as a call.
 //! * `calls`: the public calls on words and buffers.
-//! * `soundness`: the seven rules of the soundness check.
+//! * `soundness`: the eight rules of the soundness check.
 //! * `emoji`: which emoji it was.
 //! * `file`: table files.
 //! * `book`: the payee book.
 //! * `keccak`: Keccak-256.
 //! * `lists`: slots that a new table would file differently, groups behind 14.
 //! * `namehash`: the name hash of EIP-137.
+//! * `pass`: the same lookups by what one pass over the words finds, with the
+//!   searches of `records`, the index of `pairs` and the finds of `quick`.
 //! * `report`: the report of what was typed.
 //! * `screen`: the screen form of a name.
+//! * `slow`: the calls by reading from the front, which the others are compared
+//!   with.
 //! * `trim`: an input without the blanks at its ends.
 //! * `utf8`: bytes to codepoints and back, and the byte form of the name call.
 
@@ -33,9 +37,14 @@ pub mod label;
 pub mod lists;
 pub mod lookup;
 pub mod namehash;
+mod pairs;
+pub mod pass;
+mod quick;
 pub mod ranges;
+mod records;
 pub mod report;
 pub mod screen;
+pub mod slow;
 pub mod soundness;
 pub mod table;
 pub mod text;
@@ -50,6 +59,7 @@ pub use file::{pack, pack_as, unpack};
 pub use keccak::keccak256;
 pub use label::LabelForm;
 pub use lookup::{Index, Lookup};
+pub use pass::{Found, Pass};
 pub use ranges::Ranges;
 pub use report::report;
 pub use screen::screen;
@@ -63,7 +73,7 @@ pub use utf8::{name_bytes, utf8_read, utf8_write};
 /// The numbers that 01 and 02 name.
 pub mod limits {
     /// Words of a table.
-    pub const TABLE_WORDS: usize = 131_073;
+    pub const TABLE_WORDS: usize = 131_074;
     /// Groups of a table.
     pub const GROUPS: usize = 256;
     /// Words that a work area needs.

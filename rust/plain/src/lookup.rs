@@ -36,6 +36,10 @@ pub trait Lookup {
     fn whole_of(&self, c: u32) -> Option<Whole<'_>>;
     /// Is it shown in braces?
     fn should_escape(&self, c: u32) -> bool;
+    /// Is this text seen to be its own NFC? It may be that where it is not seen.
+    fn keeps(&self, _text: &[u32]) -> bool {
+        false
+    }
 }
 
 /// Is this record a composition pair? 01: "the two-item decompositions whose

@@ -2,7 +2,7 @@
 //! document 000: the same tokens, emoji with every FE0F of their sequence, and
 //! 3BE in text shown as 39E in each label whose kind isn't the Greek group".
 
-use crate::calls::{check_room, judge_name_with, settle};
+use crate::calls::{check_room_by_pass, judge_name_with, settle};
 use crate::label::{Finished, LabelForm};
 use crate::lookup::Lookup;
 use crate::tokens::{tokens, Token};
@@ -55,7 +55,7 @@ pub fn screen(
     answer: &mut [u32],
     work: &mut [u32],
 ) -> Result<Name, Refusal> {
-    let judged = check_room(table, work).and_then(|t| screen_by(&t, greek, setting, name));
+    let judged = check_room_by_pass(table, work, name).and_then(|t| screen_by(&t, greek, setting, name));
     settle(judged, answer, work).map(|(length, labels)| Name { length, labels })
 }
 

@@ -5,11 +5,14 @@
 use crate::lookup::{Index, Lookup};
 use crate::ranges::Ranges;
 use crate::table::{layout, Table};
-use crate::text::{four_rounds, hangul_composite, is_jamo, is_syllable, one_round};
+use crate::text::{four_rounds, hangul_composite, is_jamo, is_syllable, nfc, nfd, one_round};
 use crate::tokens::strip;
 use crate::{is_scalar, FE0F, STOP};
 use answers::Soundness;
 use std::collections::{HashMap, HashSet};
+
+/// The rules are numbered from 1 to this.
+pub const LAST_RULE: u32 = 8;
 
 /// Syllables and jamo.
 const HANGUL: [(u32, u32); 4] = [(0x1100, 0x1112), (0x1161, 0x1175), (0x11A8, 0x11C2), (0xAC00, 0xD7A3)];
@@ -38,10 +41,10 @@ pub fn soundness_report(words: &[u32]) -> Option<(u32, String)> {
         }
     };
     let index = Index::new(&table);
-    (1..=7).find_map(|rule| broken(&index, rule).map(|text| (rule, text)))
+    (1..=LAST_RULE).find_map(|rule| broken(&index, rule).map(|text| (rule, text)))
 }
 
-/// What breaks this rule, 1 to 7, whether or not others are broken too.
+/// What breaks this rule, 1 to 8, whether or not others are broken too.
 pub fn broken(index: &Index, rule: u32) -> Option<String> {
     match rule {
         1 => scalar_values(index.table()),
@@ -51,7 +54,8 @@ pub fn broken(index: &Index, rule: u32) -> Option<String> {
         5 => emoji_apart_from_text(index),
         6 => decomposes_fully(index),
         7 => pairs_distinct(index),
-        _ => panic!("there are seven rules"),
+        8 => quick_check_complete(index),
+        _ => panic!("there are eight rules"),
     }
 }
 
@@ -66,6 +70,7 @@ fn scalar_values(table: &Table) -> Option<String> {
         ("marks", table.marks),
         ("NSM", table.nsm),
         ("should-escape", table.escape),
+        ("quick-check", table.quick_check),
     ];
     for (section, pairs) in pairs.into_iter().chain(table.groups.iter().map(|g| ("groups", g.pairs))) {
         if let Some((first, last)) = pairs.iter().find(|&(first, last)| bad_range(first, last)) {
@@ -192,22 +197,61 @@ fn decomposes_fully(index: &Index) -> Option<String> {
     None
 }
 
-/// Rule 7: No two composition pairs are equal, and none is a Hangul pair.
-fn pairs_distinct(index: &Index) -> Option<String> {
+/// The composition pairs: the head and the two items of each.
+fn composition_pairs<'i>(index: &'i Index) -> impl Iterator<Item = (u32, u32, u32)> + 'i {
     let table = index.table();
     let excluded: HashSet<u32> = table.exclusions.iter().copied().collect();
+    table.decompositions.iter().filter_map(move |r| {
+        let [a, b] = *r.items else { return None };
+        let pair = !excluded.contains(&r.head) && index.class(r.head) == 0 && index.class(a) == 0;
+        pair.then_some((r.head, a, b))
+    })
+}
+
+/// Rule 7: No two composition pairs are equal, and none is a Hangul pair.
+fn pairs_distinct(index: &Index) -> Option<String> {
     let mut seen: HashMap<(u32, u32), u32> = HashMap::new();
-    for r in &table.decompositions {
-        let [a, b] = *r.items else { continue };
-        if excluded.contains(&r.head) || index.class(r.head) != 0 || index.class(a) != 0 {
-            continue;
-        }
+    for (head, a, b) in composition_pairs(index) {
         if hangul_composite(a, b).is_some() {
-            return Some(format!("decompositions: {:X} = {a:X} {b:X} is a Hangul pair", r.head));
+            return Some(format!("decompositions: {head:X} = {a:X} {b:X} is a Hangul pair"));
         }
-        if let Some(other) = seen.insert((a, b), r.head) {
-            return Some(format!("decompositions: {:X} = {a:X} {b:X}, as for {other:X}", r.head));
+        if let Some(other) = seen.insert((a, b), head) {
+            return Some(format!("decompositions: {head:X} = {a:X} {b:X}, as for {other:X}"));
         }
     }
     None
+}
+
+/// Of these codepoints the first that rule 8 asks the quick-check set to hold,
+/// and that it does not hold: what it is.
+pub fn missing_in_quick_check(index: &Index, asked: impl IntoIterator<Item = u32>) -> Option<String> {
+    let set = Ranges::new(index.table().quick_check.iter());
+    if set.pairs().is_empty() {
+        return None;
+    }
+    let of_table = composition_pairs(index).map(|(_, _, b)| b);
+    let second_items: HashSet<u32> = of_table.chain(0x1161..=0x1175).chain(0x11A8..=0x11C2).collect();
+    asked.into_iter().filter(|&c| !set.holds(c)).find_map(|c| {
+        if nfc(index, &[c]) != [c] {
+            return Some(format!("quick-check: {c:X} is missing, and isn't its own NFC"));
+        }
+        let first = nfd(index, &[c])[0];
+        second_items.contains(&first).then(|| format!("quick-check: {c:X} is missing, and starts with {first:X}"))
+    })
+}
+
+/// Rule 8: If the quick-check set isn't empty, it holds every codepoint that
+/// isn't its own NFC and every one whose full decomposition starts with the
+/// second item of a composition pair, Hangul included.
+fn quick_check_complete(index: &Index) -> Option<String> {
+    // What no record names, and isn't Hangul, is its own full decomposition and
+    // no second item; a syllable none of whose jamo a record names is made of
+    // them by arithmetic alone.
+    let records = &index.table().decompositions;
+    let mut named: Vec<u32> = records.iter().flat_map(|r| r.items.iter().copied().chain([r.head])).collect();
+    named.sort_unstable();
+    named.dedup();
+    let syllables = if named.iter().any(|&c| is_jamo(c)) { 0xAC00..0xD7A4 } else { 0..0 };
+    let jamo = HANGUL[..3].iter().flat_map(|&(first, last)| first..=last);
+    missing_in_quick_check(index, named.into_iter().chain(jamo).chain(syllables))
 }

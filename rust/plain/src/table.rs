@@ -1,4 +1,4 @@
-//! 01, "The table", and 02, Item 9: thirteen sections of words.
+//! 01, "The table", and 02, Items 9 and 11: fourteen sections of words.
 
 use crate::limits;
 
@@ -87,6 +87,8 @@ pub struct Table<'a> {
     pub wholes: Vec<Whole<'a>>,
     /// Should-escape: what is shown in braces.
     pub escape: Pairs<'a>,
+    /// The quick-check set.
+    pub quick_check: Pairs<'a>,
 }
 
 /// Where the layout breaks, and how: for people, not for the calls.
@@ -245,6 +247,7 @@ pub fn layout(words: &[u32]) -> Result<Table<'_>, LayoutFault> {
         groups: all.section("groups")?.groups()?,
         wholes: all.section("wholes")?.wholes()?,
         escape: all.section("should-escape")?.all_pairs()?,
+        quick_check: all.section("quick-check")?.all_pairs()?,
     };
     if !all.done() {
         return Err(all.fault("words are left over"));
@@ -274,6 +277,7 @@ impl Table<'_> {
             groups: self.groups.iter().map(|g| (g.flags, g.pairs.iter().collect())).collect(),
             wholes: self.wholes.iter().map(|w| (w.valid.to_vec(), w.confused.to_vec())).collect(),
             escape: self.escape.iter().collect(),
+            quick_check: self.quick_check.iter().collect(),
         }
     }
     pub fn to_words(&self) -> Vec<u32> {
@@ -304,11 +308,12 @@ pub struct TableBuilder {
     pub wholes: Vec<(Vec<u32>, Vec<u32>)>,
     /// Should-escape.
     pub escape: Vec<(u32, u32)>,
+    pub quick_check: Vec<(u32, u32)>,
 }
 
 impl TableBuilder {
     /// The words of each section, without the count that leads it.
-    pub fn sections(&self) -> [Vec<u32>; 13] {
+    pub fn sections(&self) -> [Vec<u32>; 14] {
         fn pairs(pairs: &[(u32, u32)]) -> Vec<u32> {
             pairs.iter().flat_map(|&(first, last)| [first, last]).collect()
         }
@@ -349,6 +354,7 @@ impl TableBuilder {
             groups,
             wholes,
             pairs(&self.escape),
+            pairs(&self.quick_check),
         ]
     }
 

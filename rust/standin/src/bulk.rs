@@ -136,6 +136,14 @@ pub struct Vocabulary {
     made: BTreeMap<u32, Vec<u32>>,
 }
 
+/// One of these; where a cut has none, a letter.
+fn one_of(rng: &mut Rng, of: &[u32]) -> u32 {
+    if of.is_empty() {
+        return 0x61;
+    }
+    *rng.pick(of)
+}
+
 impl Vocabulary {
     pub fn new(made: &Made) -> Vocabulary {
         let spec = &made.spec;
@@ -161,6 +169,9 @@ impl Vocabulary {
     }
 
     fn emoji(&self, rng: &mut Rng, out: &mut Vec<u32>) {
+        if self.emoji.is_empty() {
+            return;
+        }
         // FE0F is optional; now and then one too many.
         for &c in rng.pick(&self.emoji) {
             if c != plain::FE0F || rng.percent(60) {
@@ -204,11 +215,11 @@ impl Vocabulary {
                     _ => out.push(rng.code(0x61, 0x7A)),
                 },
                 // Confused characters.
-                18..=23 => out.push(*rng.pick(&self.confused)),
+                18..=23 => out.push(one_of(rng, &self.confused)),
                 // Anything at all.
                 24..=25 => out.push(match roll {
                     0..=499 => rng.code(0, 0x10FFFF),
-                    500..=799 => *rng.pick(&self.mapped),
+                    500..=799 => one_of(rng, &self.mapped),
                     _ => {
                         let any = rng.below(self.groups.len());
                         *rng.pick(&self.groups[any])
@@ -217,8 +228,8 @@ impl Vocabulary {
                 // One group, with what may come into it.
                 _ => match roll {
                     0..=14 => self.emoji(rng, out),
-                    15..=24 => out.push(*rng.pick(&self.ignored)),
-                    25..=34 => out.push(*rng.pick(&self.marks)),
+                    15..=24 => out.push(one_of(rng, &self.ignored)),
+                    25..=34 => out.push(one_of(rng, &self.marks)),
                     35..=39 => out.push(*rng.pick(&[0x2019, 0x30FB, 0x2044, 0x27])),
                     40..=42 => out.push(0x5F),
                     43..=49 => {

@@ -12,6 +12,8 @@ pub mod bulk;
 pub mod cases;
 pub mod desk;
 pub mod forms;
+pub mod looks;
+pub mod paths;
 pub mod prepared;
 pub mod screens;
 pub mod shards;

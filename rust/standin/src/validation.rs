@@ -51,6 +51,13 @@ pub fn run(desk: &mut Desk, text: &str) -> Result<Outcome, String> {
     Ok(out)
 }
 
+/// The names of this file's tests.
+pub fn names(text: &str) -> Result<Vec<Vec<u32>>, String> {
+    let tests = json::read(text)?;
+    let rows = tests.list().ok_or("no list of tests")?;
+    Ok(rows.iter().filter_map(|test| Some(codepoints(test.get("name")?.text()?))).collect())
+}
+
 /// Runs the published file on the full-size table, where data/published has
 /// it; panics where a test fails.
 pub fn run_published(engine: &dyn Engine, table: &[u32]) {

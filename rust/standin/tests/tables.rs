@@ -15,13 +15,31 @@ fn check(made: &Made, file: &str, most: usize) -> plain::TableBuilder {
 
     assert_eq!(plain::soundness_report(&made.words), None, "data/{file}");
     assert_eq!(plain::soundness(&made.words), plain::Soundness::Sound, "data/{file}");
-    plain::parse(&made.words).expect("layout").to_builder()
+    let table = plain::parse(&made.words).expect("layout").to_builder();
+    sorted(&table);
+    table
+}
+
+/// Every section in which a search by halves is made is sorted without overlap,
+/// and the quick-check set isn't empty.
+fn sorted(t: &plain::TableBuilder) {
+    let groups = t.groups.iter().map(|(_, pairs)| pairs);
+    let lists = [&t.valid, &t.ignored, &t.fenced, &t.marks, &t.nsm, &t.escape, &t.quick_check];
+    for pairs in lists.into_iter().chain(groups) {
+        assert!(pairs.windows(2).all(|w| w[0].1 < w[1].0));
+    }
+    assert!(t.classes.windows(2).all(|w| w[0].1 < w[1].0));
+    assert!(t.exclusions.windows(2).all(|w| w[0] < w[1]));
+    assert!(t.mapped.windows(2).all(|w| w[0].0 < w[1].0));
+    assert!(t.decompositions.windows(2).all(|w| w[0].0 < w[1].0));
+    assert!(t.emoji.windows(2).all(|w| w[0] < w[1]) && t.emoji.iter().all(|s| s[0] != plain::FE0F));
+    assert!(!t.quick_check.is_empty());
 }
 
 #[test]
 fn full_tab() {
     let made = full();
-    let table = check(&made, "full.tab", 4 * 131_073 + 5);
+    let table = check(&made, "full.tab", 4 * 131_074 + 5);
     println!("full.tab: {} words", made.words.len());
     assert_eq!(table.groups.len(), made.spec.groups.len());
     assert_eq!(table.emoji.len(), made.spec.emoji.len());
@@ -30,6 +48,8 @@ fn full_tab() {
     let escaped: u32 = table.escape.iter().map(|(first, last)| last - first + 1).sum();
     assert_eq!(escaped as usize, made.spec.escape.len());
     assert!(escaped > 200);
+    let checked: u32 = table.quick_check.iter().map(|(first, last)| last - first + 1).sum();
+    assert_eq!(checked as usize, made.nf.qc.len());
     // Every class is under another one's: ranks ascend.
     assert_eq!(table.classes.iter().map(|t| t.2).max(), Some(made.nf.ranks.len() as u32));
 }

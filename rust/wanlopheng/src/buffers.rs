@@ -29,7 +29,7 @@ impl Buffers {
     /// ```
     /// use wanlopheng::{Buffers, Table};
     /// # let file = std::fs::read("../../data/names.tab")?;
-    /// # let mut words = vec![0; file.len() / 4];
+    /// # let mut words = vec![0; file.len() / 4 + 1];
     /// # let table = Table::unpack(&file, &mut words)?;
     /// let mut buffers = Buffers::new();
     /// let form = buffers.name(table, "Nick.ETH")?;

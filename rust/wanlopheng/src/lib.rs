@@ -6,7 +6,7 @@
 //!
 //! // A table file of the repository; its words need room that outlives the table.
 //! let file = std::fs::read("../../data/names.tab")?;
-//! let mut words = vec![0; file.len() / 4];
+//! let mut words = vec![0; file.len() / 4 + 1];
 //! let table = Table::unpack(&file, &mut words)?;
 //! assert!(table.is_sound()); // once, when a table is loaded
 //!
@@ -59,7 +59,7 @@ pub mod limits {
     /// Words that a work area needs.
     pub const WORK_WORDS: usize = 8_192;
     /// Words of the largest table.
-    pub const TABLE_WORDS: usize = 131_073;
+    pub const TABLE_WORDS: usize = 131_074;
     /// Words of a list that holds an entry for every slot of a payee book.
     pub const MOVED_WORDS: usize = 128;
     /// Words of a list that holds every group.

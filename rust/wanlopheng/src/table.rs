@@ -14,7 +14,8 @@ impl<'w> Table<'w> {
     }
 
     /// The table of a file, unpacked into `room`, which needs a word for each
-    /// four bytes of the file. Refusals: 20, 21, 22.
+    /// four bytes of the file, and one more where the file is of version 1.
+    /// Refusals: 20, 21, 22.
     pub fn unpack(file: &[u8], room: &'w mut [u32]) -> Result<Table<'w>, Refusal> {
         let count = engine::unpack(file, room).answer()?;
         Ok(Table(&room[..count]))

@@ -7,7 +7,7 @@ use std::process::{Command, Output};
 const MAIN: &str = r#"
 fn main() -> Result<(), Box<dyn std::error::Error>> {
     let file = std::fs::read(std::env::args().nth(1).ok_or("a table file")?)?;
-    let mut words = vec![0; file.len() / 4];
+    let mut words = vec![0; file.len() / 4 + 1];
     let table = wanlopheng::Table::unpack(&file, &mut words)?;
     println!("{}", table.normalise("Nick.ETH")?);
     Err(table.normalise("nick..eth").unwrap_err().into())

@@ -27,7 +27,9 @@ part-own-number-end c =
     omega arith
 
 own-number-requires : tie.Need-own-number-requires
-own-number-requires c κs = (laid-part _ _ (c .before .before .before .before .pre .0), c .before .before .before .before .pre .1 .1)
+own-number-requires c κs =
+    let p = c .before .before .before .before .pre in
+    ((laid-part _ _ (p .0), p .0 .known .groups), p .1 .1)
 
 keep-apart-requires : tie.Need-keep-apart-requires
 keep-apart-requires c κs = search needs

@@ -1,5 +1,4 @@
 -- `groups::group` meets its contract: 1, then 3, then the search. Assumes nothing.
-use mathlib.Core.Path.{sym, _∙_}
 use denote.Ref.{now}
 use borrow.Author.Needs.{needs}
 use Rattle.sections.specs.Laid.{Laid}
@@ -9,7 +8,7 @@ use Rattle.groups.proofs.group.Tie as tie
 
 -- the sections are found, once the match has said so
 laid : (c : tie.After-known-told) → Laid (now (c .before .before .before .before .before .before .args .words)) (c .before .found .given .0 .0)
-laid c = record { found = sym (c .before .before .before .layout .ensures) ∙ c .before .found .given .1 }
+laid c = c .before .before .before .layout .ensures .found _ (c .before .found .given .1)
 
 layout-requires : tie.Need-layout-requires
 layout-requires c κs = search needs
@@ -27,7 +26,7 @@ group-of-requires : tie.Need-group-of-requires
 group-of-requires c κs = (laid (c .before), c .if1 .left)
 
 returns-2 : tie.Need-returns-2
-returns-2 c = call-fault _ _ (sym (c .before .before .layout .ensures) ∙ c .enum-told .given .1)
+returns-2 c = call-fault _ _ (c .before .before .layout .ensures .fault (c .enum-told .given .1))
 
 returns-3 : tie.Need-returns-3
 returns-3 c = call-searched _ _ _ (laid (c .before .before)) (c .before .if1 .left) _ (c .group-of .ensures)

@@ -28,7 +28,7 @@ part-group-in-end c =
 group-in-requires : tie.Need-group-in-requires
 group-in-requires c κs =
     let p = c .before .before .before .before .pre in
-    (laid-part _ _ (p .0), p .1)
+    ((laid-part _ _ (p .0), p .0 .known .groups), p .1)
 
 returns : tie.Need-returns
 returns c = rw (← laid-same _ _ (c .before .before .before .before .before .pre .0)) (c .group-in .ensures)

@@ -3,19 +3,29 @@ use Prim.Native.Nat.{_+_, _-_}
 use native.Mathlib.Omega.{arith}
 use mathlib.Core.Path.{_≡_}
 use lib.ListN.{getD}
-use Rattle.layout.proofs.WalkLaws.{group-short, group-over, group-broken, group-there}
+use Rattle.layout.proofs.WalkLaws.{group-short, group-over}
+use Rattle.layout.specs.Walk.{groupPairs}
+use Rattle.layout.specs.Seeing.{SeesPairs}
+use Rattle.layout.proofs.SeeingLaws.{sees-order, no-group, some-group, broken-group}
 use borrow.Author.Needs.{needs}
 use Rattle.layout.proofs.group_size.Statement.{statement}
 use Rattle.layout.proofs.group_size.Tie as tie
 
+-- the pairs of the group, once they are walked
+seen : (c : tie.After-told) → SeesPairs (groupPairs (c .before .before .before .before .before .before .before .before .before .args .rest .now)) (c .told .result)
+seen c =
+    let ws = c .before .before .before .before .before .before .before .before .before .args .rest .now in
+    let n : getD ws 1 0 + 2 - 2 ≡ getD ws 1 0 = omega arith in
+    rw n at (sees-order _ _ (c .before .pairs-order .result) _ (c .before .pairs-order .ensures) (c .told .ensures))
+
 returns : tie.Need-returns
-returns c = group-short _ (omega arith)
+returns c = no-group _ (group-short _ (omega arith))
 
 shared-slice-read-if2 : tie.Need-shared-slice-read-if2
 shared-slice-read-if2 c = search needs
 
 returns-2 : tie.Need-returns-2
-returns-2 c = group-over _ (omega arith)
+returns-2 c = no-group _ (group-over _ (omega arith))
 
 shared-slice-read-n : tie.Need-shared-slice-read-n
 shared-slice-read-n c = search needs
@@ -27,34 +37,31 @@ sub-if3 : tie.Need-sub-if3
 sub-if3 c = search needs
 
 returns-3 : tie.Need-returns-3
-returns-3 c = group-short _ (omega arith)
+returns-3 c = no-group _ (group-short _ (omega arith))
 
 add-to : tie.Need-add-to
 add-to c = search needs
 
-sub-records-fit : tie.Need-sub-records-fit
-sub-records-fit c = search needs
+sub-pairs-order : tie.Need-sub-pairs-order
+sub-pairs-order c = search needs
 
-part-records-fit-start : tie.Need-part-records-fit-start
-part-records-fit-start c = search needs
+part-pairs-order-start : tie.Need-part-pairs-order-start
+part-pairs-order-start c = search needs
 
-part-records-fit-end : tie.Need-part-records-fit-end
-part-records-fit-end c = search needs
+part-pairs-order-end : tie.Need-part-pairs-order-end
+part-pairs-order-end c = search needs
 
-records-fit-requires : tie.Need-records-fit-requires
-records-fit-requires c κs = search needs
+pairs-order-requires : tie.Need-pairs-order-requires
+pairs-order-requires c κs = search needs
+
+told-requires : tie.Need-told-requires
+told-requires c κs = search needs
 
 returns-4 : tie.Need-returns-4
-returns-4 c =
-    let ws = c .before .before .before .before .before .before .before .before .before .args .rest .now in
-    let n : getD ws 1 0 + 2 - 2 ≡ getD ws 1 0 = omega arith in
-    group-there ws (omega arith) (omega arith) rw (c .if4 .taken, n) at (c .before .records-fit .ensures)
+returns-4 c = some-group _ _ (seen (c .before)) (omega arith) (omega arith) (c .if4 .taken)
 
 returns-5 : tie.Need-returns-5
-returns-5 c =
-    let ws = c .before .before .before .before .before .before .before .before .before .args .rest .now in
-    let n : getD ws 1 0 + 2 - 2 ≡ getD ws 1 0 = omega arith in
-    group-broken ws rw (c .if4 .left, n) at (c .before .records-fit .ensures)
+returns-5 c = broken-group _ _ (seen (c .before)) (c .if4 .left)
 
 pub group-size-spec : {M : Type 1} → statement M
 group-size-spec =
@@ -68,9 +75,10 @@ group-size-spec =
     sub-if3
     returns-3
     add-to
-    sub-records-fit
-    part-records-fit-start
-    part-records-fit-end
-    records-fit-requires
+    sub-pairs-order
+    part-pairs-order-start
+    part-pairs-order-end
+    pairs-order-requires
+    told-requires
     returns-4
     returns-5)

@@ -43,9 +43,20 @@ span-at-requires-12 c κs = search needs
 span-at-requires-13 : tie.Need-span-at-requires-13
 span-at-requires-13 c κs = search needs
 
+span-at-requires-14 : tie.Need-span-at-requires-14
+span-at-requires-14 c κs = search needs
+
+none-sorted-requires : tie.Need-none-sorted-requires
+none-sorted-requires c κs = search needs
+
+no-starts-requires : tie.Need-no-starts-requires
+no-starts-requires c κs = search needs
+
 returns : tie.Need-returns
 returns c =
-    let c12 = c .before in
+    let c14 = c .before .before in
+    let c13 = c14 .before in
+    let c12 = c13 .before in
     let c11 = c12 .before in
     let c10 = c11 .before in
     let c9 = c10 .before in
@@ -57,7 +68,7 @@ returns c =
     let c3 = c4 .before in
     let c2 = c3 .before in
     let c1 = c2 .before in
-    sections-chain _ _ _ _ _ _ _ _ _ _ _ _ _ _ (c1 .span-at .ensures) (c2 .span-at2 .ensures) (c3 .span-at3 .ensures) (c4 .span-at4 .ensures) (c5 .span-at5 .ensures) (c6 .span-at6 .ensures) (c7 .span-at7 .ensures) (c8 .span-at8 .ensures) (c9 .span-at9 .ensures) (c10 .span-at10 .ensures) (c11 .span-at11 .ensures) (c12 .span-at12 .ensures) (c .span-at13 .ensures)
+    sections-chain _ _ _ _ _ _ _ _ _ _ _ _ _ _ _ (c1 .span-at .ensures) (c2 .span-at2 .ensures) (c3 .span-at3 .ensures) (c4 .span-at4 .ensures) (c5 .span-at5 .ensures) (c6 .span-at6 .ensures) (c7 .span-at7 .ensures) (c8 .span-at8 .ensures) (c9 .span-at9 .ensures) (c10 .span-at10 .ensures) (c11 .span-at11 .ensures) (c12 .span-at12 .ensures) (c13 .span-at13 .ensures) (c14 .span-at14 .ensures) _ _ (c .before .none-sorted .ensures) (c .no-starts .ensures)
 
 pub places-spec : {M : Type 1} → statement M
 places-spec =
@@ -76,4 +87,7 @@ places-spec =
     span-at-requires-11
     span-at-requires-12
     span-at-requires-13
+    span-at-requires-14
+    none-sorted-requires
+    no-starts-requires
     returns)

@@ -1,5 +1,4 @@
 -- `layout_fault`: each arm tells what the layout pass answered. Assumes nothing.
-use mathlib.Core.Path.{sym, _∙_}
 use Rattle.layout_fault.proofs.Told.{fault-told, found-told}
 use borrow.Author.Needs.{needs}
 use Rattle.layout_fault.proofs.layout_fault.Statement.{statement}
@@ -15,10 +14,10 @@ enum-told-2 : tie.Need-enum-told-2
 enum-told-2 c = search needs
 
 returns : tie.Need-returns
-returns c = fault-told _ (sym (c .before .before .layout .ensures) ∙ c .enum-told .given .1)
+returns c = fault-told _ (c .before .before .layout .ensures .fault (c .enum-told .given .1))
 
 returns-2 : tie.Need-returns-2
-returns-2 c = found-told _ _ (sym (c .before .before .layout .ensures) ∙ c .enum-told2 .given .1)
+returns-2 c = found-told _ _ (c .before .before .layout .ensures .found _ (c .enum-told2 .given .1))
 
 pub layout-fault-spec : {M : Type 1} → statement M
 layout-fault-spec =

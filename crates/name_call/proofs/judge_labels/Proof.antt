@@ -1,12 +1,11 @@
 -- `judge_labels`: after each turn the labels so far have passed, and their answers stand in front. Assumes nothing.
 use Prim.Native.Nat.{_+_, _-_}
 use native.Mathlib.Omega.{arith}
-use mathlib.Core.Path.{sym, _∙_}
+use mathlib.Core.Path.{refl, sym, _∙_}
 use mathlib.Core.Logic.{⊎-elim}
 use lib.ListN.{length}
 use Rattle.table.specs.Layout.{theTable}
 use Rattle.unpaired.specs.Unpaired.{Unpaired}
-use Rattle.unpaired.proofs.Noting.{unpaired-none}
 use Rattle.memo.specs.Memo.{Memo}
 use Rattle.name.proofs.Parting.{label-length}
 use Rattle.one_label.proofs.Said.{judged-room, judged-count, judged-short, judged-worked}
@@ -23,9 +22,21 @@ abbrev μ-loop : tie.MeasureT-loop
 μ-loop words ix setting name answer₀ w₀ memo₀ unpaired₀ at₀ done₀ place₀ len₀ answer w memo unpaired at done place len =
     length name + 1 - at
 
+slice-aggregate-index-pairs : tie.Need-slice-aggregate-index-pairs Inv-loop μ-loop
+slice-aggregate-index-pairs c = search needs
+
+index-pairs-requires : tie.Need-index-pairs-requires Inv-loop μ-loop
+index-pairs-requires c κs = (c .before .before .before .before .before .before .pre .0, refl)
+
+slice-aggregate-ask : tie.Need-slice-aggregate-ask Inv-loop μ-loop
+slice-aggregate-ask c = sym (c .before .before .index-pairs .ensures .size)
+
+ask-requires : tie.Need-ask-requires Inv-loop μ-loop
+ask-requires c κs = (c .before .before .before .before .before .before .before .before .before .pre .0, c .before .before .index-pairs .ensures)
+
 loop-holds : tie.Need-loop-holds Inv-loop μ-loop
 loop-holds c =
-    (⊎-elim (λ w. rw (w .1) (pass-empty _ _ _ _ _ (w .0 .taken))) (λ w. rw (w .1) (pass-start _ _ _ _ _ (omega arith))) (c .if1 .came), (unpaired-none _, c .before .before .before .before .before .before .pre .1 .1))
+    (⊎-elim (λ w. rw (w .1) (pass-empty _ _ _ _ _ (w .0 .taken))) (λ w. rw (w .1) (pass-start _ _ _ _ _ (omega arith))) (c .if1 .came), (c .before .before .ask .ensures .0, c .before .before .before .before .before .before .before .before .before .before .before .before .pre .1 .1))
 
 label-end-requires : tie.Need-label-end-requires Inv-loop μ-loop
 label-end-requires c κs = search needs
@@ -47,7 +58,7 @@ slice-aggregate-judge-label c = sym (c .before .before .before .before .before .
 
 judge-label-requires : tie.Need-judge-label-requires Inv-loop μ-loop
 judge-label-requires c κs =
-    let p = c .before .before .before .before .before .before .before .before .before .before .before .before .before .before .pre in
+    let p = c .before .before .before .before .before .before .before .before .before .before .before .before .before .before .before .before .before .before .before .before .pre in
     let i = c .before .before .before .before .before .before .before .loop .inv in
     let e = c .before .before .before .before .before .label-end .ensures in
     let size = label-length _ _ _ e in
@@ -66,7 +77,7 @@ same-length-2 : tie.Need-same-length-2 Inv-loop μ-loop
 same-length-2 c = c .before .before .before .before .before .before .before .before .before .before .judge-label .ensures .0 .same ∙ c .before .before .before .before .before .before .before .before .before .before .before .before .before .before .before .before .before .before .loop .inv .0 .same-work
 
 same-length-3 : tie.Need-same-length-3 Inv-loop μ-loop
-same-length-3 c = c .before .before .before .before .before .before .before .before .before .before .judge-label .ensures .1 .1 .size ∙ sym (c .before .before .before .before .before .before .before .before .before .before .before .before .before .before .before .before .before .before .before .before .before .before .before .before .before .pre .1 .1 .size)
+same-length-3 c = c .before .before .before .before .before .before .before .before .before .before .judge-label .ensures .1 .1 .size ∙ sym (c .before .before .before .before .before .before .before .before .before .before .before .before .before .before .before .before .before .before .before .before .before .before .before .before .before .before .before .before .before .before .before .pre .1 .1 .size)
 
 returns : tie.Need-returns Inv-loop μ-loop
 returns c =
@@ -75,7 +86,7 @@ returns c =
 
 slice-reshare-prefix-put-label : tie.Need-slice-reshare-prefix-put-label Inv-loop μ-loop
 slice-reshare-prefix-put-label c =
-    judged-room _ _ _ _ _ _ _ _ (c .before .before .before .before .before .before .before .before .before .before .before .judge-label .ensures .0) _ _ _ (c .before .before .before .before .judged .given .1) (omega (arith, c .before .before .before .before .before .before .before .before .before .before .before .before .before .before .before .before .before .before .before .loop .inv .0 .same-work, c .before .before .before .before .before .before .before .before .before .before .before .before .before .before .before .before .before .before .before .before .before .before .before .before .before .before .pre .1 .0 .0))
+    judged-room _ _ _ _ _ _ _ _ (c .before .before .before .before .before .before .before .before .before .before .before .judge-label .ensures .0) _ _ _ (c .before .before .before .before .judged .given .1) (omega (arith, c .before .before .before .before .before .before .before .before .before .before .before .before .before .before .before .before .before .before .before .loop .inv .0 .same-work, c .before .before .before .before .before .before .before .before .before .before .before .before .before .before .before .before .before .before .before .before .before .before .before .before .before .before .before .before .before .before .before .before .pre .1 .0 .0))
 
 slice-aggregate-put-label : tie.Need-slice-aggregate-put-label Inv-loop μ-loop
 slice-aggregate-put-label c = judged-count _ _ _ _ _ _ _ _ (c .before .before .before .before .before .before .before .before .before .before .before .before .judge-label .ensures .0) _ _ _ (c .before .before .before .before .before .judged .given .1)
@@ -83,7 +94,7 @@ slice-aggregate-put-label c = judged-count _ _ _ _ _ _ _ _ (c .before .before .b
 put-label-requires : tie.Need-put-label-requires Inv-loop μ-loop
 put-label-requires c κs =
     let i = c .before .before .before .before .before .before .before .before .before .before .before .before .before .before .before .before .before .before .before .before .loop .inv .0 in (
-      omega (arith, i .small, i .few, i .inside, c .before .before .before .before .before .before .before .before .before .before .before .before .before .before .before .before .before .before .before .before .before .before .before .before .before .before .before .pre .1 .0 .1),
+      omega (arith, i .small, i .few, i .inside, c .before .before .before .before .before .before .before .before .before .before .before .before .before .before .before .before .before .before .before .before .before .before .before .before .before .before .before .before .before .before .before .before .before .pre .1 .0 .1),
       judged-short _ _ _ _ _ _ _ _ (c .before .before .before .before .before .before .before .before .before .before .before .before .judge-label .ensures .0) _ _ _ (c .before .before .before .before .before .judged .given .1),
     )
 
@@ -96,10 +107,10 @@ add-done-2 c = omega (arith, judged-worked _ _ _ _ _ _ _ _ (c .before .before .b
 add-place : tie.Need-add-place Inv-loop μ-loop
 add-place c =
     let i = c .before .before .before .before .before .before .before .before .before .before .before .before .before .before .before .before .before .before .before .before .before .before .before .loop .inv .0 in
-    omega (arith, i .few, i .inside, c .before .before .before .before .before .before .before .before .before .before .before .before .before .before .before .before .before .before .before .before .before .before .before .before .before .before .before .before .before .before .pre .1 .0 .1)
+    omega (arith, i .few, i .inside, c .before .before .before .before .before .before .before .before .before .before .before .before .before .before .before .before .before .before .before .before .before .before .before .before .before .before .before .before .before .before .before .before .before .before .before .before .pre .1 .0 .1)
 
 add-at : tie.Need-add-at Inv-loop μ-loop
-add-at c = omega (arith, c .before .before .before .before .before .before .before .before .before .before .before .before .before .before .before .before .before .before .before .before .before .label-end .ensures .to, c .before .before .before .before .before .before .before .before .before .before .before .before .before .before .before .before .before .before .before .before .before .before .before .before .before .before .before .before .before .before .pre .1 .0 .1)
+add-at c = omega (arith, c .before .before .before .before .before .before .before .before .before .before .before .before .before .before .before .before .before .before .before .before .before .label-end .ensures .to, c .before .before .before .before .before .before .before .before .before .before .before .before .before .before .before .before .before .before .before .before .before .before .before .before .before .before .before .before .before .before .before .before .before .before .before .before .pre .1 .0 .1)
 
 loop-less : tie.Need-loop-less Inv-loop μ-loop
 loop-less c = omega (arith, c .before .before .before .before .before .before .before .before .before .before .before .before .before .before .before .before .before .before .before .before .before .label-end .ensures .from)
@@ -121,7 +132,7 @@ same-length-5 : tie.Need-same-length-5 Inv-loop μ-loop
 same-length-5 c = c .before .before .before .before .before .before .before .before .judge-label .ensures .0 .same ∙ c .before .before .before .before .before .before .before .before .before .before .before .before .before .before .before .before .loop .inv .0 .same-work
 
 same-length-6 : tie.Need-same-length-6 Inv-loop μ-loop
-same-length-6 c = c .before .before .before .before .before .before .before .before .judge-label .ensures .1 .1 .size ∙ sym (c .before .before .before .before .before .before .before .before .before .before .before .before .before .before .before .before .before .before .before .before .before .before .before .pre .1 .1 .size)
+same-length-6 c = c .before .before .before .before .before .before .before .before .judge-label .ensures .1 .1 .size ∙ sym (c .before .before .before .before .before .before .before .before .before .before .before .before .before .before .before .before .before .before .before .before .before .before .before .before .before .before .before .before .before .pre .1 .1 .size)
 
 returns-2 : tie.Need-returns-2 Inv-loop μ-loop
 returns-2 c =
@@ -134,7 +145,7 @@ same-length-8 : tie.Need-same-length-8 Inv-loop μ-loop
 same-length-8 c = c .before .loop .inv .0 .same-work
 
 same-length-9 : tie.Need-same-length-9 Inv-loop μ-loop
-same-length-9 c = c .before .loop .inv .1 .1 .size ∙ sym (c .before .before .before .before .before .before .before .before .pre .1 .1 .size)
+same-length-9 c = c .before .loop .inv .1 .1 .size ∙ sym (c .before .before .before .before .before .before .before .before .before .before .before .before .before .before .pre .1 .1 .size)
 
 returns-3 : tie.Need-returns-3 Inv-loop μ-loop
 returns-3 c = pass-done _ _ _ _ _ _ _ _ _ _ _ (c .before .loop .inv .0) (c .loop-test .left)
@@ -145,6 +156,10 @@ judge-labels-spec =
     (tie.spec
     Inv-loop
     μ-loop
+    slice-aggregate-index-pairs
+    index-pairs-requires
+    slice-aggregate-ask
+    ask-requires
     loop-holds
     label-end-requires
     mul-judge-label

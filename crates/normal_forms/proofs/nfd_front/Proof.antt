@@ -1,8 +1,6 @@
 -- `nfd_front`: a layout fault, or what `decomposed` answers. Assumes nothing.
 use native.Mathlib.Omega.{arith}
 use borrow.Author.Needs.{needs}
-use mathlib.Core.Path.{sym, _∙_}
-use Rattle.sections.proofs.SectionLaws.{found-laid}
 use Rattle.normal_forms.proofs.Answer.{fault-stands, nfd-stands}
 use Rattle.normal_forms.proofs.nfd_front.Statement.{statement}
 use Rattle.normal_forms.proofs.nfd_front.Tie as tie
@@ -17,10 +15,10 @@ enum-known-found : tie.Need-enum-known-found
 enum-known-found c = search needs
 
 decomposed-requires : tie.Need-decomposed-requires
-decomposed-requires c κs = found-laid _ _ (sym (c .before .before .before .before .before .layout .ensures) ∙ c .before .before .before .found .given .1)
+decomposed-requires c κs = c .before .before .before .before .before .layout .ensures .found _ (c .before .before .before .found .given .1)
 
 returns : tie.Need-returns
-returns c = fault-stands _ _ _ _ _ (sym (c .before .before .layout .ensures) ∙ c .enum-told .given .1)
+returns c = fault-stands _ _ _ _ _ (c .before .before .layout .ensures .fault (c .enum-told .given .1))
 
 same-length : tie.Need-same-length
 same-length c = search needs
@@ -32,7 +30,7 @@ returns-2 : tie.Need-returns-2
 returns-2 c =
     let d = c .before .before .before .before in
     let l = d .before .before .before .before in
-    nfd-stands _ _ _ _ _ _ _ (sym (l .before .before .layout .ensures) ∙ l .found .given .1) _ (omega arith) (d .decomposed .ensures)
+    nfd-stands _ _ _ _ _ _ _ (l .before .before .layout .ensures .found _ (l .found .given .1)) _ (omega arith) (d .decomposed .ensures)
 
 pub nfd-front-spec : {M : Type 1} → statement M
 nfd-front-spec =

@@ -16,12 +16,12 @@ here c = ⊎-elim (λ w. inr (not-false _ (w .2 .left))) (λ w. inl (not-false _
 returns : tie.Need-returns
 returns c =
     let p = c .before .before .before .before .before .before .before .before .pre in
-    (tokens-none _ _ _ _ _ (not-true _ (c .before .before .if1 .taken)) (not-true _ (c .if2 .taken)), (p .1 .0, p .1 .1 .1))
+    (tokens-none _ _ _ _ _ _ (not-true _ (c .before .before .if1 .taken)) (not-true _ (c .if2 .taken)), (p .1 .0, p .1 .1 .1))
 
 returns-2 : tie.Need-returns-2
 returns-2 c =
     let p = c .before .before .before .before .before .before .before .before .pre in
-    (tokens-over _ _ _ _ _ (here (c .before .before)) (c .if3 .taken), (p .1 .0, p .1 .1 .1))
+    (tokens-over _ _ _ _ _ _ (here (c .before .before)) (c .if3 .taken), (p .1 .0, p .1 .1 .1))
 
 add-if4 : tie.Need-add-if4
 add-if4 c = search needs
@@ -29,14 +29,14 @@ add-if4 c = search needs
 returns-3 : tie.Need-returns-3
 returns-3 c =
     let p = c .before .before .before .before .before .before .before .before .before .before .pre in
-    (tokens-long _ _ _ _ _ (here (c .before .before .before .before)) (c .before .before .if3 .left) (c .if4 .taken), (p .1 .0, p .1 .1 .1))
+    (tokens-long _ _ _ _ _ _ (here (c .before .before .before .before)) (c .before .before .if3 .left) (c .if4 .taken), (p .1 .0, p .1 .1 .1))
 
-normalise-requires : tie.Need-normalise-requires
-normalise-requires c κs = search needs
+normalised-requires : tie.Need-normalised-requires
+normalised-requires c κs = search needs
 
 judge-requires : tie.Need-judge-requires
 judge-requires c κs =
-    let m = c .before .before .before .before .before .before .normalise .ensures .0 in
+    let m = c .before .before .before .before .before .before .normalised .ensures .0 in
     let p = c .before .before .before .before .before .before .before .before .before .before .before .before .before .before .before .before .before .before .before .pre in
     (p .0, (omega (arith, m .same, p .1 .1 .0), (omega (arith, m .few), p .1 .1 .1)))
 
@@ -57,9 +57,9 @@ same-length-3 c = search needs
 
 returns-4 : tie.Need-returns-4
 returns-4 c =
-    let n = c .before .before .before .before .before .before .before .before .before .before .before .before .before .before .normalise .ensures in
+    let n = c .before .before .before .before .before .before .before .before .before .before .before .before .before .before .normalised .ensures in
     let j = c .before .before .before .before .before .before .before .judge .ensures in
-    (tokens-accepted _ _ _ _ _ (here (c .before .before .before .before .before .before .before .before .before .before .before .before .before .before .before .before .before .before .before .before .before)) (c .before .before .before .before .before .before .before .before .before .before .before .before .before .before .before .before .before .if4 .left) _ _ _ (n .0) _ (j .0) _ (c .before .judged .given .1), (n .1, j .1))
+    (tokens-accepted _ _ _ _ _ _ (here (c .before .before .before .before .before .before .before .before .before .before .before .before .before .before .before .before .before .before .before .before .before)) (c .before .before .before .before .before .before .before .before .before .before .before .before .before .before .before .before .before .if4 .left) _ _ _ (n .0) _ (j .0) _ (c .before .judged .given .1), (n .1, j .1))
 
 same-length-4 : tie.Need-same-length-4
 same-length-4 c = search needs
@@ -72,9 +72,9 @@ same-length-6 c = search needs
 
 returns-5 : tie.Need-returns-5
 returns-5 c =
-    let n = c .before .before .before .before .before .before .before .before .before .before .before .before .before .before .normalise .ensures in
+    let n = c .before .before .before .before .before .before .before .before .before .before .before .before .before .before .normalised .ensures in
     let j = c .before .before .before .before .before .before .before .judge .ensures in
-    (tokens-refused _ _ _ _ _ (here (c .before .before .before .before .before .before .before .before .before .before .before .before .before .before .before .before .before .before .before .before .before)) (c .before .before .before .before .before .before .before .before .before .before .before .before .before .before .before .before .before .if4 .left) _ _ _ (n .0) _ (j .0) _ (c .before .judged2 .given .1), (n .1, j .1))
+    (tokens-refused _ _ _ _ _ _ (here (c .before .before .before .before .before .before .before .before .before .before .before .before .before .before .before .before .before .before .before .before .before)) (c .before .before .before .before .before .before .before .before .before .before .before .before .before .before .before .before .before .if4 .left) _ _ _ (n .0) _ (j .0) _ (c .before .judged2 .given .1), (n .1, j .1))
 
 pub judge-tokens-spec : {M : Type 1} → statement M
 judge-tokens-spec =
@@ -84,7 +84,7 @@ judge-tokens-spec =
     returns-2
     add-if4
     returns-3
-    normalise-requires
+    normalised-requires
     judge-requires
     enum-known-judged
     enum-known-judged-2

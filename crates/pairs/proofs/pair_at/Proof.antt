@@ -53,6 +53,9 @@ mul-is-pair c = search needs
 shared-slice-read-is-pair : tie.Need-shared-slice-read-is-pair
 shared-slice-read-is-pair c = search needs
 
+cast-is-pair : tie.Need-cast-is-pair
+cast-is-pair c = search needs
+
 is-pair-requires : tie.Need-is-pair-requires
 is-pair-requires c κs =
     let s = c .before .before .before .before .before .before .before .before .before .before .before in
@@ -88,6 +91,7 @@ pair-at-spec =
     returns-3
     mul-is-pair
     shared-slice-read-is-pair
+    cast-is-pair
     is-pair-requires
     same-length
     returns-4)

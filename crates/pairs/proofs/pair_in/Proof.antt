@@ -2,7 +2,6 @@
 use Prim.Native.Nat.{_-_}
 use mathlib.Core.Path.{sym, _∙_}
 use native.Mathlib.Omega.{arith}
-use lib.ListN.{length}
 use borrow.Author.Needs.{needs}
 use Rattle.table.specs.Layout.{theTable}
 use Rattle.pairs.proofs.Pairs.{PairWalk, pair-start, pair-fits, pair-number, pair-numbered, pair-hit, pair-on, pair-stop}
@@ -10,15 +9,15 @@ use Rattle.pairs.proofs.pair_in.Statement.{statement}
 use Rattle.pairs.proofs.pair_in.Tie as tie
 
 abbrev Inv-loop : tie.InvT-loop
-Inv-loop words ix unpaired₀ part a b at₀ number₀ unpaired at number = PairWalk (theTable words) part a b at number unpaired
+Inv-loop words ix unpaired₀ part a b to at₀ unpaired at = PairWalk (theTable words) part a b to at unpaired
 
 abbrev μ-loop : tie.MeasureT-loop
-μ-loop words ix unpaired₀ part a b at₀ number₀ unpaired at number = length part - at
+μ-loop words ix unpaired₀ part a b to at₀ unpaired at = to - at
 
 loop-holds : tie.Need-loop-holds Inv-loop μ-loop
 loop-holds c =
     let s = c .before .before .before in
-    pair-start _ _ _ _ _ _ (s .pre .0) (s .pre .1 .1) (s .pre .1 .0)
+    pair-start _ _ _ _ _ _ _ (s .pre .0) (s .pre .1 .1 .0) (s .pre .1 .0) (s .pre .1 .1 .1)
 
 pair-at-requires : tie.Need-pair-at-requires Inv-loop μ-loop
 pair-at-requires c κs =
@@ -31,7 +30,7 @@ mul-t14 : tie.Need-mul-t14 Inv-loop μ-loop
 mul-t14 c = search needs
 
 shared-slice-read-t16 : tie.Need-shared-slice-read-t16 Inv-loop μ-loop
-shared-slice-read-t16 c = c .before .before .before .before .before .before .loop-test .taken
+shared-slice-read-t16 c = omega (arith, c .before .before .before .before .before .before .loop-test .taken, c .before .before .before .before .before .before .before .loop .inv .inside)
 
 same-length : tie.Need-same-length Inv-loop μ-loop
 same-length c = c .before .before .before .before .pair-at .ensures .unpaired .size ∙ sym (c .before .before .before .before .before .before .before .before .before .before .before .pre .1 .0 .size)
@@ -41,9 +40,6 @@ returns c = pair-hit _ _ _ _ _ _ _ (c .before .before .before .before .before .b
 
 behind-requires : tie.Need-behind-requires Inv-loop μ-loop
 behind-requires c κs = pair-fits _ _ _ _ _ _ _ (c .before .before .before .before .before .before .loop .inv) (c .before .before .before .before .before .loop-test .taken)
-
-add-number : tie.Need-add-number Inv-loop μ-loop
-add-number c = omega (arith, pair-number _ _ _ _ _ _ _ (c .before .before .before .before .before .before .before .loop .inv) (c .before .before .before .before .before .before .loop-test .taken))
 
 loop-less : tie.Need-loop-less Inv-loop μ-loop
 loop-less c = omega (arith, c .behind .ensures, c .before .before .before .before .before .before .loop-test .taken)
@@ -70,7 +66,6 @@ pair-in-spec =
     same-length
     returns
     behind-requires
-    add-number
     loop-less
     loop-again
     same-length-2

@@ -6,7 +6,6 @@ use lib.ListN.{length}
 use borrow.Author.Needs.{needs}
 use Rattle.table.specs.Layout.{theTable}
 use Rattle.unpaired.specs.Unpaired.{Unpaired}
-use Rattle.unpaired.proofs.Noting.{unpaired-none}
 use Rattle.name.proofs.Parting.{label-length}
 use Rattle.report_walk.proofs.Reporting.{Labelled, labelled-start, labelled-walks, labelled-more, labelled-end}
 use Rattle.report_walk.proofs.report_labels.Statement.{statement}
@@ -19,10 +18,16 @@ Inv-loop words ix name out₀ w₀ unpaired₀ sink₀ at₀ out w unpaired sink
 abbrev μ-loop : tie.MeasureT-loop
 μ-loop words ix name out₀ w₀ unpaired₀ sink₀ at₀ out w unpaired sink at = length name + 1 - at
 
+slice-aggregate-index-pairs : tie.Need-slice-aggregate-index-pairs Inv-loop μ-loop
+slice-aggregate-index-pairs c = search needs
+
+index-pairs-requires : tie.Need-index-pairs-requires Inv-loop μ-loop
+index-pairs-requires c κs = (c .before .before .before .before .before .pre .0, refl)
+
 loop-holds : tie.Need-loop-holds Inv-loop μ-loop
 loop-holds c =
-    let p = c .before .before .before .before .pre in
-    (labelled-start _ _ _ (p .1 .0 .2) (p .1 .1), (unpaired-none _, refl))
+    let p = c .before .before .before .before .before .before .before .pre in
+    (labelled-start _ _ _ (p .1 .0 .2) (p .1 .1), (c .before .index-pairs .ensures, refl))
 
 label-end-requires : tie.Need-label-end-requires Inv-loop μ-loop
 label-end-requires c κs = search needs
@@ -44,7 +49,7 @@ slice-aggregate-report-label c = sym (c .before .before .before .before .loop .i
 
 report-label-requires : tie.Need-report-label-requires Inv-loop μ-loop
 report-label-requires c κs =
-    let p = c .before .before .before .before .before .before .before .before .before .before .before .pre in
+    let p = c .before .before .before .before .before .before .before .before .before .before .before .before .before .before .pre in
     let i = c .before .before .before .before .before .before .loop .inv in
     let e = c .before .before .before .before .label-end .ensures in (
       p .0,
@@ -58,7 +63,7 @@ report-label-requires c κs =
     )
 
 add-at : tie.Need-add-at Inv-loop μ-loop
-add-at c = search needs
+add-at c = omega (arith, c .before .before .before .before .before .before .before .before .before .before .label-end .ensures .to, c .before .before .before .before .before .before .before .before .before .before .before .before .before .before .before .before .before .before .before .before .pre .1 .0 .1)
 
 loop-less : tie.Need-loop-less Inv-loop μ-loop
 loop-less c = search needs
@@ -84,6 +89,8 @@ report-labels-spec =
     (tie.spec
     Inv-loop
     μ-loop
+    slice-aggregate-index-pairs
+    index-pairs-requires
     loop-holds
     label-end-requires
     mul-report-label

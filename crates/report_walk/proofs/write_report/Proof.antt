@@ -1,5 +1,4 @@
 -- `write_report`: the words are a table, and its sections are found. Assumes nothing.
-use mathlib.Core.Path.{sym, _∙_}
 use Rattle.report_walk.proofs.Reporting.{never-fault}
 use borrow.Author.Needs.{needs}
 use Rattle.report_walk.proofs.write_report.Statement.{statement}
@@ -15,7 +14,7 @@ report-labels-requires : tie.Need-report-labels-requires
 report-labels-requires c κs =
     let p = c .before .before .before .before .before .before .before .before .before .before .pre in
     let l = c .before .before .before .before .before in
-    (record { found = sym (l .layout .ensures) ∙ c .before .before .before .ix .given .1 }, ((p .enough, p .short, p .some-name), p .labels))
+    (l .layout .ensures .found _ (c .before .before .before .ix .given .1), ((p .enough, p .short, p .some-name), p .labels))
 
 enum-told : tie.Need-enum-told
 enum-told c = search needs
@@ -30,7 +29,7 @@ returns : tie.Need-returns
 returns c = search needs
 
 returns-2 : tie.Need-returns-2
-returns-2 c = absurd (never-fault _ _ (c .before .before .before .before .before .before .before .pre .table) (c .before .before .layout .ensures) (c .enum-told .given .1))
+returns-2 c = absurd (never-fault _ (c .before .before .before .before .before .before .before .pre .table) (c .before .before .layout .ensures .fault (c .enum-told .given .1)))
 
 pub write-report-spec : {M : Type 1} → statement M
 write-report-spec =

@@ -1,12 +1,11 @@
 -- `show_labels`: after each turn the labels so far have passed, and their screen forms stand in front. Assumes nothing.
 use Prim.Native.Nat.{_+_, _-_}
 use native.Mathlib.Omega.{arith}
-use mathlib.Core.Path.{sym, _∙_}
+use mathlib.Core.Path.{refl, sym, _∙_}
 use mathlib.Core.Logic.{⊎-elim}
 use lib.ListN.{length}
 use Rattle.table.specs.Layout.{theTable}
 use Rattle.unpaired.specs.Unpaired.{Unpaired}
-use Rattle.unpaired.proofs.Noting.{unpaired-none}
 use Rattle.memo.specs.Memo.{Memo}
 use Rattle.name.proofs.Parting.{label-length}
 use Rattle.screen.proofs.Passing.{Passed, pass-start, pass-empty, pass-done, pass-refused, pass-barred, pass-walks, pass-worked, pass-room, pass-more}
@@ -22,8 +21,14 @@ abbrev μ-loop : tie.MeasureT-loop
 μ-loop words ix greek setting name answer₀ w₀ memo₀ unpaired₀ at₀ done₀ place₀ len₀ answer w memo unpaired at done place len =
     length name + 1 - at
 
+slice-aggregate-index-pairs : tie.Need-slice-aggregate-index-pairs Inv-loop μ-loop
+slice-aggregate-index-pairs c = search needs
+
+index-pairs-requires : tie.Need-index-pairs-requires Inv-loop μ-loop
+index-pairs-requires c κs = (c .before .before .before .before .before .before .pre .0, refl)
+
 loop-holds : tie.Need-loop-holds Inv-loop μ-loop
-loop-holds c = (⊎-elim (λ w. rw (w .1) (pass-empty _ _ _ _ _ _ (w .0 .taken))) (λ w. rw (w .1) (pass-start _ _ _ _ _ _ (omega arith))) (c .if1 .came), (unpaired-none _, c .before .before .before .before .before .before .pre .1 .1))
+loop-holds c = (⊎-elim (λ w. rw (w .1) (pass-empty _ _ _ _ _ _ (w .0 .taken))) (λ w. rw (w .1) (pass-start _ _ _ _ _ _ (omega arith))) (c .if1 .came), (c .before .before .index-pairs .ensures, c .before .before .before .before .before .before .before .before .before .pre .1 .1))
 
 label-end-requires : tie.Need-label-end-requires Inv-loop μ-loop
 label-end-requires c κs = search needs
@@ -45,7 +50,7 @@ slice-aggregate-judge-label c = sym (c .before .before .before .before .before .
 
 judge-label-requires : tie.Need-judge-label-requires Inv-loop μ-loop
 judge-label-requires c κs =
-    let p = c .before .before .before .before .before .before .before .before .before .before .before .before .before .before .pre in
+    let p = c .before .before .before .before .before .before .before .before .before .before .before .before .before .before .before .before .before .pre in
     let i = c .before .before .before .before .before .before .before .loop .inv in
     let e = c .before .before .before .before .before .label-end .ensures in
     let size = label-length _ _ _ e in
@@ -64,7 +69,7 @@ same-length-2 : tie.Need-same-length-2 Inv-loop μ-loop
 same-length-2 c = c .before .before .before .before .before .before .before .before .before .before .judge-label .ensures .0 .same ∙ c .before .before .before .before .before .before .before .before .before .before .before .before .before .before .before .before .before .before .loop .inv .0 .same-work
 
 same-length-3 : tie.Need-same-length-3 Inv-loop μ-loop
-same-length-3 c = c .before .before .before .before .before .before .before .before .before .before .judge-label .ensures .1 .1 .size ∙ sym (c .before .before .before .before .before .before .before .before .before .before .before .before .before .before .before .before .before .before .before .before .before .before .before .before .before .pre .1 .1 .size)
+same-length-3 c = c .before .before .before .before .before .before .before .before .before .before .judge-label .ensures .1 .1 .size ∙ sym (c .before .before .before .before .before .before .before .before .before .before .before .before .before .before .before .before .before .before .before .before .before .before .before .before .before .before .before .before .pre .1 .1 .size)
 
 returns : tie.Need-returns Inv-loop μ-loop
 returns c =
@@ -82,10 +87,10 @@ slice-aggregate-put-label c = search needs
 put-label-requires : tie.Need-put-label-requires Inv-loop μ-loop
 put-label-requires c κs =
     let i = c .before .before .before .before .before .before .before .before .before .before .before .before .before .before .before .before .before .before .before .before .before .loop .inv .0 in
-    (omega (arith, i .small, i .inside, c .before .before .before .before .before .before .before .before .before .before .before .before .before .before .before .before .before .before .before .before .before .before .before .before .before .before .before .before .pre .1 .0 .1), omega arith)
+    (omega (arith, i .small, i .inside, c .before .before .before .before .before .before .before .before .before .before .before .before .before .before .before .before .before .before .before .before .before .before .before .before .before .before .before .before .before .before .before .pre .1 .0 .1), omega arith)
 
 mul-show-label : tie.Need-mul-show-label Inv-loop μ-loop
-mul-show-label c = record { fits = omega (arith, c .before .before .before .before .before .before .before .before .before .before .before .before .before .before .before .before .before .before .before .before .before .before .label-end .ensures .from, c .before .before .before .before .before .before .before .before .before .before .before .before .before .before .before .before .before .before .before .before .before .before .label-end .ensures .to, c .before .before .before .before .before .before .before .before .before .before .before .before .before .before .before .before .before .before .before .before .before .before .before .before .before .before .before .before .before .before .before .pre .1 .0 .1) }
+mul-show-label c = record { fits = omega (arith, c .before .before .before .before .before .before .before .before .before .before .before .before .before .before .before .before .before .before .before .before .before .before .label-end .ensures .from, c .before .before .before .before .before .before .before .before .before .before .before .before .before .before .before .before .before .before .before .before .before .before .label-end .ensures .to, c .before .before .before .before .before .before .before .before .before .before .before .before .before .before .before .before .before .before .before .before .before .before .before .before .before .before .before .before .before .before .before .before .before .before .pre .1 .0 .1) }
 
 sub-show-label : tie.Need-sub-show-label Inv-loop μ-loop
 sub-show-label c = search needs
@@ -101,7 +106,7 @@ slice-aggregate-show-label c = sym (c .before .before .before .before .before .b
 
 show-label-requires : tie.Need-show-label-requires Inv-loop μ-loop
 show-label-requires c κs =
-    let p = c .before .before .before .before .before .before .before .before .before .before .before .before .before .before .before .before .before .before .before .before .before .before .before .before .before .before .before .before .before .before .before .before .before .before .before .pre in
+    let p = c .before .before .before .before .before .before .before .before .before .before .before .before .before .before .before .before .before .before .before .before .before .before .before .before .before .before .before .before .before .before .before .before .before .before .before .before .before .before .pre in
     let i = c .before .before .before .before .before .before .before .before .before .before .before .before .before .before .before .before .before .before .before .before .before .before .before .before .before .before .before .before .loop .inv .0 in
     let e = c .before .before .before .before .before .before .before .before .before .before .before .before .before .before .before .before .before .before .before .before .before .before .before .before .before .before .label-end .ensures in
     let j = c .before .before .before .before .before .before .before .before .before .before .before .before .before .before .before .before .before .before .before .before .judge-label .ensures in
@@ -129,10 +134,10 @@ add-done-2 c = omega (arith, pass-worked _ _ _ _ _ _ _ _ _ _ _ _ (c .before .bef
 add-place : tie.Need-add-place Inv-loop μ-loop
 add-place c =
     let i = c .before .before .before .before .before .before .before .before .before .before .before .before .before .before .before .before .before .before .before .before .before .before .before .before .before .before .before .before .before .before .before .before .before .before .loop .inv .0 in
-    omega (arith, i .few, i .inside, c .before .before .before .before .before .before .before .before .before .before .before .before .before .before .before .before .before .before .before .before .before .before .before .before .before .before .before .before .before .before .before .before .before .before .before .before .before .before .before .before .before .pre .1 .0 .1)
+    omega (arith, i .few, i .inside, c .before .before .before .before .before .before .before .before .before .before .before .before .before .before .before .before .before .before .before .before .before .before .before .before .before .before .before .before .before .before .before .before .before .before .before .before .before .before .before .before .before .before .before .before .pre .1 .0 .1)
 
 add-at : tie.Need-add-at Inv-loop μ-loop
-add-at c = omega (arith, c .before .before .before .before .before .before .before .before .before .before .before .before .before .before .before .before .before .before .before .before .before .before .before .before .before .before .before .before .before .before .before .before .label-end .ensures .to, c .before .before .before .before .before .before .before .before .before .before .before .before .before .before .before .before .before .before .before .before .before .before .before .before .before .before .before .before .before .before .before .before .before .before .before .before .before .before .before .before .before .pre .1 .0 .1)
+add-at c = omega (arith, c .before .before .before .before .before .before .before .before .before .before .before .before .before .before .before .before .before .before .before .before .before .before .before .before .before .before .before .before .before .before .before .before .label-end .ensures .to, c .before .before .before .before .before .before .before .before .before .before .before .before .before .before .before .before .before .before .before .before .before .before .before .before .before .before .before .before .before .before .before .before .before .before .before .before .before .before .before .before .before .before .before .before .pre .1 .0 .1)
 
 loop-less : tie.Need-loop-less Inv-loop μ-loop
 loop-less c = omega (arith, c .before .before .before .before .before .before .before .before .before .before .before .before .before .before .before .before .before .before .before .before .before .before .before .before .before .before .before .before .before .before .before .before .label-end .ensures .from, c .before .before .before .before .before .before .before .before .before .before .before .before .before .before .before .before .before .before .before .before .before .before .before .before .before .before .before .before .before .before .before .before .label-end .ensures .to, c .before .before .before .before .before .before .before .before .before .before .before .before .before .before .before .before .before .before .before .before .before .before .before .before .before .before .before .before .before .before .before .before .before .loop-test .taken)
@@ -154,7 +159,7 @@ same-length-5 : tie.Need-same-length-5 Inv-loop μ-loop
 same-length-5 c = c .before .before .before .before .before .before .before .before .judge-label .ensures .0 .same ∙ c .before .before .before .before .before .before .before .before .before .before .before .before .before .before .before .before .loop .inv .0 .same-work
 
 same-length-6 : tie.Need-same-length-6 Inv-loop μ-loop
-same-length-6 c = c .before .before .before .before .before .before .before .before .judge-label .ensures .1 .1 .size ∙ sym (c .before .before .before .before .before .before .before .before .before .before .before .before .before .before .before .before .before .before .before .before .before .before .before .pre .1 .1 .size)
+same-length-6 c = c .before .before .before .before .before .before .before .before .judge-label .ensures .1 .1 .size ∙ sym (c .before .before .before .before .before .before .before .before .before .before .before .before .before .before .before .before .before .before .before .before .before .before .before .before .before .before .pre .1 .1 .size)
 
 returns-2 : tie.Need-returns-2 Inv-loop μ-loop
 returns-2 c =
@@ -167,7 +172,7 @@ same-length-8 : tie.Need-same-length-8 Inv-loop μ-loop
 same-length-8 c = c .before .loop .inv .0 .same-work
 
 same-length-9 : tie.Need-same-length-9 Inv-loop μ-loop
-same-length-9 c = c .before .loop .inv .1 .1 .size ∙ sym (c .before .before .before .before .before .before .before .before .pre .1 .1 .size)
+same-length-9 c = c .before .loop .inv .1 .1 .size ∙ sym (c .before .before .before .before .before .before .before .before .before .before .before .pre .1 .1 .size)
 
 returns-3 : tie.Need-returns-3 Inv-loop μ-loop
 returns-3 c = pass-done _ _ _ _ _ _ _ _ _ _ _ _ (c .before .loop .inv .0) (c .loop-test .left)
@@ -178,6 +183,8 @@ show-labels-spec =
     (tie.spec
     Inv-loop
     μ-loop
+    slice-aggregate-index-pairs
+    index-pairs-requires
     loop-holds
     label-end-requires
     mul-judge-label

@@ -1,130 +1,54 @@
--- `sound_check::rules` meets its contract: the rules are asked in their order. Assumes nothing.
-use mathlib.Core.Path.{sym, _∙_}
-use borrow.Author.Tests.{not-true, not-false}
-use Rattle.sound_check.proofs.CheckLaws.{lowest-is}
+-- `sound_check::rules` meets its contract: the first rules decide where one is broken, else the others. Assumes nothing.
+use mathlib.Core.Path.{sym, _∙_, ap}
+use mathlib.Core.Bool.{false≢true}
+use Rattle.answers.specs.Values.{brokenRule}
+use Rattle.sound_check.proofs.CheckLaws.{first-broken, first-hold, first-one, found-hold}
+use borrow.Author.Needs.{needs}
 use Rattle.sound_check.proofs.rules.Statement.{statement}
 use Rattle.sound_check.proofs.rules.Tie as tie
 
-keeps-rule1-requires : tie.Need-keeps-rule1-requires
-keeps-rule1-requires c κs = c .before .pre
+some-rules-requires : tie.Need-some-rules-requires
+some-rules-requires c κs = (c .before .pre, λ e. absurd (false≢true e))
+
+enum-told : tie.Need-enum-told
+enum-told c = search needs
+
+finds-requires : tie.Need-finds-requires
+finds-requires c κs = search needs
 
 returns : tie.Need-returns
 returns c =
-    rw (
-      lowest-is _,
-      sym (c .before .keeps-rule1 .ensures) ∙ not-true _ (c .if1 .taken),
-    )
+    let first′ = c .before .before .before .before .some-rules in
+    let told′ = c .before .before .enum-told in
+    found-hold _ (c .before .finds .ensures (c .if1 .taken)) ∙ first-hold _ (sym (ap brokenRule (told′ .given .1)) ∙ first′ .ensures)
 
-keeps-rule2-requires : tie.Need-keeps-rule2-requires
-keeps-rule2-requires c κs = (c .before .before .before .pre, sym (c .before .keeps-rule1 .ensures) ∙ not-false _ (c .if1 .left))
+some-rules-requires-2 : tie.Need-some-rules-requires-2
+some-rules-requires-2 c κs =
+    let first′ = c .before .before .before .before .some-rules in
+    let told′ = c .before .before .enum-told in
+    (c .before .before .before .before .before .before .pre, λ e. first-one _ (sym (ap brokenRule (told′ .given .1)) ∙ first′ .ensures))
+
+enum-known-n : tie.Need-enum-known-n
+enum-known-n c = search needs
 
 returns-2 : tie.Need-returns-2
 returns-2 c =
-    rw (
-      lowest-is _,
-      sym (c .before .before .before .keeps-rule1 .ensures) ∙ not-false _ (c .before .before .if1 .left),
-      sym (c .before .keeps-rule2 .ensures) ∙ not-true _ (c .if2 .taken),
-    )
-
-keeps-rule3-requires : tie.Need-keeps-rule3-requires
-keeps-rule3-requires c κs = c .before .before .before .before .before .pre
+    let first′ = c .before .before .before .before .before .some-rules in
+    let told′ = c .before .before .before .enum-told in
+    c .some-rules2 .ensures ∙ first-hold _ (sym (ap brokenRule (told′ .given .1)) ∙ first′ .ensures)
 
 returns-3 : tie.Need-returns-3
-returns-3 c =
-    rw (
-      lowest-is _,
-      sym (c .before .before .before .before .before .keeps-rule1 .ensures) ∙ not-false _ (c .before .before .before .before .if1 .left),
-      sym (c .before .before .before .keeps-rule2 .ensures) ∙ not-false _ (c .before .before .if2 .left),
-      sym (c .before .keeps-rule3 .ensures) ∙ not-true _ (c .if3 .taken),
-    )
-
-keeps-rule4-requires : tie.Need-keeps-rule4-requires
-keeps-rule4-requires c κs = c .before .before .before .before .before .before .before .pre
-
-returns-4 : tie.Need-returns-4
-returns-4 c =
-    rw (
-      lowest-is _,
-      sym (c .before .before .before .before .before .before .before .keeps-rule1 .ensures) ∙ not-false _ (c .before .before .before .before .before .before .if1 .left),
-      sym (c .before .before .before .before .before .keeps-rule2 .ensures) ∙ not-false _ (c .before .before .before .before .if2 .left),
-      sym (c .before .before .before .keeps-rule3 .ensures) ∙ not-false _ (c .before .before .if3 .left),
-      sym (c .before .keeps-rule4 .ensures) ∙ not-true _ (c .if4 .taken),
-    )
-
-keeps-rule5-requires : tie.Need-keeps-rule5-requires
-keeps-rule5-requires c κs = c .before .before .before .before .before .before .before .before .before .pre
-
-returns-5 : tie.Need-returns-5
-returns-5 c =
-    rw (
-      lowest-is _,
-      sym (c .before .before .before .before .before .before .before .before .before .keeps-rule1 .ensures) ∙ not-false _ (c .before .before .before .before .before .before .before .before .if1 .left),
-      sym (c .before .before .before .before .before .before .before .keeps-rule2 .ensures) ∙ not-false _ (c .before .before .before .before .before .before .if2 .left),
-      sym (c .before .before .before .before .before .keeps-rule3 .ensures) ∙ not-false _ (c .before .before .before .before .if3 .left),
-      sym (c .before .before .before .keeps-rule4 .ensures) ∙ not-false _ (c .before .before .if4 .left),
-      sym (c .before .keeps-rule5 .ensures) ∙ not-true _ (c .if5 .taken),
-    )
-
-keeps-rule6-requires : tie.Need-keeps-rule6-requires
-keeps-rule6-requires c κs = (c .before .before .before .before .before .before .before .before .before .before .before .pre, sym (c .before .before .before .before .before .before .before .before .before .keeps-rule1 .ensures) ∙ not-false _ (c .before .before .before .before .before .before .before .before .if1 .left))
-
-returns-6 : tie.Need-returns-6
-returns-6 c =
-    rw (
-      lowest-is _,
-      sym (c .before .before .before .before .before .before .before .before .before .before .before .keeps-rule1 .ensures) ∙ not-false _ (c .before .before .before .before .before .before .before .before .before .before .if1 .left),
-      sym (c .before .before .before .before .before .before .before .before .before .keeps-rule2 .ensures) ∙ not-false _ (c .before .before .before .before .before .before .before .before .if2 .left),
-      sym (c .before .before .before .before .before .before .before .keeps-rule3 .ensures) ∙ not-false _ (c .before .before .before .before .before .before .if3 .left),
-      sym (c .before .before .before .before .before .keeps-rule4 .ensures) ∙ not-false _ (c .before .before .before .before .if4 .left),
-      sym (c .before .before .before .keeps-rule5 .ensures) ∙ not-false _ (c .before .before .if5 .left),
-      sym (c .before .keeps-rule6 .ensures) ∙ not-true _ (c .if6 .taken),
-    )
-
-keeps-rule7-requires : tie.Need-keeps-rule7-requires
-keeps-rule7-requires c κs = c .before .before .before .before .before .before .before .before .before .before .before .before .before .pre
-
-returns-7 : tie.Need-returns-7
-returns-7 c =
-    rw (
-      lowest-is _,
-      sym (c .before .before .before .before .before .before .before .before .before .before .before .before .before .keeps-rule1 .ensures) ∙ not-false _ (c .before .before .before .before .before .before .before .before .before .before .before .before .if1 .left),
-      sym (c .before .before .before .before .before .before .before .before .before .before .before .keeps-rule2 .ensures) ∙ not-false _ (c .before .before .before .before .before .before .before .before .before .before .if2 .left),
-      sym (c .before .before .before .before .before .before .before .before .before .keeps-rule3 .ensures) ∙ not-false _ (c .before .before .before .before .before .before .before .before .if3 .left),
-      sym (c .before .before .before .before .before .before .before .keeps-rule4 .ensures) ∙ not-false _ (c .before .before .before .before .before .before .if4 .left),
-      sym (c .before .before .before .before .before .keeps-rule5 .ensures) ∙ not-false _ (c .before .before .before .before .if5 .left),
-      sym (c .before .before .before .keeps-rule6 .ensures) ∙ not-false _ (c .before .before .if6 .left),
-      sym (c .before .keeps-rule7 .ensures) ∙ not-true _ (c .if7 .taken),
-    )
-
-returns-8 : tie.Need-returns-8
-returns-8 c =
-    rw (
-      lowest-is _,
-      sym (c .before .before .before .before .before .before .before .before .before .before .before .before .before .keeps-rule1 .ensures) ∙ not-false _ (c .before .before .before .before .before .before .before .before .before .before .before .before .if1 .left),
-      sym (c .before .before .before .before .before .before .before .before .before .before .before .keeps-rule2 .ensures) ∙ not-false _ (c .before .before .before .before .before .before .before .before .before .before .if2 .left),
-      sym (c .before .before .before .before .before .before .before .before .before .keeps-rule3 .ensures) ∙ not-false _ (c .before .before .before .before .before .before .before .before .if3 .left),
-      sym (c .before .before .before .before .before .before .before .keeps-rule4 .ensures) ∙ not-false _ (c .before .before .before .before .before .before .if4 .left),
-      sym (c .before .before .before .before .before .keeps-rule5 .ensures) ∙ not-false _ (c .before .before .before .before .if5 .left),
-      sym (c .before .before .before .keeps-rule6 .ensures) ∙ not-false _ (c .before .before .if6 .left),
-      sym (c .before .keeps-rule7 .ensures) ∙ not-false _ (c .if7 .left),
-    )
+returns-3 c = first-broken _ _ (sym (ap brokenRule (c .before .n .given .1)) ∙ c .before .before .before .some-rules .ensures)
 
 pub rules-spec : {M : Type 1} → statement M
 rules-spec =
     tie.close
     (tie.spec
-    keeps-rule1-requires
+    some-rules-requires
+    enum-told
+    finds-requires
     returns
-    keeps-rule2-requires
+    some-rules-requires-2
+    enum-known-n
     returns-2
-    keeps-rule3-requires
-    returns-3
-    keeps-rule4-requires
-    returns-4
-    keeps-rule5-requires
-    returns-5
-    keeps-rule6-requires
-    returns-6
-    keeps-rule7-requires
-    returns-7
-    returns-8)
+    returns-3)

@@ -1,7 +1,5 @@
 -- `sound_check::soundness` meets its contract. Assumes nothing.
-use denote.Ref.{now}
 use mathlib.Core.Path.{sym, _∙_}
-use Rattle.sections.proofs.SectionLaws.{found-laid}
 use Rattle.sound_check.proofs.CheckLaws.{found-check, fault-check}
 use borrow.Author.Needs.{needs}
 use Rattle.sound_check.proofs.soundness.Statement.{statement}
@@ -17,15 +15,14 @@ enum-known-ix : tie.Need-enum-known-ix
 enum-known-ix c = search needs
 
 rules-requires : tie.Need-rules-requires
-rules-requires c κs = found-laid _ _ (sym (c .before .before .before .layout .ensures) ∙ c .before .ix .given .1)
+rules-requires c κs = c .before .before .before .layout .ensures .found _ (c .before .ix .given .1)
 
 returns : tie.Need-returns
-returns c =
-    fault-check (now (c .before .before .before .before .args .words)) (c .before .before .layout .result) (c .before .before .layout .ensures) (c .enum-told .given .1)
+returns c = fault-check _ (c .before .before .layout .ensures .fault (c .enum-told .given .1))
 
 returns-2 : tie.Need-returns-2
 returns-2 c =
-    c .rules .ensures ∙ sym (found-check _ _ (c .before .before .before .before .layout .result) (c .before .before .before .before .layout .ensures) (c .before .before .ix .given .1))
+    c .rules .ensures ∙ sym (found-check _ _ (c .before .before .before .before .layout .ensures .found _ (c .before .before .ix .given .1)))
 
 pub soundness-spec : {M : Type 1} → statement M
 soundness-spec =

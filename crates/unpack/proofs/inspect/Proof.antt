@@ -15,7 +15,7 @@ use Rattle.unpack.proofs.inspect.Tie as tie
 known : (c : tie.After-known-told) → lacks (getD (now (c .before .before .before .before .before .before .before .args .file)) 0 0) ≡ some (c .before .lack .given .0 .0)
 known c = lack-given _ _ _ (c .before .lack .given .1) (c .before .before .before .lack-of .ensures)
 
-known-few : (c : tie.After-known-told) → c .before .lack .given .0 .0 ≤ 1
+known-few : (c : tie.After-known-told) → c .before .lack .given .0 .0 ≤ 2
 known-few c = lacks-few (getD (now (c .before .before .before .before .before .before .before .args .file)) 0 0) _ (known c)
 
 returns : tie.Need-returns

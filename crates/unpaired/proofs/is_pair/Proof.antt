@@ -26,8 +26,8 @@ same-length-2 c = search needs
 returns-2 : tie.Need-returns-2
 returns-2 c = record { is = sym (c .if2 .taken) ∙ c .before .may-compose .ensures; unpaired = c .before .before .before .before .before .before .before .pre .1 .0 .0 }
 
-put-requires : tie.Need-put-requires
-put-requires c κs = search needs
+put-bit-requires : tie.Need-put-bit-requires
+put-bit-requires c κs = search needs
 
 same-length-3 : tie.Need-same-length-3
 same-length-3 c = search needs
@@ -36,7 +36,7 @@ returns-3 : tie.Need-returns-3
 returns-3 c =
     let s = c .before .before .before .before .before .before .before .before .before .before .before in
     let m : false ≡ _ = sym (c .before .before .before .before .if2 .left) ∙ c .before .before .before .before .before .may-compose .ensures in
-    record { is = m; unpaired = unpaired-more _ _ _ (s .pre .1 .0 .0) _ (s .pre .1 .1 ∙ sym m) (c .before .before .put .ensures) }
+    record { is = m; unpaired = unpaired-more _ _ _ (s .pre .1 .0 .0) (s .pre .1 .0 .1) _ (s .pre .1 .1 ∙ sym m) (c .before .before .put-bit .ensures) }
 
 pub is-pair-spec : {M : Type 1} → statement M
 is-pair-spec =
@@ -48,6 +48,6 @@ is-pair-spec =
     may-compose-requires
     same-length-2
     returns-2
-    put-requires
+    put-bit-requires
     same-length-3
     returns-3)

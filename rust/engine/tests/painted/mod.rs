@@ -62,7 +62,8 @@ pub struct Traces {
 }
 
 /// Looks for this text. Low numbers stand on a stack as lengths and places, so
-/// that a codepoint below 100 hex counts only beside a neighbour of its own.
+/// that a codepoint below 100 hex counts only beside a neighbour of its own. Two
+/// equal words alone are one codepoint that was spilled twice.
 pub fn traces(left: &Left, text: &[u32]) -> Traces {
     let mut places = std::collections::HashMap::<u32, Vec<usize>>::new();
     for (i, &c) in text.iter().enumerate() {
@@ -75,7 +76,10 @@ pub fn traces(left: &Left, text: &[u32]) -> Traces {
         for step in [1, 2] {
             for &start in starts {
                 let row = left.words[at..].iter().step_by(step).zip(&text[start..]);
-                let length = row.take_while(|(w, c)| w == c).count();
+                let length = match row.take_while(|(w, c)| w == c).count() {
+                    2 if text[start] == text[start + 1] => 1,
+                    length => length,
+                };
                 if length > 1 || *word >= 0x100 {
                     found.in_order = found.in_order.max(length);
                 }

@@ -13,7 +13,7 @@ const HELP: &str = "\
 usage: maketable [OPTIONS] SPEC NF OUT
        maketable --nf NF OUT
 
-Makes the table file OUT, of version 2, from files of the published shapes of
+Makes the table file OUT, of version 3, from files of the published shapes of
 spec.json and nf.json, and beside it, as OUT.groups without .tab, the names of
 the groups, one a line. With --nf it makes one for NFC and NFD alone. OUT is
 replaced only by a whole table that is sound.
@@ -111,7 +111,7 @@ fn made(wanted: &Wanted) -> Result<Made<'_>, String> {
 }
 
 /// The names of the sections, in order.
-const SECTIONS: [&str; 13] = [
+const SECTIONS: [&str; 14] = [
     "valid",
     "ignored",
     "fenced",
@@ -125,6 +125,7 @@ const SECTIONS: [&str; 13] = [
     "groups",
     "wholes",
     "should-escape",
+    "quick-check",
 ];
 
 /// The words of a table, and a line for each section.

@@ -63,7 +63,8 @@ fn random(tables: &mut Vec<Vec<u32>>, questions: &mut Vec<Question>) {
     }
 }
 
-/// Names of every kind, as rust/engine/tests/stack.rs has them.
+/// Names of every kind, and of the refusals 4 to 14, as
+/// rust/engine/tests/stack.rs has them.
 fn kinds() -> Vec<Vec<u32>> {
     let row = |first: u32, count: u32| -> Vec<u32> { (first..first + count).collect() };
     let letters: Vec<u32> = (0..300).map(|i| 0x61 + i % 26 * (1 + i / 26) % 26).collect();
@@ -82,12 +83,13 @@ fn kinds() -> Vec<Vec<u32>> {
         [hex("1A00"), hex("1A1B 1A1A 1A19 1A18 1A17").repeat(40)].concat(),
         row(0x4E00, 1_000),
         row(0x13000, 12),
-        [&letters[..30], &[0x2E], &row(0x4E00, 30)].concat(),
+        [&letters[..30], &[0x2E], &hex("43C 438 440 436 44B 448")[..], &[0x2E], &row(0x4E00, 30)].concat(),
         [row(0x4E00, 300), vec![0xD800]].concat(),
         [&letters[..200], &[0x40]].concat(),
         hex("43C 438 440 2E 2E 61"),
         row(0x2_1000, WORKED as u32 + 6),
         [&letters[..200], &[0x5F]].concat(),
+        [&hex("78 6E 2D 2D")[..], &letters[..200]].concat(),
         [&letters[..200], &[0x2019]].concat(),
         hex("43C 438 1F4A9 301 44B 448"),
         [&letters[..200], &[0x645, 0x635, 0x631]].concat(),
@@ -108,7 +110,13 @@ fn main() {
             cases(&mut questions);
             random(&mut tables, &mut questions);
         }
-        1 => questions.extend(kinds().into_iter().map(|name| question(0, name, WORKED))),
+        1 => {
+            questions.extend(kinds().into_iter().map(|name| question(0, name, WORKED)));
+            let restricted = standin::cases::hex("43C 438 440 436 44B 448 2E 13000 13001 13002 13003 13004 13005");
+            // 15 and 17.
+            questions.push(question(0, (0..300).map(|i| 0x4E00 + i).collect(), 100));
+            questions.push(Question { setting: 1, ..question(0, restricted, WORKED) });
+        }
         _ => questions.extend(standin::cases::counter().into_iter().take(12).map(|c| question(0, c.name, WORKED))),
     }
     let mut out = vec![mode, times, tables.len() as u32];

@@ -2,50 +2,49 @@
 use native.Mathlib.Omega.{arith}
 use borrow.Author.Needs.{needs}
 use Rattle.sections.proofs.SectionLaws.{laid-fits}
-use Rattle.finder.proofs.Finding.{emoji-sequences, found-at, found-nothing}
+use Rattle.finder.proofs.Finding.{found-at, found-nothing}
 use Rattle.finder.proofs.emoji.find.Statement.{statement}
 use Rattle.finder.proofs.emoji.find.Tie as tie
 
 mul-find-in : tie.Need-mul-find-in
 mul-find-in c =
-    let f = laid-fits _ _ (c .before .before .before .pre) .emoji in
+    let f = laid-fits _ _ (c .before .before .before .before .before .pre) .emoji in
     omega (arith, f .ordered, f .inside)
 
 sub-find-in : tie.Need-sub-find-in
 sub-find-in c =
-    let f = laid-fits _ _ (c .before .before .before .pre) .emoji in
+    let f = laid-fits _ _ (c .before .before .before .before .before .pre) .emoji in
     omega (arith, f .ordered, f .inside)
 
 part-find-in-start : tie.Need-part-find-in-start
 part-find-in-start c =
-    let f = laid-fits _ _ (c .before .before .before .pre) .emoji in
+    let f = laid-fits _ _ (c .before .before .before .before .before .pre) .emoji in
     omega (arith, f .ordered, f .inside)
 
 part-find-in-end : tie.Need-part-find-in-end
 part-find-in-end c =
-    let f = laid-fits _ _ (c .before .before .before .pre) .emoji in
+    let f = laid-fits _ _ (c .before .before .before .before .before .pre) .emoji in
     omega (arith, f .ordered, f .inside)
 
 find-in-requires : tie.Need-find-in-requires
-find-in-requires c κs =
-    emoji-sequences _ _ (c .before .before .before .before .pre)
+find-in-requires c κs = c .before .before .before .before .before .before .pre .known .emoji
 
 enum-known-m : tie.Need-enum-known-m
 enum-known-m c = search needs
 
-add-t18 : tie.Need-add-t18
-add-t18 c =
+add-t20 : tie.Need-add-t20
+add-t20 c =
     let d = c .before .before in
-    let p = d .before .before .before .before .before .before .before .pre in
-    let r = found-at _ _ p _ _ (d .before .before .find-in .ensures) _ _ _ _ (d .m .given .1) in
-    omega (arith, r .fits .ordered, r .fits .inside)
+    let b = d .before .before .before .before .before .before .before .before .before in
+    let r = found-at _ _ (b .pre) _ _ (d .before .before .find-in .ensures) _ _ _ _ (d .m .given .1) in
+    omega (arith, b .good .0, r .fits .ordered, r .fits .inside)
 
-add-t19 : tie.Need-add-t19
-add-t19 c =
+add-t21 : tie.Need-add-t21
+add-t21 c =
     let d = c .before .before .before in
-    let p = d .before .before .before .before .before .before .before .pre in
-    let r = found-at _ _ p _ _ (d .before .before .find-in .ensures) _ _ _ _ (d .m .given .1) in
-    omega (arith, r .fits .inside)
+    let b = d .before .before .before .before .before .before .before .before .before in
+    let r = found-at _ _ (b .pre) _ _ (d .before .before .find-in .ensures) _ _ _ _ (d .m .given .1) in
+    omega (arith, b .good .0, r .fits .inside)
 
 enum-told : tie.Need-enum-told
 enum-told c = search needs
@@ -53,13 +52,13 @@ enum-told c = search needs
 returns : tie.Need-returns
 returns c =
     let d = c .before .before .before in
-    let p = d .before .before .before .before .before .before .before .pre in
-    found-at _ _ p _ _ (d .before .before .find-in .ensures) _ _ _ _ (d .m .given .1)
+    let b = d .before .before .before .before .before .before .before .before .before in
+    found-at _ _ (b .pre) _ _ (d .before .before .find-in .ensures) _ _ _ _ (d .m .given .1)
 
 returns-2 : tie.Need-returns-2
 returns-2 c =
     let d = c .before .before in
-    found-nothing _ _ (d .before .before .before .before .before .pre) _ _ (d .find-in .ensures) (c .enum-told .given .1)
+    found-nothing _ _ (d .before .before .before .before .before .before .before .pre) _ _ (d .find-in .ensures) (c .enum-told .given .1)
 
 pub find-spec : {M : Type 1} → statement M
 find-spec =
@@ -71,8 +70,8 @@ find-spec =
     part-find-in-end
     find-in-requires
     enum-known-m
-    add-t18
-    add-t19
+    add-t20
+    add-t21
     enum-told
     returns
     returns-2)

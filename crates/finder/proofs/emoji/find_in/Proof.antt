@@ -1,76 +1,85 @@
 -- `finder::emoji::find_in` meets its contract: the loop keeps the best match of the records before, and the records that are left. Assumes nothing.
-use Prim.Native.Nat.{_-_}
+use Prim.Native.Nat.{_+_, _-_}
 use native.Mathlib.Omega.{arith}
-use mathlib.Core.Path.{sym, _∙_}
-use lib.ListN.{length}
+use mathlib.Core.Logic.{⊎-elim}
+use lib.ListN.{length, getD}
+use lib.Dec.{ltb}
 use borrow.Author.Needs.{needs}
-use Rattle.finder.proofs.Finding.{Finder, finder-start, finder-here, finder-past, finder-more, finder-end}
-use Rattle.finder.proofs.Taking.{takes-none}
+use borrow.Author.Tests.{ltb-true}
+use Rattle.table.proofs.Lookups.{both}
+use Rattle.finder.proofs.Finding.{Finder, finder-start, finder-here, finder-past, finder-more, finder-end, finder-above, finder-empty}
 use Rattle.finder.proofs.emoji.find_in.Statement.{statement}
 use Rattle.finder.proofs.emoji.find_in.Tie as tie
 
 abbrev Inv-loop : tie.InvT-loop
-Inv-loop part rest best₀ number₀ at₀ best number at = Finder part rest best number at
+Inv-loop part sorted rest best₀ e number₀ at₀ best number at = Finder part rest sorted best number at
 
 abbrev μ-loop : tie.MeasureT-loop
-μ-loop part rest best₀ number₀ at₀ best number at = length part - at
+μ-loop part sorted rest best₀ e number₀ at₀ best number at = length part - at
+
+returns : tie.Need-returns Inv-loop μ-loop
+returns c = finder-empty _ _ (c .if1 .taken)
+
+shared-slice-read-e : tie.Need-shared-slice-read-e Inv-loop μ-loop
+shared-slice-read-e c = search needs
+
+seek-requires : tie.Need-seek-requires Inv-loop μ-loop
+seek-requires c κs = c .before .before .before .before .pre
 
 loop-holds : tie.Need-loop-holds Inv-loop μ-loop
-loop-holds c = finder-start _ _ (c .before .before .pre)
+loop-holds c =
+    let k = c .before .before in
+    finder-start _ _ _ _ _ (k .before .before .before .pre) (omega (arith, k .if1 .left)) _ (c .seek .ensures)
+
+add-first : tie.Need-add-first Inv-loop μ-loop
+add-first c = search needs
+
+mul-first : tie.Need-mul-first Inv-loop μ-loop
+mul-first c = search needs
+
+shared-slice-read-first : tie.Need-shared-slice-read-first Inv-loop μ-loop
+shared-slice-read-first c =
+    let l = c .before .before in
+    let x = finder-here _ _ _ _ _ _ (l .loop .inv) (c .before .loop-test .taken) in
+    omega (arith, x .low, x .fits)
+
+returns-2 : tie.Need-returns-2 Inv-loop μ-loop
+returns-2 c =
+    let l = c .before .before .before in
+    let k = l .before .before .before in
+    let a = k .before .before .before .args in
+    let t = both (a .sorted) (ltb (getD (a .rest .now) 0 0) (getD (a .part .now) (l .loop .at + 1) 0)) (c .if2 .taken) in
+    finder-above _ _ _ _ _ _ (l .loop .inv) (c .before .before .loop-test .taken) (omega (arith, k .if1 .left)) (t .0) (ltb-true _ _ (t .1))
 
 counted-requires : tie.Need-counted-requires Inv-loop μ-loop
-counted-requires c κs = finder-here _ _ _ _ _ (c .before .loop .inv) (c .loop-test .taken) .fits
-
-add-number : tie.Need-add-number Inv-loop μ-loop
-add-number c = omega (arith, c .before .before .loop .inv .few, c .before .loop-test .taken)
-
-mul-misses : tie.Need-mul-misses Inv-loop μ-loop
-mul-misses c =
-    let x = finder-here _ _ _ _ _ (c .before .before .loop .inv) (c .before .loop-test .taken) in
-    rw (c .counted .ensures) (omega (arith, x .fits))
-
-shared-slice-read-misses : tie.Need-shared-slice-read-misses Inv-loop μ-loop
-shared-slice-read-misses c =
-    let k = c .before in
-    let x = finder-here _ _ _ _ _ (k .before .before .loop .inv) (k .before .loop-test .taken) in
-    rw (k .counted .ensures) (omega (arith, x .low, x .fits))
-
-misses-requires : tie.Need-misses-requires Inv-loop μ-loop
-misses-requires c κs = search needs
-
-loop-less : tie.Need-loop-less Inv-loop μ-loop
-loop-less c =
-    let k = c .before .before .before in
-    rw (k .counted .ensures) (omega (arith, k .before .loop-test .taken))
-
-loop-again : tie.Need-loop-again Inv-loop μ-loop
-loop-again c =
-    let k = c .before .before .before in
-    let s = k .counted .ensures in
-    rw s (finder-past _ _ _ _ _ (k .before .before .loop .inv) (k .before .loop-test .taken) (rw s at (takes-none _ _ (sym (c .before .misses .ensures) ∙ c .if1 .taken))))
+counted-requires c κs = finder-here _ _ _ _ _ _ (c .before .before .before .loop .inv) (c .before .before .loop-test .taken) .fits
 
 mul-takes : tie.Need-mul-takes Inv-loop μ-loop
 mul-takes c =
-    let k = c .before .before .before in
-    let x = finder-here _ _ _ _ _ (k .before .before .loop .inv) (k .before .loop-test .taken) in
+    let k = c .before in
+    let l = k .before .before .before .before in
+    let x = finder-here _ _ _ _ _ _ (l .loop .inv) (k .before .before .before .loop-test .taken) in
     rw (k .counted .ensures) (omega (arith, x .fits))
 
 sub-takes : tie.Need-sub-takes Inv-loop μ-loop
 sub-takes c =
-    let k = c .before .before .before in
-    let x = finder-here _ _ _ _ _ (k .before .before .loop .inv) (k .before .loop-test .taken) in
+    let k = c .before in
+    let l = k .before .before .before .before in
+    let x = finder-here _ _ _ _ _ _ (l .loop .inv) (k .before .before .before .loop-test .taken) in
     rw (k .counted .ensures) (omega (arith, x .fits))
 
 part-takes-start : tie.Need-part-takes-start Inv-loop μ-loop
 part-takes-start c =
-    let k = c .before .before .before in
-    let x = finder-here _ _ _ _ _ (k .before .before .loop .inv) (k .before .loop-test .taken) in
+    let k = c .before in
+    let l = k .before .before .before .before in
+    let x = finder-here _ _ _ _ _ _ (l .loop .inv) (k .before .before .before .loop-test .taken) in
     rw (k .counted .ensures) (omega (arith, x .fits))
 
 part-takes-end : tie.Need-part-takes-end Inv-loop μ-loop
 part-takes-end c =
-    let k = c .before .before .before in
-    let x = finder-here _ _ _ _ _ (k .before .before .loop .inv) (k .before .loop-test .taken) in
+    let k = c .before in
+    let l = k .before .before .before .before in
+    let x = finder-here _ _ _ _ _ _ (l .loop .inv) (k .before .before .before .loop-test .taken) in
     rw (k .counted .ensures) (omega (arith, x .fits))
 
 takes-requires : tie.Need-takes-requires Inv-loop μ-loop
@@ -82,19 +91,29 @@ matched-requires c κs = search needs
 better-requires : tie.Need-better-requires Inv-loop μ-loop
 better-requires c κs = search needs
 
-loop-less-2 : tie.Need-loop-less-2 Inv-loop μ-loop
-loop-less-2 c =
-    let k = c .before .before .before .before .before .before .before in
-    rw (k .counted .ensures) (omega (arith, k .before .loop-test .taken))
+add-number : tie.Need-add-number Inv-loop μ-loop
+add-number c =
+    let l = c .before .before .before .before .before in
+    omega (arith, l .loop .inv .few, c .before .before .before .before .loop-test .taken)
 
-loop-again-2 : tie.Need-loop-again-2 Inv-loop μ-loop
-loop-again-2 c =
-    let k = c .before .before .before .before .before .before .before in
+loop-less : tie.Need-loop-less Inv-loop μ-loop
+loop-less c =
+    let k = c .before in
+    rw (k .counted .ensures) (omega (arith, k .before .before .before .loop-test .taken))
+
+loop-again : tie.Need-loop-again Inv-loop μ-loop
+loop-again c =
+    let k = c .before in
+    let l = k .before .before .before .before in
+    let inside = k .before .before .before .loop-test .taken in
     let s = k .counted .ensures in
-    rw s (finder-more _ _ _ _ _ (k .before .before .loop .inv) (k .before .loop-test .taken) (c .before .before .takes .result) (rw s at (c .before .before .takes .ensures)) (c .before .matched .result) (rw s at (c .before .matched .ensures)) (c .better .result) (c .better .ensures))
+    ⊎-elim
+    (λ w. rw (w .5, s) (finder-more _ _ _ _ _ _ (l .loop .inv) inside (w .2 .result) (rw s at (w .2 .ensures)) (w .3 .result) (rw s at (w .3 .ensures)) (w .4 .result) (w .4 .ensures)))
+    (λ w. rw (w .1, s) (finder-past _ _ _ _ _ _ (l .loop .inv) inside (omega (arith, l .before .before .before .if1 .left)) (w .0 .left)))
+    (c .if3 .came)
 
-returns : tie.Need-returns Inv-loop μ-loop
-returns c = finder-end _ _ _ _ _ (c .before .loop .inv) (c .loop-test .left)
+returns-3 : tie.Need-returns-3 Inv-loop μ-loop
+returns-3 c = finder-end _ _ _ _ _ _ (c .before .loop .inv) (c .loop-test .left)
 
 pub find-in-spec : {M : Type 1} → statement M
 find-in-spec =
@@ -102,14 +121,15 @@ find-in-spec =
     (tie.spec
     Inv-loop
     μ-loop
+    returns
+    shared-slice-read-e
+    seek-requires
     loop-holds
+    add-first
+    mul-first
+    shared-slice-read-first
+    returns-2
     counted-requires
-    add-number
-    mul-misses
-    shared-slice-read-misses
-    misses-requires
-    loop-less
-    loop-again
     mul-takes
     sub-takes
     part-takes-start
@@ -117,6 +137,7 @@ find-in-spec =
     takes-requires
     matched-requires
     better-requires
-    loop-less-2
-    loop-again-2
-    returns)
+    add-number
+    loop-less
+    loop-again
+    returns-3)

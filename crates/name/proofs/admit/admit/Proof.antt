@@ -1,5 +1,4 @@
 -- `admit`: each return is one end of the tests 1 to 4. Assumes nothing.
-use mathlib.Core.Path.{sym, _∙_}
 use denote.Ref.{now}
 use borrow.Author.Needs.{needs}
 use Rattle.sections.specs.Laid.{Laid}
@@ -9,7 +8,7 @@ use Rattle.name.proofs.admit.admit.Tie as tie
 
 -- the sections are found, once the match has said so
 laid : (c : tie.After-known-told) → Laid (now (c .before .before .before .before .before .before .args .words)) (c .before .ix .given .0 .0)
-laid c = record { found = sym (c .before .before .before .layout .ensures) ∙ c .before .ix .given .1 }
+laid c = c .before .before .before .layout .ensures .found _ (c .before .ix .given .1)
 
 layout-requires : tie.Need-layout-requires
 layout-requires c κs = search needs
@@ -36,7 +35,7 @@ enum-told-2 : tie.Need-enum-told-2
 enum-told-2 c = search needs
 
 returns-3 : tie.Need-returns-3
-returns-3 c = admitted-fault _ _ _ (sym (c .enum-told .given .1) ∙ c .before .before .layout .ensures)
+returns-3 c = admitted-fault _ _ _ (c .before .before .layout .ensures .fault (c .enum-told .given .1))
 
 returns-4 : tie.Need-returns-4
 returns-4 c =

@@ -7,7 +7,7 @@ use Rattle.rule_4.proofs.rule4.keeps_rule4.Statement.{statement}
 use Rattle.rule_4.proofs.rule4.keeps_rule4.Tie as tie
 
 sequences-fit-of-requires : tie.Need-sequences-fit-of-requires
-sequences-fit-of-requires c κs = (laid-fits _ _ (c .before .pre) .emoji, emoji-hold _ _ (c .before .pre))
+sequences-fit-of-requires c κs = (laid-fits _ _ (c .before .pre) .emoji, (emoji-hold _ _ (c .before .pre), c .before .pre .known .emoji .firsts))
 
 returns : tie.Need-returns
 returns c = c .sequences-fit-of .ensures ∙ rule4-parts _ _ (emoji-are _ _ (c .before .before .pre))

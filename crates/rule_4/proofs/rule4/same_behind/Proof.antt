@@ -29,7 +29,9 @@ part-any-same-end-2 : tie.Need-part-any-same-end-2
 part-any-same-end-2 c = search needs
 
 any-same-requires : tie.Need-any-same-requires
-any-same-requires c κs = rw (tail-is _ _) (c .before .before .before .pre .1)
+any-same-requires c κs =
+    let pre′ = c .before .before .before .pre in
+    (rw (tail-is _ _) (pre′ .1 .0), rw (tail-is _ _) (pre′ .1 .1))
 
 returns : tie.Need-returns
 returns c = rw (tail-is _ _) at (c .any-same .ensures)

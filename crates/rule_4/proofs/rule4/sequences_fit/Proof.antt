@@ -12,7 +12,7 @@ returns : tie.Need-returns
 returns c = rw (sym (c .before .plain-sequences .ensures) ∙ not-true _ (c .if1 .taken))
 
 distinct-stripped-requires : tie.Need-distinct-stripped-requires
-distinct-stripped-requires c κs = search needs
+distinct-stripped-requires c κs = c .before .before .before .pre
 
 returns-2 : tie.Need-returns-2
 returns-2 c =

@@ -1,56 +1,49 @@
--- `rule_5::rule5::any_first` meets its contract, by the laws of a walk over records. Assumes nothing.
-use Prim.Native.Nat.{_-_}
-use mathlib.Core.Path.{sym, _∙_}
-use lib.ListN.{length}
-use Rattle.lists.specs.Lists.{any}
-use Rattle.table.specs.Layout.{sequences}
+-- `rule_5::rule5::any_first` meets its contract: no sequence before the start of the search starts with c. Assumes nothing.
+use mathlib.Core.Path.{_∙_}
 use Rattle.soundness.specs.Sequences.{startsWith}
-use Rattle.sound_parts.proofs.Walks.{Through, through-start, sequence-room, sequence-in, sequence-less, sequences-found, sequences-missed, sequences-last}
-use native.Mathlib.Omega.{arith}
+use Rattle.sound_parts.proofs.Walks.{tail-is}
+use Rattle.rule_4.proofs.SortedLaws.{avoided-first, sought-hold, sought-steady, sought-any}
+use borrow.Author.Needs.{needs}
 use Rattle.rule_5.proofs.rule5.any_first.Statement.{statement}
 use Rattle.rule_5.proofs.rule5.any_first.Tie as tie
 
-abbrev Inv-loop : tie.InvT-loop
-Inv-loop part c i₀ i = Through (any (startsWith c)) sequences part i
+seek-requires : tie.Need-seek-requires
+seek-requires c κs = search needs
 
-abbrev μ-loop : tie.MeasureT-loop
-μ-loop part c i₀ i = length part - i
+mul-first-in : tie.Need-mul-first-in
+mul-first-in c = search needs
 
-loop-holds : tie.Need-loop-holds Inv-loop μ-loop
-loop-holds c = through-start _ _ _ (c .before .pre)
+sub-first-in : tie.Need-sub-first-in
+sub-first-in c = search needs
 
-counted-requires : tie.Need-counted-requires Inv-loop μ-loop
-counted-requires c κs = sequence-room _ _ (c .before .loop .i) (c .before .loop .inv) (c .loop-test .taken)
+part-first-in-start : tie.Need-part-first-in-start
+part-first-in-start c = search needs
 
-starts-with-of-requires : tie.Need-starts-with-of-requires Inv-loop μ-loop
-starts-with-of-requires c κs =
-    sequence-in _ _ (c .before .before .loop .i) (c .before .before .loop .inv) (c .before .loop-test .taken) (c .counted .result) (c .counted .ensures)
+part-first-in-end : tie.Need-part-first-in-end
+part-first-in-end c = search needs
 
-returns : tie.Need-returns Inv-loop μ-loop
+first-in-requires : tie.Need-first-in-requires
+first-in-requires c κs =
+    let entry = c .before .before .before .before .before in
+    let x = entry .args .c in
+    let seek′ = c .before .seek in (
+      rw (tail-is _ _) (sought-hold (startsWith x) x (avoided-first x) _ _ (seek′ .ensures)),
+      λ g. rw (tail-is _ _) (sought-steady (startsWith x) x (avoided-first x) _ _ (seek′ .ensures) (entry .pre .1 .firsts g)),
+    )
+
+returns : tie.Need-returns
 returns c =
-    sequences-found (startsWith (c .before .before .before .before .before .before .args .c)) _ (c .before .before .before .before .loop .i) (c .before .before .before .before .loop .inv) (c .before .before .before .loop-test .taken) (c .before .before .counted .result) (c .before .before .counted .ensures) (sym (c .before .starts-with-of .ensures) ∙ c .if1 .taken)
-
-loop-less : tie.Need-loop-less Inv-loop μ-loop
-loop-less c =
-    omega (arith, sequence-less _ _ (c .before .before .before .before .loop .i) (c .before .before .before .before .loop .inv) (c .before .before .before .loop-test .taken) (c .before .before .counted .result) (c .before .before .counted .ensures))
-
-loop-again : tie.Need-loop-again Inv-loop μ-loop
-loop-again c =
-    sequences-missed (startsWith (c .before .before .before .before .before .before .args .c)) _ (c .before .before .before .before .loop .i) (c .before .before .before .before .loop .inv) (c .before .before .before .loop-test .taken) (c .before .before .counted .result) (c .before .before .counted .ensures) (sym (c .before .starts-with-of .ensures) ∙ c .if1 .left)
-
-returns-2 : tie.Need-returns-2 Inv-loop μ-loop
-returns-2 c = sequences-last _ _ (c .before .loop .i) (c .before .loop .inv) (c .loop-test .left)
+    let x = c .before .before .before .before .before .before .args .c in
+    (rw (tail-is _ _) at (c .first-in .ensures)) ∙ sought-any (startsWith x) x (avoided-first x) _ _ (c .before .before .seek .ensures)
 
 pub any-first-spec : {M : Type 1} → statement M
 any-first-spec =
     tie.close
     (tie.spec
-    Inv-loop
-    μ-loop
-    loop-holds
-    counted-requires
-    starts-with-of-requires
-    returns
-    loop-less
-    loop-again
-    returns-2)
+    seek-requires
+    mul-first-in
+    sub-first-in
+    part-first-in-start
+    part-first-in-end
+    first-in-requires
+    returns)

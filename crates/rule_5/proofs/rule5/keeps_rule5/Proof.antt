@@ -7,7 +7,7 @@ use Rattle.rule_5.proofs.rule5.keeps_rule5.Statement.{statement}
 use Rattle.rule_5.proofs.rule5.keeps_rule5.Tie as tie
 
 sequences-apart-of-requires : tie.Need-sequences-apart-of-requires
-sequences-apart-of-requires c κs = (c .before .pre, (laid-fits _ _ (c .before .pre) .emoji, emoji-part _ _ (c .before .pre)))
+sequences-apart-of-requires c κs = (c .before .pre, (laid-fits _ _ (c .before .pre) .emoji, record { words = emoji-part _ _ (c .before .pre); known = c .before .pre .known .emoji }))
 
 returns : tie.Need-returns
 returns c = c .sequences-apart-of .ensures ∙ rule5-is _ _ (emoji-part _ _ (c .before .before .pre))

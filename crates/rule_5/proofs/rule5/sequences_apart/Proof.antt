@@ -19,7 +19,7 @@ abbrev μ-loop : tie.MeasureT-loop
 μ-loop words ix emoji i₀ i = length emoji - i
 
 loop-holds : tie.Need-loop-holds Inv-loop μ-loop
-loop-holds c = through-start _ _ _ (c .before .before .pre .1 .holds)
+loop-holds c = through-start _ _ _ (c .before .before .pre .1 .words .holds)
 
 counted-requires : tie.Need-counted-requires Inv-loop μ-loop
 counted-requires c κs = sequence-room _ _ (c .before .loop .i) (c .before .loop .inv) (c .loop-test .taken)

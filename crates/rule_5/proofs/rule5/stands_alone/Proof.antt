@@ -5,13 +5,15 @@ use Rattle.rule_5.proofs.ApartLaws.{stripped-is}
 use Rattle.rule_5.proofs.rule5.stands_alone.Statement.{statement}
 use Rattle.rule_5.proofs.rule5.stands_alone.Tie as tie
 
-any-same-requires : tie.Need-any-same-requires
-any-same-requires c κs = c .before .before .before .pre .1 .holds
+is-sequence-requires : tie.Need-is-sequence-requires
+is-sequence-requires c κs =
+    let known′ = c .before .before .before .pre .1 in
+    (known′ .words .holds, known′ .known)
 
 returns : tie.Need-returns
 unfolding standsAlone
 returns c =
-    rw (sym (stripped-is _ _ (c .before .before .before .before .before .pre .1) _) ∙ sym (c .before .any-same .ensures) ∙ c .if1 .taken)
+    rw (sym (stripped-is _ _ (c .before .before .before .before .before .pre .1 .words) _) ∙ sym (c .before .is-sequence .ensures) ∙ c .if1 .taken)
 
 one-valid-requires : tie.Need-one-valid-requires
 one-valid-requires c κs = c .before .before .before .before .before .pre .0
@@ -19,7 +21,7 @@ one-valid-requires c κs = c .before .before .before .before .before .pre .0
 returns-2 : tie.Need-returns-2
 unfolding standsAlone
 returns-2 c =
-    rw (sym (stripped-is _ _ (c .before .before .before .before .before .before .pre .1) _) ∙ sym (c .before .before .any-same .ensures) ∙ c .before .if1 .left) (c .one-valid .ensures)
+    rw (sym (stripped-is _ _ (c .before .before .before .before .before .before .pre .1 .words) _) ∙ sym (c .before .before .is-sequence .ensures) ∙ c .before .if1 .left) (c .one-valid .ensures)
 
 pub stands-alone-spec : {M : Type 1} → statement M
-stands-alone-spec = tie.close (tie.spec any-same-requires returns one-valid-requires returns-2)
+stands-alone-spec = tie.close (tie.spec is-sequence-requires returns one-valid-requires returns-2)

@@ -5,7 +5,7 @@ use mathlib.Core.Path.{sym, _∙_}
 use borrow.Author.Tests.{not-true, not-false}
 use Rattle.sections.proofs.SectionLaws.{laid-fits, laid-reads}
 use Rattle.sound_parts.proofs.SectionsHold.{decompositions-hold, decompositions-are}
-use Rattle.rule_6.specs.Heads.{sparesTriple}
+use Rattle.sound_parts.specs.Parts.{sparesTriple}
 use Rattle.sound_parts.proofs.Walks.{triples-all}
 use Rattle.rule_6.proofs.HeadLaws.{rule6-is}
 use Rattle.rule_6.proofs.rule6.keeps_rule6.Statement.{statement}

@@ -33,8 +33,19 @@ scalar-pairs-of-requires c κs = laid-fits _ _ (c .before .before .before .befor
 
 returns-4 : tie.Need-returns-4
 returns-4 c =
-    rw (rule1-parts _, sym (c .before .before .before .before .before .before .scalar-ranges .ensures) ∙ not-false _ (c .before .before .before .before .before .if1 .left), sym (c .before .before .before .before .scalar-records .ensures) ∙ not-false _ (c .before .before .before .if2 .left), sym (c .before .before .scalar-others .ensures) ∙ not-false _ (c .before .if3 .left))
-    (c .scalar-pairs-of .ensures ∙ pairs-all scalarsBetween _ _ (laid-reads _ _ (c .before .before .before .before .before .before .before .before .pre) .escape))
+    let l = c .before .before .before .before .before .before .before .before .before .pre in
+    let escape = c .before .scalar-pairs-of .ensures ∙ pairs-all scalarsBetween _ _ (laid-reads _ _ l .escape) in
+    rw (rule1-parts _, sym (c .before .before .before .before .before .before .before .scalar-ranges .ensures) ∙ not-false _ (c .before .before .before .before .before .before .if1 .left), sym (c .before .before .before .before .before .scalar-records .ensures) ∙ not-false _ (c .before .before .before .before .if2 .left), sym (c .before .before .before .scalar-others .ensures) ∙ not-false _ (c .before .before .if3 .left), sym escape ∙ not-true _ (c .if4 .taken))
+
+scalar-pairs-of-requires-2 : tie.Need-scalar-pairs-of-requires-2
+scalar-pairs-of-requires-2 c κs = laid-fits _ _ (c .before .before .before .before .before .before .before .before .before .pre) .quick
+
+returns-5 : tie.Need-returns-5
+returns-5 c =
+    let l = c .before .before .before .before .before .before .before .before .before .before .pre in
+    let escape = c .before .before .scalar-pairs-of .ensures ∙ pairs-all scalarsBetween _ _ (laid-reads _ _ l .escape) in
+    rw (rule1-parts _, sym (c .before .before .before .before .before .before .before .before .scalar-ranges .ensures) ∙ not-false _ (c .before .before .before .before .before .before .before .if1 .left), sym (c .before .before .before .before .before .before .scalar-records .ensures) ∙ not-false _ (c .before .before .before .before .before .if2 .left), sym (c .before .before .before .before .scalar-others .ensures) ∙ not-false _ (c .before .before .before .if3 .left), sym escape ∙ not-false _ (c .before .if4 .left))
+    (c .scalar-pairs-of2 .ensures ∙ pairs-all scalarsBetween _ _ (laid-reads _ _ l .quick))
 
 pub keeps-rule1-spec : {M : Type 1} → statement M
 keeps-rule1-spec =
@@ -47,4 +58,6 @@ keeps-rule1-spec =
     scalar-others-requires
     returns-3
     scalar-pairs-of-requires
-    returns-4)
+    returns-4
+    scalar-pairs-of-requires-2
+    returns-5)

@@ -4,11 +4,11 @@ use Rattle.table.proofs.Lookups.{class-found}
 use Rattle.sections.proofs.lookup.class_entry.Statement.{statement}
 use Rattle.sections.proofs.lookup.class_entry.Tie as tie
 
-class-in-of-requires : tie.Need-class-in-of-requires
-class-in-of-requires c κs = laid-fits _ _ (c .before .pre) .classes
+class-section-requires : tie.Need-class-section-requires
+class-section-requires c κs = (laid-fits _ _ (c .before .pre) .classes, c .before .pre .known .classes)
 
 returns : tie.Need-returns
-returns c = class-found _ _ _ _ (laid-reads _ _ (c .before .before .pre) .classes) (c .class-in-of .ensures)
+returns c = class-found _ _ _ _ (laid-reads _ _ (c .before .before .pre) .classes) (c .class-section .ensures)
 
 pub class-entry-spec : {M : Type 1} → statement M
-class-entry-spec = tie.close (tie.spec class-in-of-requires returns)
+class-entry-spec = tie.close (tie.spec class-section-requires returns)

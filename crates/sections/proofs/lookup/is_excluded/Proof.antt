@@ -11,11 +11,11 @@ add-t6 c =
     let x = laid-excluded _ _ l in
     omega (arith, x .some-left, x .fits .inside, laid-small _ _ l)
 
-mem-in-of-requires : tie.Need-mem-in-of-requires
-mem-in-of-requires c κs = laid-excluded _ _ (c .before .before .before .pre) .fits
+mem-section-requires : tie.Need-mem-section-requires
+mem-section-requires c κs = let l = c .before .before .before .pre in (laid-excluded _ _ l .fits, l .known .exclusions)
 
 returns : tie.Need-returns
-returns c = rw (← laid-excluded _ _ (c .before .before .before .before .pre) .same) (c .mem-in-of .ensures)
+returns c = rw (← laid-excluded _ _ (c .before .before .before .before .pre) .same) (c .mem-section .ensures)
 
 pub is-excluded-spec : {M : Type 1} → statement M
-is-excluded-spec = tie.close (tie.spec add-t6 mem-in-of-requires returns)
+is-excluded-spec = tie.close (tie.spec add-t6 mem-section-requires returns)

@@ -5,11 +5,11 @@ use Rattle.table.proofs.Lookups.{pairs-ranges}
 use Rattle.sections.proofs.lookup.is_ignored.Statement.{statement}
 use Rattle.sections.proofs.lookup.is_ignored.Tie as tie
 
-in-pairs-of-requires : tie.Need-in-pairs-of-requires
-in-pairs-of-requires c κs = laid-fits _ _ (c .before .pre) .ignored
+in-section-requires : tie.Need-in-section-requires
+in-section-requires c κs = (laid-fits _ _ (c .before .pre) .ignored, c .before .pre .known .ignored)
 
 returns : tie.Need-returns
-returns c = c .in-pairs-of .ensures ∙ pairs-ranges _ _ _ (laid-reads _ _ (c .before .before .pre) .ignored)
+returns c = c .in-section .ensures ∙ pairs-ranges _ _ _ (laid-reads _ _ (c .before .before .pre) .ignored)
 
 pub is-ignored-spec : {M : Type 1} → statement M
-is-ignored-spec = tie.close (tie.spec in-pairs-of-requires returns)
+is-ignored-spec = tie.close (tie.spec in-section-requires returns)

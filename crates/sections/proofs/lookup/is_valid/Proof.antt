@@ -5,11 +5,11 @@ use Rattle.table.proofs.Lookups.{pairs-ranges}
 use Rattle.sections.proofs.lookup.is_valid.Statement.{statement}
 use Rattle.sections.proofs.lookup.is_valid.Tie as tie
 
-in-pairs-of-requires : tie.Need-in-pairs-of-requires
-in-pairs-of-requires c κs = laid-fits _ _ (c .before .pre) .valid
+in-section-requires : tie.Need-in-section-requires
+in-section-requires c κs = (laid-fits _ _ (c .before .pre) .valid, c .before .pre .known .valid)
 
 returns : tie.Need-returns
-returns c = c .in-pairs-of .ensures ∙ pairs-ranges _ _ _ (laid-reads _ _ (c .before .before .pre) .valid)
+returns c = c .in-section .ensures ∙ pairs-ranges _ _ _ (laid-reads _ _ (c .before .before .pre) .valid)
 
 pub is-valid-spec : {M : Type 1} → statement M
-is-valid-spec = tie.close (tie.spec in-pairs-of-requires returns)
+is-valid-spec = tie.close (tie.spec in-section-requires returns)

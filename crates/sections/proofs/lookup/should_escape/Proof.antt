@@ -5,11 +5,11 @@ use Rattle.table.proofs.Lookups.{pairs-ranges}
 use Rattle.sections.proofs.lookup.should_escape.Statement.{statement}
 use Rattle.sections.proofs.lookup.should_escape.Tie as tie
 
-in-pairs-of-requires : tie.Need-in-pairs-of-requires
-in-pairs-of-requires c κs = laid-fits _ _ (c .before .pre) .escape
+in-section-requires : tie.Need-in-section-requires
+in-section-requires c κs = (laid-fits _ _ (c .before .pre) .escape, c .before .pre .known .escape)
 
 returns : tie.Need-returns
-returns c = c .in-pairs-of .ensures ∙ pairs-ranges _ _ _ (laid-reads _ _ (c .before .before .pre) .escape)
+returns c = c .in-section .ensures ∙ pairs-ranges _ _ _ (laid-reads _ _ (c .before .before .pre) .escape)
 
 pub should-escape-spec : {M : Type 1} → statement M
-should-escape-spec = tie.close (tie.spec in-pairs-of-requires returns)
+should-escape-spec = tie.close (tie.spec in-section-requires returns)

@@ -1,0 +1,4 @@
+pub mod Rising
+pub mod MarkLaws
+pub mod Passing
+pub mod Searching

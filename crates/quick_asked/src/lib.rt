@@ -1,0 +1,35 @@
+// Whether a call leaves text that needs no NFC as it is: rules 6 to 8 are looked for where the input is so long that this saves more than the
+// look costs.
+use quick_found::finds;
+use sections::Sections;
+use unpaired::QUICK_PLACE;
+use unpaired::put_bit;
+ghost use mathlib.Core.Path.{_≡_};
+ghost use mathlib.Core.Bool.{true};
+ghost use mathlib.Core.Logic.{_⊎_};
+ghost use Rattle.bit_sets.specs.Sets.{has};
+ghost use Rattle.sections.specs.Laid.{Laid};
+ghost use Rattle.table.specs.Layout.{theTable};
+ghost use Rattle.rule8_laws.specs.Found.{RulesHold};
+ghost use Rattle.unpaired.specs.Unpaired.{pairPlaces, Unpaired};
+
+// The shortest input for which they are looked for.
+const QUICK_FROM: usize = 512;
+
+// Notes that rules 6 to 8 hold, if they are found to, for an input of n codepoints. 02, Item 11: "only where the set isn't empty and that pass
+// found rules 6 to 8 to hold".
+pub fn ask(words: &[u32], ix: Sections, unpaired: &mut [u32], n: usize)
+    requires { ⌜ Laid (now words) ix ⌝ }
+    requires { ⌜ Unpaired (theTable (now words)) (now unpaired) ⌝ }
+    ensures { λ _. ⌜ Unpaired (theTable (now (words .entry))) (now (unpaired .exit)) ⌝ }
+    ensures { λ _. ⌜ (has (now (unpaired .exit)) pairPlaces ≡ true
+        → (has (now (unpaired .entry)) pairPlaces ≡ true) ⊎ RulesHold (theTable (now (words .entry)))) ⌝ }
+{
+    if n < QUICK_FROM {
+        return;
+    }
+    if !finds(words, ix) {
+        return;
+    }
+    put_bit(unpaired, QUICK_PLACE);
+}

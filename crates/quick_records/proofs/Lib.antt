@@ -1,0 +1,2 @@
+pub mod SecondLaws
+pub mod FitLaws

@@ -1,0 +1,18 @@
+-- `rule_4::rule4::first_of` meets its contract. Assumes nothing.
+use denote.Ref.{now}
+use Rattle.rule_4.proofs.StripLaws.{first-none}
+use borrow.Author.Needs.{needs}
+use Rattle.rule_4.proofs.rule4.first_of.Statement.{statement}
+use Rattle.rule_4.proofs.rule4.first_of.Tie as tie
+
+returns : tie.Need-returns
+returns c = first-none (now (c .before .args .items)) (c .if1 .taken)
+
+shared-slice-read-result : tie.Need-shared-slice-read-result
+shared-slice-read-result c = search needs
+
+returns-2 : tie.Need-returns-2
+returns-2 c = search needs
+
+pub first-of-spec : {M : Type 1} → statement M
+first-of-spec = tie.close (tie.spec returns shared-slice-read-result returns-2)

@@ -1,0 +1,4 @@
+pub mod RecordLaws
+pub mod PassLaws
+pub mod RunLaws
+pub mod SetLaws

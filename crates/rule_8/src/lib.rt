@@ -1,0 +1,2 @@
+// Rule 8 of the soundness check.
+pub mod rule8;

@@ -1,0 +1,275 @@
+-- Laws of making the index, and of asking it. Assumes nothing.
+use Prim.Native.Nat.{ℕ, zero, suc, _+_, _*_, _/_, _%_, _≤_, _<_}
+use native.Mathlib.Omega.{arith}
+use mathlib.Core.Path.{_≡_, refl, sym, ap, subst, _∙_}
+use mathlib.Core.Logic.{_⊎_, inl, inr}
+use mathlib.Core.Bool.{Bool, true, false, false≢true, cond}
+use mathlib.Core.List.{List, [], _∷_, _++_, append-nil, append-assoc}
+use mathlib.Core.Option.{Option, none, some}
+use lib.ListN.{length, getD, set, drop, replicate, length-set, length-take, length-drop, length-replicate}
+use lib.Seq.{getD-set-same, getD-set-other, getD-take, getD-drop}
+use lib.Dec.{eqb}
+use borrow.Author.Tests.{eq-eqb, eqb-true, eqb-false}
+use Rattle.lists.specs.Lists.{isSome}
+use Rattle.bit_sets.specs.Sets.{has}
+use Rattle.bit_sets.proofs.PutLaws.{empty-has}
+use Rattle.table.specs.Table.{Table, Headed}
+use Rattle.table.specs.Layout.{mostParts, headed}
+use Rattle.table.specs.Part.{recordsIn, HeadedAt, HeadedHere}
+use Rattle.table.proofs.Records.{records-start, headed-step, headed-end}
+use Rattle.unpaired.specs.Index.{bitWords, knownWords, madePlace, secondsPlace, secondPlace, slotPlace, startOf, stopOf, widened, wordsOf, partRecords, EachFrom, Listed, Entered, Slot, StandsIn, Bounds, BitPut, Enters, Filled}
+use Rattle.unpaired.specs.Unpaired.{Unpaired}
+use Rattle.unpaired.proofs.Places.{words-append, each-map, each-below, each-more}
+use Rattle.unpaired.proofs.Noting.{bit-kept, bit-second}
+
+-- what a slot says once it says a place too
+module _ (v i : ℕ) (small : i < 65535) where
+  pub widened-stop : stopOf (widened v i) ≡ i + 1
+  widened-stop = go (eqb v 0)
+    where
+      go : (b : Bool) → stopOf (cond b ((i + 1) * 65536 + i) ((i + 1) * 65536 + v % 65536)) ≡ i + 1
+      go true = omega arith
+      go false = omega arith
+
+  -- it starts where it did, or at the place
+  pub widened-start : ((v ≡ 0) × (startOf (widened v i) ≡ i)) ⊎ (startOf (widened v i) ≡ startOf v)
+  widened-start = go (eqb v 0) refl
+    where
+      go : (b : Bool) → eqb v 0 ≡ b
+          → ((v ≡ 0) × (startOf (cond b ((i + 1) * 65536 + i) ((i + 1) * 65536 + v % 65536)) ≡ i))
+          ⊎ (startOf (cond b ((i + 1) * 65536 + i) ((i + 1) * 65536 + v % 65536)) ≡ startOf v)
+      go true e = inl (eqb-true v 0 e, omega arith)
+      go false e = inr (omega arith)
+
+-- no record, or none of two items, is put into the index
+pub enters-none : (part old : List ℕ) (n i : ℕ) → (n ≡ 2 → ⊥) → Enters part old old n i
+enters-none part old n i h =
+    record {
+      room = refl;
+      bits = λ d k. refl;
+      seconds = λ b k. k;
+      slots = λ k l. inl refl;
+      second = λ e. absurd (h e);
+      slot = λ e. absurd (h e);
+    }
+
+-- one of two items is
+module _ (part old mid : List ℕ) (n i a b : ℕ) (size : length old ≡ knownWords) (e : a ≡ getD part (i + 2) 0) (f : b ≡ getD part (i + 3) 0) (p : BitPut old mid (secondPlace b)) where
+  pub enters-two : (k v w : ℕ) → k ≡ slotPlace a b → v ≡ getD mid k 0 → w ≡ widened v i → Enters part old (set mid k w) n i
+  unfolding has
+  enters-two k v w ke ve we =
+      record {
+        room = length-set mid k w ∙ p .room;
+        bits = λ d h. bit d (omega arith) ∙ bit-kept old mid (secondPlace b) p d (omega arith) (λ q. omega arith);
+        seconds = λ c h. bit (secondPlace c) (omega arith) ∙ bit-second old mid (secondPlace b) p c h;
+        slots = λ j h. go j h (eqb j k) refl;
+        second = λ h. rw (← f) (bit (secondPlace b) (omega arith) ∙ p .each (secondPlace b) (omega arith) ∙ rw (eq-eqb (secondPlace b) (secondPlace b) refl));
+        slot = λ h. rw (← e, ← f, ← ke) (same k refl);
+      }
+    where
+      bit : (d : ℕ) → d < bitWords * 32 → has (set mid k w) d ≡ has mid d
+      bit d h = rw (getD-set-other mid k (d / 32) w 0 (λ q. omega arith))
+
+      same : (j : ℕ) → j ≡ k → getD (set mid k w) k 0 ≡ widened (getD old k 0) i
+      same j q = getD-set-same mid k w 0 (omega (arith, p .room)) ∙ we ∙ ap (λ (x : ℕ). widened x i) (ve ∙ p .slots k (omega arith))
+
+      go : (j : ℕ) → bitWords ≤ j → (c : Bool) → eqb j k ≡ c → (getD (set mid k w) j 0 ≡ getD old j 0) ⊎ (getD (set mid k w) j 0 ≡ widened (getD old j 0) i)
+      go j h true q = let s : j ≡ k = eqb-true j k q in inr (rw s (same j s))
+      go j h false q = inl (getD-set-other mid k j w 0 (eqb-false j k q) ∙ p .slots j h)
+
+-- what the walk over the records keeps: those before `at` are in the index
+pub record Entering (part set : List ℕ) (at : ℕ) : Type 0 where
+  pub before : List Headed
+  pub left : List Headed
+  pub split : partRecords part ≡ before ++ left
+  pub place : wordsOf before ≡ at
+  pub walk : HeadedAt mostParts part at left
+  pub size : length set ≡ knownWords
+  pub clear : (d : ℕ) → d < secondsPlace → has set d ≡ false
+  pub each : EachFrom (Entered set) 0 before
+  pub slots : (k : ℕ) → bitWords ≤ k → Slot (partRecords part) at (getD set k 0)
+
+pub entering-start : (part set : List ℕ) → isSome (headed (length part) mostParts part) ≡ true → set ≡ replicate knownWords 0 → Entering part set 0
+unfolding EachFrom wordsOf recordsIn
+entering-start part set h e = go (headed (length part) mostParts part) refl h
+  where
+    all-zero : (n i : ℕ) → _≡_ {A = ℕ} (getD (replicate n 0) i 0) 0
+    all-zero zero i = refl
+    all-zero (suc n) zero = refl
+    all-zero (suc n) (suc i) = all-zero n i
+
+    zeros : (i : ℕ) → _≡_ {A = ℕ} (getD set i 0) 0
+    zeros i = ap (λ (l : List ℕ). getD l i 0) e ∙ all-zero knownWords i
+
+    go : (o : Option (List Headed)) → headed (length part) mostParts part ≡ o → isSome o ≡ true → Entering part set 0
+    go none f i = absurd (false≢true i)
+    go (some xs) f i =
+        record {
+          before = [];
+          left = xs;
+          split = rw f;
+          place = refl;
+          walk = records-start (λ k. headed k mostParts) part xs f;
+          size = ap (λ (l : List ℕ). length l) e ∙ length-replicate {A = ℕ} knownWords 0;
+          clear = λ d k. rw e (empty-has knownWords d);
+          each = tt;
+          slots = λ k l. rw (zeros k) (record { start = record { before = []; left = partRecords part; split = refl; place = refl }; low = omega arith; stop = omega arith });
+        }
+
+module _ (part set : List ℕ) (at : ℕ) (w : Entering part set at) where
+  pub entering-here : at < length part → HeadedHere mostParts part at (w .left)
+  entering-here h = headed-step mostParts part at (w .left) (w .walk) h
+
+  pub entering-stop : length part ≤ at → Filled (partRecords part) set
+  entering-stop h =
+      let all : partRecords part ≡ w .before = w .split ∙ ap (λ (l : List Headed). w .before ++ l) (headed-end mostParts part at (w .left) (w .walk) h) ∙ append-nil (w .before) in
+      let end : at ≡ wordsOf (partRecords part) = sym (w .place) ∙ ap wordsOf (sym all) in
+      record {
+        size = w .size;
+        clear = w .clear;
+        index = record {
+          each = subst (λ (l : List Headed). EachFrom (Entered set) 0 l) (sym all) (w .each);
+          slots = λ k l. subst (λ (n : ℕ). Slot (partRecords part) n (getD set k 0)) end (w .slots k l);
+        };
+      }
+
+  -- the record at the place is put into the index
+  module _ (new : List ℕ) (more : at < length part) (small : at < 65535) (p : Enters part set new (getD part (at + 1) 0) at) where
+    here : HeadedHere mostParts part at (w .left)
+    here = entering-here more
+
+    split-here : partRecords part ≡ w .before ++ here .first ∷ here .rest
+    split-here = w .split ∙ ap (λ (l : List Headed). w .before ++ l) (here .split)
+
+    count : length (here .first .items) ≡ getD part (at + 1) 0
+    count = ap (λ (l : List ℕ). length l) (here .items) ∙ simp (length-take, length-drop) (omega (arith, here .fits))
+
+    -- a slot says no less than before
+    slot-more : (k : ℕ) → bitWords ≤ k → Slot (partRecords part) (at + 1) (getD new k 0)
+    slot-more k l = go (p .slots k l)
+      where
+        old : Slot (partRecords part) at (getD set k 0)
+        old = w .slots k l
+
+        go : (getD new k 0 ≡ getD set k 0) ⊎ (getD new k 0 ≡ widened (getD set k 0) at) → Slot (partRecords part) (at + 1) (getD new k 0)
+        go (inl e) = rw e (record { start = old .start; low = omega (arith, old .low); stop = omega (arith, old .stop) })
+        go (inr e) = rw e (wide (widened-start (getD set k 0) at small))
+          where
+            wide : ((getD set k 0 ≡ 0) × (startOf (widened (getD set k 0) at) ≡ at)) ⊎ (startOf (widened (getD set k 0) at) ≡ startOf (getD set k 0))
+                → Slot (partRecords part) (at + 1) (widened (getD set k 0) at)
+            wide (inl f) =
+                record {
+                  start = record { before = w .before; left = here .first ∷ here .rest; split = split-here; place = w .place ∙ sym (f .1) };
+                  low = omega (arith, f .1);
+                  stop = omega (arith, widened-stop (getD set k 0) at small);
+                }
+            wide (inr f) =
+                record {
+                  start = rw f (old .start);
+                  low = omega (arith, f, old .low);
+                  stop = omega (arith, widened-stop (getD set k 0) at small);
+                }
+
+    -- and a record stays in the index
+    kept : (q : ℕ) (x : Headed) → Entered set q x → Entered new q x
+    kept q x e a b items = go (p .slots (slotPlace a b) (omega arith))
+      where
+        was : Listed set q a b
+        was = e a b items
+
+        go : (getD new (slotPlace a b) 0 ≡ getD set (slotPlace a b) 0) ⊎ (getD new (slotPlace a b) 0 ≡ widened (getD set (slotPlace a b) 0) at) → Listed new q a b
+        go (inl f) = record { second = p .seconds b (was .second); from = rw f (was .from); below = rw f (was .below) }
+        go (inr f) = wide (widened-start (getD set (slotPlace a b) 0) at small)
+          where
+            old : Slot (partRecords part) at (getD set (slotPlace a b) 0)
+            old = w .slots (slotPlace a b) (omega arith)
+
+            wide : ((getD set (slotPlace a b) 0 ≡ 0) × (startOf (widened (getD set (slotPlace a b) 0) at) ≡ at))
+                ⊎ (startOf (widened (getD set (slotPlace a b) 0) at) ≡ startOf (getD set (slotPlace a b) 0)) → Listed new q a b
+            wide (inl g) = absurd (omega (arith, was .below, g .0))
+            wide (inr g) =
+                record {
+                  second = p .seconds b (was .second);
+                  from = rw (f, g) (was .from);
+                  below = rw f (omega (arith, was .below, old .stop, widened-stop (getD set (slotPlace a b) 0) at small));
+                }
+
+    -- the record at the place is in it
+    entered : Entered new at (here .first)
+    entered a b items = go (widened-start (getD set (slotPlace a b) 0) at small)
+      where
+        two : getD part (at + 1) 0 ≡ 2
+        two = sym count ∙ ap (λ (l : List ℕ). length l) items
+
+        word : (j : ℕ) → j < 2 → getD part (at + 2 + j) 0 ≡ getD (here .first .items) j 0
+        word j h = sym (ap (λ (l : List ℕ). getD l j 0) (here .items) ∙ getD-take (getD part (at + 1) 0) (drop (at + 2) part) j 0 (omega (arith, two)) ∙ getD-drop (at + 2) part j 0)
+
+        first : getD part (at + 2) 0 ≡ a
+        first = let z : at + 2 + 0 ≡ at + 2 = omega arith in rw z at (word 0 (omega arith) ∙ ap (λ (l : List ℕ). getD l 0 0) items)
+
+        second : getD part (at + 3) 0 ≡ b
+        second = let z : at + 2 + 1 ≡ at + 3 = omega arith in rw z at (word 1 (omega arith) ∙ ap (λ (l : List ℕ). getD l 1 0) items)
+
+        slot : getD new (slotPlace a b) 0 ≡ widened (getD set (slotPlace a b) 0) at
+        slot = rw (first, second) at (p .slot two)
+
+        old : Slot (partRecords part) at (getD set (slotPlace a b) 0)
+        old = w .slots (slotPlace a b) (omega arith)
+
+        stop : at < stopOf (getD new (slotPlace a b) 0)
+        stop = rw slot (omega (arith, widened-stop (getD set (slotPlace a b) 0) at small))
+
+        go : ((getD set (slotPlace a b) 0 ≡ 0) × (startOf (widened (getD set (slotPlace a b) 0) at) ≡ at))
+            ⊎ (startOf (widened (getD set (slotPlace a b) 0) at) ≡ startOf (getD set (slotPlace a b) 0)) → Listed new at a b
+        go (inl g) = record { second = rw second at (p .second two); from = rw slot (omega (arith, g .1)); below = stop }
+        go (inr g) = record { second = rw second at (p .second two); from = rw slot (omega (arith, g, old .low)); below = stop }
+
+    pub entering-on : (next : ℕ) → next ≡ at + 2 + getD part (at + 1) 0 → Entering part new next
+    unfolding wordsOf
+    entering-on next e =
+        record {
+          before = w .before ++ here .first ∷ [];
+          left = here .rest;
+          split = split-here ∙ sym (append-assoc (w .before) (here .first ∷ []) (here .rest));
+          place = words-append (w .before) (here .first ∷ []) ∙ omega (arith, w .place, count, e);
+          walk = rw e (here .next);
+          size = p .room ∙ w .size;
+          clear = λ d h. p .bits d h ∙ w .clear d h;
+          each = each-more (Entered new) 0 (w .before) (here .first) (each-map (Entered set) (Entered new) kept 0 (w .before) (w .each)) (rw z entered);
+          slots = λ k l. let s = slot-more k l in record { start = s .start; low = omega (arith, s .low, e); stop = omega (arith, s .stop, e) };
+        }
+      where
+        z : 0 + wordsOf (w .before) ≡ at
+        z = omega (arith, w .place)
+
+-- what the index says of two items, once it is made
+module _ (t : Table) (set : List ℕ) (a b : ℕ) (u : Unpaired t set) where
+  -- where it is not made
+  pub bounds-all : (len : ℕ) → wordsOf (t .decompositions) ≡ len → Bounds (t .decompositions) a b (record { from = 0; to = len })
+  unfolding wordsOf
+  bounds-all len e =
+      record {
+        start = record { before = []; left = t .decompositions; split = refl; place = refl };
+        stop = omega (arith, e);
+        each = each-below (StandsIn (record { from = 0; to = len }) a b) len 0 (t .decompositions) (omega (arith, e)) (λ p x h i. (omega arith, h));
+      }
+
+  module _ (made : has set madePlace ≡ true) where
+    -- where no record has the second item
+    pub bounds-none : has set (secondPlace b) ≡ false → Bounds (t .decompositions) a b (record { from = 0; to = 0 })
+    unfolding wordsOf
+    bounds-none e =
+        record {
+          start = record { before = []; left = t .decompositions; split = refl; place = refl };
+          stop = omega arith;
+          each = each-map (Entered set) (StandsIn (record { from = 0; to = 0 }) a b) (λ p x h i. absurd (false≢true (sym e ∙ h a b i .second))) 0 (t .decompositions) (u .index made .each);
+        }
+
+    pub bounds-slot : (k : ℕ) → k ≡ slotPlace a b → Bounds (t .decompositions) a b (record { from = startOf (getD set k 0); to = stopOf (getD set k 0) })
+    bounds-slot k e =
+        let s = u .index made .slots k (omega arith) in
+        record {
+          start = s .start;
+          stop = s .stop;
+          each = each-map (Entered set) (StandsIn (record { from = startOf (getD set k 0); to = stopOf (getD set k 0) }) a b) (λ p x h i. rw e (h a b i .from, h a b i .below)) 0 (t .decompositions) (u .index made .each);
+        }
