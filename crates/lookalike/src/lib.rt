@@ -1,30 +1,41 @@
 // Refusal 14, the look-alike test: whether a text is confusable.
+use confused_set::FILTER_WORDS;
+use confused_set::make_filter;
+use confused_set::whole_by;
 use group_flags::any_set;
 use group_flags::keep_both;
 use group_flags::keep_outside;
 use group_flags::mark_holders;
 use memo::recall;
 use sections::Sections;
-use sections::lookup::whole_of;
 use table::WholeAt;
 ghost use mathlib.Core.Path.{_≡_};
 ghost use lib.ListN.{length, replicate};
 ghost use Rattle.sections.specs.Laid.{Laid};
 ghost use Rattle.table.specs.Layout.{theTable, mostGroups};
 ghost use Rattle.confusable.specs.Confusable as definition;
+ghost use Rattle.confused_set.specs.Filter.{Filter};
 ghost use Rattle.lookalike.specs.Respelling.{Narrowed, Respellings};
 ghost use Rattle.memo.specs.Memo.{Memo};
 
 // Keeps the flags of the groups that can spell c otherwise: hold it, or, where it is confused, hold a member of its whole
 // outside its extent. Answers whether c is confused.
-fn narrow(words: &[u32], ix: Sections, memo: &mut [u32], flags: &mut [u32; 256], c: u32) -> bool
+fn narrow(
+    words: &[u32],
+    ix: Sections,
+    filter: &[u32],
+    memo: &mut [u32],
+    flags: &mut [u32; 256],
+    c: u32,
+) -> bool
     requires { ⌜ Laid (now words) ix ⌝ }
+    requires { ⌜ Filter (theTable (now words) .wholes) (now filter) ⌝ }
     requires { ⌜ Memo (now words) (now memo) ⌝ }
     requires { ⌜ length (now flags) ≡ mostGroups ⌝ }
     ensures { λ r. ⌜ Narrowed (theTable (now (words .entry))) c (now (flags .entry)) (now (flags .exit)) r ⌝ }
     ensures { λ _. ⌜ Memo (now (words .entry)) (now (memo .exit)) ⌝ }
 {
-    let whole = whole_of(words, ix, c);
+    let whole = whole_by(words, ix, filter, c);
     match whole {
         WholeAt::Lists { valid, confused } => {
             let j = recall(words, ix, memo, valid, confused);
@@ -57,10 +68,12 @@ pub fn respellings(
     ensures { λ r. ⌜ Respellings (theTable (now (words .entry))) (now (text .entry)) (now (flags .exit)) r ⌝ }
     ensures { λ _. ⌜ Memo (now (words .entry)) (now (memo .exit)) ⌝ }
 {
+    let mut filter = [0xFFFFFFFF; FILTER_WORDS];
+    make_filter(words, ix, &mut filter, text.len());
     let mut seen = false;
     let mut i: usize = 0;
     while i < text.len() {
-        if narrow(words, ix, memo, flags, text[i]) {
+        if narrow(words, ix, &filter, memo, flags, text[i]) {
             seen = true;
         }
         i += 1;

@@ -59,7 +59,7 @@ unfoldable pub nameResult : List ℕ → ℕ → ℕ → Verdict (List Label) �
 unfolding labelsOf nameAnswer
 nameResult name room work v = resultOf (nameAnswering name) room work v
 
--- 1 to 4, then 5 to 14 and 17 for each label
+-- 1 to 4, then 5 to 14, 16 and 17 for each label
 unfoldable pub nameBefore15 : ℕ → List ℕ → List ℕ → ℕ → Verdict (List Label)
 unfolding admitted labelsOf labelsVerdict
 nameBefore15 setting words name work = next (admitted words work name) (λ t. labelsVerdict setting t 0 0 0 (labelsOf name))

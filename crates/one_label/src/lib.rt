@@ -1,4 +1,4 @@
-// One label, refusals 5 to 14.
+// One label, refusals 5 to 14 and 16.
 use answers::Kind;
 use answers::Refusal;
 use bit_sets::has;

@@ -17,7 +17,7 @@ use Rattle.table.specs.Table.{Table, Headed}
 use Rattle.table.specs.Layout.{mostParts, headed}
 use Rattle.table.specs.Part.{recordsIn, HeadedAt, HeadedHere}
 use Rattle.table.proofs.Records.{records-start, headed-step, headed-end}
-use Rattle.unpaired.specs.Index.{bitWords, knownWords, madePlace, secondsPlace, secondPlace, slotPlace, startOf, stopOf, widened, wordsOf, partRecords, EachFrom, Listed, Entered, Slot, StandsIn, Bounds, BitPut, Enters, Filled}
+use Rattle.unpaired.specs.Index.{bitWords, knownWords, madePlace, secondsPlace, secondPlace, slotPlace, startOf, stopOf, widened, wordsOf, partRecords, EachFrom, Listed, Entered, Slot, StandsIn, Bounds, BitPut, Enters, Entering, Filled}
 use Rattle.unpaired.specs.Unpaired.{Unpaired}
 use Rattle.unpaired.proofs.Places.{words-append, each-map, each-below, each-more}
 use Rattle.unpaired.proofs.Noting.{bit-kept, bit-second}
@@ -76,18 +76,6 @@ module _ (part old mid : List ℕ) (n i a b : ℕ) (size : length old ≡ knownW
       go : (j : ℕ) → bitWords ≤ j → (c : Bool) → eqb j k ≡ c → (getD (set mid k w) j 0 ≡ getD old j 0) ⊎ (getD (set mid k w) j 0 ≡ widened (getD old j 0) i)
       go j h true q = let s : j ≡ k = eqb-true j k q in inr (rw s (same j s))
       go j h false q = inl (getD-set-other mid k j w 0 (eqb-false j k q) ∙ p .slots j h)
-
--- what the walk over the records keeps: those before `at` are in the index
-pub record Entering (part set : List ℕ) (at : ℕ) : Type 0 where
-  pub before : List Headed
-  pub left : List Headed
-  pub split : partRecords part ≡ before ++ left
-  pub place : wordsOf before ≡ at
-  pub walk : HeadedAt mostParts part at left
-  pub size : length set ≡ knownWords
-  pub clear : (d : ℕ) → d < secondsPlace → has set d ≡ false
-  pub each : EachFrom (Entered set) 0 before
-  pub slots : (k : ℕ) → bitWords ≤ k → Slot (partRecords part) at (getD set k 0)
 
 pub entering-start : (part set : List ℕ) → isSome (headed (length part) mostParts part) ≡ true → set ≡ replicate knownWords 0 → Entering part set 0
 unfolding EachFrom wordsOf recordsIn
@@ -241,6 +229,12 @@ module _ (part set : List ℕ) (at : ℕ) (w : Entering part set at) where
       where
         z : 0 + wordsOf (w .before) ≡ at
         z = omega (arith, w .place)
+
+-- the same, where the count is known to be n
+pub entering-run : (part set : List ℕ) (at : ℕ) → Entering part set at → (new : List ℕ) → at < length part → at < 65535 → (n : ℕ) → getD part (at + 1) 0 ≡ n
+    → Enters part set new n at → (next : ℕ) → next ≡ at + 2 + n → Entering part new next
+entering-run part set at w new more small n e p next h =
+    entering-on part set at w new more small (subst (λ (k : ℕ). Enters part set new k at) (sym e) p) next (omega (arith, e, h))
 
 -- what the index says of two items, once it is made
 module _ (t : Table) (set : List ℕ) (a b : ℕ) (u : Unpaired t set) where

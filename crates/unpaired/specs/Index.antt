@@ -10,7 +10,7 @@ use lib.Dec.{eqb}
 use Rattle.bit_sets.specs.Sets.{has}
 use Rattle.table.specs.Table.{Headed}
 use Rattle.table.specs.Layout.{mostParts, headed}
-use Rattle.table.specs.Part.{recordsIn}
+use Rattle.table.specs.Part.{recordsIn, HeadedAt}
 use Rattle.table.specs.declared.Span.{Span}
 
 -- the words of the bits: behind those of the records and two more, one for each of 4,096 classes of second items
@@ -113,6 +113,18 @@ pub record Enters (part old new : List ℕ) (n i : ℕ) : Type 0 where
   pub second : n ≡ 2 → has new (secondPlace (getD part (i + 3) 0)) ≡ true
   pub slot : n ≡ 2
       → getD new (slotPlace (getD part (i + 2) 0) (getD part (i + 3) 0)) 0 ≡ widened (getD old (slotPlace (getD part (i + 2) 0) (getD part (i + 3) 0)) 0) i
+
+-- how a walk stands that has come to `at`: the records before it are in the index, and nothing else is noted
+pub record Entering (part set : List ℕ) (at : ℕ) : Type 0 where
+  pub before : List Headed
+  pub left : List Headed
+  pub split : partRecords part ≡ before ++ left
+  pub place : wordsOf before ≡ at
+  pub walk : HeadedAt mostParts part at left
+  pub size : length set ≡ knownWords
+  pub clear : (d : ℕ) → d < secondsPlace → has set d ≡ false
+  pub each : EachFrom (Entered set) 0 before
+  pub slots : (k : ℕ) → bitWords ≤ k → Slot (partRecords part) at (getD set k 0)
 
 -- the index is made and not said to be, and nothing else is noted
 pub record Filled (rs : List Headed) (set : List ℕ) : Type 0 where

@@ -12,7 +12,7 @@ ghost use Rattle.lists.specs.Lists.{isSome};
 ghost use Rattle.sections.specs.Laid.{Laid};
 ghost use Rattle.table.specs.Table.{Table};
 ghost use Rattle.table.specs.Layout.{mostParts, headed, theTable};
-ghost use Rattle.unpaired.specs.Index.{bitWords, knownWords, slotPlace, widened, wordsOf, Bounds, Enters, Filled, partRecords};
+ghost use Rattle.unpaired.specs.Index.{bitWords, knownWords, slotPlace, widened, wordsOf, partRecords, Bounds, Enters, Entering, Filled};
 ghost use Rattle.unpaired.specs.Unpaired.{Unpaired};
 
 // The bit that says that the index is made, and the first one of second items.
@@ -58,6 +58,23 @@ fn enter(part: &[u32], unpaired: &mut [u32], n: usize, i: usize)
     unpaired[k] = widen(unpaired[k], i as u32);
 }
 
+// Puts the records of n items from `from` on into the index, up to the first of another count. Such records make runs in a table: the place of
+// the next one is then known before the count of this one is read.
+fn enter_run(part: &[u32], unpaired: &mut [u32], n: usize, from: usize) -> usize
+    requires { ⌜ Entering (now part) (now unpaired) from × (length (now part) ≤ 65535) ⌝ }
+    ensures { λ r. ⌜ Entering (now (part .entry)) (now (unpaired .exit)) r × (from ≤ r) ⌝ }
+{
+    let mut i = from;
+    while i < part.len() {
+        if part[i + 1] as usize != n {
+            return i;
+        }
+        enter(part, unpaired, n, i);
+        i += n + 2;
+    }
+    i
+}
+
 // Puts every record of a section into the index.
 fn enter_all(part: &[u32], unpaired: &mut [u32])
     requires { ⌜ (isSome (headed (length (now part)) mostParts (now part)) ≡ true) × (length (now part) ≤ 65535) ⌝ }
@@ -68,7 +85,7 @@ fn enter_all(part: &[u32], unpaired: &mut [u32])
     while i < part.len() {
         let n = part[i + 1] as usize;
         enter(part, unpaired, n, i);
-        i += n + 2;
+        i = enter_run(part, unpaired, n, i + n + 2);
     }
 }
 

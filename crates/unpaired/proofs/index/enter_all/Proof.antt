@@ -1,10 +1,11 @@
 -- `enter_all` meets its contract: the records before `i` are in the index. Assumes nothing.
 use Prim.Native.Nat.{_-_}
 use native.Mathlib.Omega.{arith}
-use mathlib.Core.Path.{_≡_, refl, _∙_}
+use mathlib.Core.Path.{_≡_, refl, sym, _∙_}
 use lib.ListN.{length}
 use borrow.Author.Needs.{needs}
-use Rattle.unpaired.proofs.Entering.{Entering, entering-start, entering-here, entering-on, entering-stop}
+use Rattle.unpaired.specs.Index.{Entering}
+use Rattle.unpaired.proofs.Entering.{entering-start, entering-here, entering-on, entering-stop}
 use Rattle.unpaired.proofs.index.enter_all.Statement.{statement}
 use Rattle.unpaired.proofs.index.enter_all.Tie as tie
 
@@ -31,26 +32,27 @@ cast-n c = omega (arith, entering-here _ _ (c .before .before .loop .i) (c .befo
 
 enter-requires : tie.Need-enter-requires Inv-loop μ-loop
 enter-requires c κs =
-    let s = c .before .before .before .before .before .before in
-    let w = c .before .before .before .loop in
     let h = entering-here _ _ (c .before .before .before .loop .i) (c .before .before .before .loop .inv .0) (c .before .before .loop-test .taken) in
-    ((w .inv .0 .size, omega (arith, h .fits, s .pre .0 .1)), omega (arith, h .fits))
+    ((c .before .before .before .loop .inv .0 .size, omega (arith, h .fits, c .before .before .before .before .before .before .pre .0 .1)), omega (arith, h .fits))
 
-add-i : tie.Need-add-i Inv-loop μ-loop
-add-i c = omega (arith, entering-here _ _ (c .before .before .before .before .before .before .loop .i) (c .before .before .before .before .before .before .loop .inv .0) (c .before .before .before .before .before .loop-test .taken) .high)
+add-enter-run : tie.Need-add-enter-run Inv-loop μ-loop
+add-enter-run c = omega (arith, entering-here _ _ (c .before .before .before .before .before .before .before .loop .i) (c .before .before .before .before .before .before .before .loop .inv .0) (c .before .before .before .before .before .before .loop-test .taken) .fits)
 
-add-i-2 : tie.Need-add-i-2 Inv-loop μ-loop
-add-i-2 c = omega (arith, entering-here _ _ (c .before .before .before .before .before .before .loop .i) (c .before .before .before .before .before .before .loop .inv .0) (c .before .before .before .before .before .loop-test .taken) .fits)
+add-enter-run-2 : tie.Need-add-enter-run-2 Inv-loop μ-loop
+add-enter-run-2 c = omega (arith, entering-here _ _ (c .before .before .before .before .before .before .before .loop .i) (c .before .before .before .before .before .before .before .loop .inv .0) (c .before .before .before .before .before .before .loop-test .taken) .fits)
+
+enter-run-requires : tie.Need-enter-run-requires Inv-loop μ-loop
+enter-run-requires c κs =
+    let w = c .before .before .before .before .before .before .before .loop in
+    let h = c .before .before .before .before .before .before .loop-test .taken in
+    let s = c .before .before .before .before .before .before .before .before .before .before in
+    (entering-on _ _ (w .i) (w .inv .0) _ h (omega (arith, h, s .pre .0 .1)) (c .before .before .before .enter .ensures) _ (omega arith), s .pre .0 .1)
 
 loop-less : tie.Need-loop-less Inv-loop μ-loop
-loop-less c = omega (arith, entering-here _ _ (c .before .before .before .before .before .before .loop .i) (c .before .before .before .before .before .before .loop .inv .0) (c .before .before .before .before .before .loop-test .taken) .fits)
+loop-less c = omega (arith, c .before .before .before .before .before .before .before .before .before .loop-test .taken, c .before .before .enter-run .ensures .1)
 
 loop-again : tie.Need-loop-again Inv-loop μ-loop
-loop-again c =
-    let w = c .before .before .before .before .before .before .loop in
-    let h = c .before .before .before .before .before .loop-test .taken in
-    let p = c .before .before .enter .ensures in
-    (entering-on _ _ (w .i) (w .inv .0) _ h (omega (arith, h, c .before .before .before .before .before .before .before .before .before .pre .0 .1)) p _ (omega arith), p .room ∙ w .inv .1)
+loop-again c = (c .before .before .enter-run .ensures .0, c .before .before .enter-run .ensures .0 .size ∙ sym (c .before .before .before .before .before .before .before .before .before .before .loop .inv .0 .size) ∙ c .before .before .before .before .before .before .before .before .before .before .loop .inv .1)
 
 same-length : tie.Need-same-length Inv-loop μ-loop
 same-length c = c .before .loop .inv .1
@@ -70,8 +72,9 @@ enter-all-spec =
     shared-slice-read-n
     cast-n
     enter-requires
-    add-i
-    add-i-2
+    add-enter-run
+    add-enter-run-2
+    enter-run-requires
     loop-less
     loop-again
     same-length
