@@ -17,7 +17,7 @@ use Rattle.tokens.specs.Scan as scan
 use Rattle.tokens.specs.Scan.{Step}
 use Rattle.laying.specs.declared.Run.{Run}
 use Rattle.laying.specs.Laying.{stepText, laid, Laying, PutAt, EmojiPut}
-use Rattle.laying.proofs.Laying.{four-joins, kept-joins, laid-snoc, laid-none, laid-text, laying-start, laying-empty, laying-text, laying-ignored}
+use Rattle.laying.proofs.LayingLaws.{four-joins, kept-joins, laid-snoc, laid-none, laid-text, laying-start, laying-empty, laying-text, laying-ignored}
 use Rattle.laying.proofs.Putting.{put-start, put-more, put-stop}
 use Rattle.laying.proofs.Texts.{items-next}
 use Rattle.kept_scan.specs.declared.Held.{Held}

@@ -21,7 +21,7 @@ use Rattle.tokens.specs.Single.{SingleFound}
 use Rattle.tokens.specs.Tokens as tokens
 use Rattle.tokens.specs.Tokens.{Token, tokensOf}
 use Rattle.tokens.specs.Cells.{Cells}
-use Rattle.laying.proofs.Laying.{kept-joins}
+use Rattle.laying.proofs.LayingLaws.{kept-joins}
 use Rattle.scanning.specs.Scanning.{firstStep}
 use Rattle.scanning.proofs.Grouping.{tokensBy, tokens-worked, tokens-emoji, tokens-text, laying-cells}
 use Rattle.scanning.proofs.Walking.{first-found, first-alone, codepoint-width, rest-is, stepHere, Walked, walked-start, walked-left, walked-taken, walked-more, walked-stop}

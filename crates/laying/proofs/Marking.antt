@@ -7,7 +7,7 @@ use lib.ListN.{length, take, drop, set, length-append, length-set, length-drop, 
 use lib.Seq.{sets-eq, length-sets, take-at, drop-at, take-take, take-set-le, drop-set-add, length-take-le}
 use Rattle.limits.specs.Limits.{mostWorked, leastWork}
 use Rattle.decomposition.specs.Rounds.{placed, Appended}
-use Rattle.decomposition.proofs.Rounds.{placed-join}
+use Rattle.decomposition.proofs.RoundLaws.{placed-join}
 use Rattle.laying.specs.Laying.{runMarks, PutAt, MarksPut}
 use Rattle.laying.proofs.Putting.{markAt, marks-snoc}
 

@@ -18,10 +18,10 @@ use Rattle.laying.specs.declared.Run.{Run}
 use Rattle.finder.specs.Emoji.{selector, strip}
 use Rattle.finder.specs.Match.{SequenceFits}
 use Rattle.decomposition.specs.Rounds.{placed, Appended}
-use Rattle.decomposition.proofs.Rounds.{placed-join}
+use Rattle.decomposition.proofs.RoundLaws.{placed-join}
 use Rattle.laying.specs.Laying.{MarksPut, EmojiPut}
 use Rattle.laying.proofs.Marking.{put-both}
-use Rattle.laying.proofs.Laying.{laying-emoji, laying-emoji-over}
+use Rattle.laying.proofs.LayingLaws.{laying-emoji, laying-emoji-over}
 
 keep-join : (p : ℕ → Bool) (a b : List ℕ) → keep p (a ++ b) ≡ keep p a ++ keep p b
 keep-join p [] b = refl

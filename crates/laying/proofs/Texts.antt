@@ -16,7 +16,7 @@ use Rattle.laying.specs.declared.Run.{Run}
 use Rattle.tokens.specs.Scan.{Step, text}
 use Rattle.laying.specs.Laying.{nextMark, Laying, MarksPut, TextPut, ItemsPut}
 use Rattle.laying.proofs.Marking.{put-both}
-use Rattle.laying.proofs.Laying.{four-joins, laying-empty, laying-text, laying-text-over}
+use Rattle.laying.proofs.LayingLaws.{four-joins, laying-empty, laying-text, laying-text-over}
 
 pub next-some : (m n : ℕ) → (n ≡ 0 → ⊥) → 2 ≡ nextMark m n
 next-some m zero h = absurd (h refl)

@@ -12,7 +12,7 @@ use Rattle.table.proofs.Lookups.{drop-take, drop-next}
 use Rattle.text.specs.Decomposition.{classOf}
 use Rattle.text.specs.Ordering.{order}
 use Rattle.composition.specs.Work.{ComposedInto}
-use Rattle.ordering.proofs.Sorting.{length-sort, order-sort}
+use Rattle.ordering.proofs.SortingLaws.{length-sort, order-sort}
 use Rattle.laying.specs.Laying.{runMarks, PutAt}
 use Rattle.normal_cells.specs.Normal.{composedText, MovedDown, Kept, TextKept, EmojiKept}
 use Rattle.laying.proofs.Putting.{Putting, put-start, put-more, put-stop}

@@ -14,7 +14,7 @@ use Rattle.tokens.specs.Tokens.{Token, emoji, text, isEmoji, before, tokensOf, 
 use Rattle.limits.specs.Limits.{mostWorked}
 use Rattle.tokens.specs.Cells.{marksOf, decomposed, decomposedToken, Cells}
 use Rattle.laying.specs.Laying.{runMarks, nextMark, Put, Joins, stepText, stepMarks, stepMark, laid, marksFrom, stepEmoji, stepTexts, Laying}
-use Rattle.laying.proofs.Laying.{four-joins, marks-join}
+use Rattle.laying.proofs.LayingLaws.{four-joins, marks-join}
 
 -- the tokens, with what is put for each text
 abbrev tokenBy : Put → Token → Token

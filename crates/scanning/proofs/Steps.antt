@@ -27,7 +27,7 @@ use Rattle.tokens.specs.Single.{ItemsThere, SingleFound}
 use Rattle.tokens.specs.Tokens.{tokensOf, worked}
 use Rattle.laying.specs.Laying.{laid, Laying, EmojiPut, TextPut, ItemsPut}
 use Rattle.scanning.specs.Scanning.{firstStep, Went, StepPut, Scans}
-use Rattle.laying.proofs.Laying.{four-joins, laying-start, laying-empty, laying-ignored}
+use Rattle.laying.proofs.LayingLaws.{four-joins, laying-start, laying-empty, laying-ignored}
 use Rattle.scanning.proofs.Grouping.{tokens-worked, decomposed-by, tokens-emoji, tokens-text, laying-cells}
 use Rattle.scanning.proofs.Walking.{first-found, first-alone, rest-is, stepHere, Walked, walked-start, walked-left, walked-taken, walked-more, walked-disallowed, walked-stop}
 

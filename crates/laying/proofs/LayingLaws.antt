@@ -10,7 +10,7 @@ use Rattle.lists.specs.Lists.{any, isEmpty}
 use Rattle.lists.specs.Laws.{joined-append}
 use Rattle.table.specs.Table.{Table}
 use Rattle.text.specs.Decomposition.{fourRounds}
-use Rattle.decomposition.proofs.Rounds.{rounds-join, rounds-four}
+use Rattle.decomposition.proofs.RoundLaws.{rounds-join, rounds-four}
 use Rattle.laying.specs.declared.Run.{Run}
 use Rattle.finder.specs.Emoji.{Found}
 use Rattle.tokens.specs.Scan as scan
