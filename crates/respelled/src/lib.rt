@@ -10,7 +10,7 @@ use lookalike::respellings;
 use memo::MEMO;
 use name::admit::Admission;
 use name::admit::admit;
-use name::part::put_label;
+use name::labels::put_label;
 use normal_cells::normalise;
 use scanning::Scanned;
 use scanning::scan;

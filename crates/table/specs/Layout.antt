@@ -185,7 +185,7 @@ wholes (suc fuel) [] = some []
 wholes (suc fuel) (n ∷ ws) =
     onlyIf (leb n (length ws)) (andThen (confusedPart (drop n ws)) (λ c. inFront (record { valid = take n ws; confused = c .confused }) (wholes fuel (c .rest))))
 
-abbrev pub _>>=_ : {A B : Type 0} → Option A → (A → Option B) → Option B
+abbrev _>>=_ : {A B : Type 0} → Option A → (A → Option B) → Option B
 _>>=_ o f = andThen o f
 
 -- The table of the sections, in their order. `part k` is section k, counted from 0; `sections sectionCount` gives all of them.

@@ -3,8 +3,8 @@ use Prim.Native.Nat.{_-_}
 use lib.ListN.{length}
 use borrow.Author.Needs.{needs}
 use Rattle.name.proofs.Parting.{Seeking, seek-start, seek-hit, seek-end, seek-more}
-use Rattle.name.proofs.part.label_end.Statement.{statement}
-use Rattle.name.proofs.part.label_end.Tie as tie
+use Rattle.name.proofs.labels.label_end.Statement.{statement}
+use Rattle.name.proofs.labels.label_end.Tie as tie
 
 abbrev Inv-loop : tie.InvT-loop
 Inv-loop input at i₀ i = Seeking input at i

@@ -2,8 +2,8 @@
 use native.Mathlib.Omega.{arith}
 use borrow.Author.Needs.{needs}
 use Rattle.name.proofs.Parting.{put-near, put-over, put-copied}
-use Rattle.name.proofs.part.put_label.Statement.{statement}
-use Rattle.name.proofs.part.put_label.Tie as tie
+use Rattle.name.proofs.labels.put_label.Statement.{statement}
+use Rattle.name.proofs.labels.put_label.Tie as tie
 
 after-stop-requires : tie.Need-after-stop-requires
 after-stop-requires c κs = search needs

@@ -4,8 +4,8 @@ use mathlib.Core.Logic.{⊎-elim}
 use lib.ListN.{length, length-set}
 use borrow.Author.Needs.{needs}
 use Rattle.name.proofs.Parting.{put-first, put-stop, put-none}
-use Rattle.name.proofs.part.after_stop.Statement.{statement}
-use Rattle.name.proofs.part.after_stop.Tie as tie
+use Rattle.name.proofs.labels.after_stop.Statement.{statement}
+use Rattle.name.proofs.labels.after_stop.Tie as tie
 
 returns : tie.Need-returns
 returns c = put-first _ _ _ (c .if1 .taken)
