@@ -104,7 +104,7 @@ as-they-are (tokens.emoji s ∷ ts) = ap (λ (r : List Token). tokens.emoji s �
 as-they-are (tokens.text s ∷ ts) = ap (λ (r : List Token). tokens.text s ∷ r) (as-they-are ts)
 
 module _ (t : Table) (l w₀ : List ℕ) where
-  pub scan-start : Scanning t l w₀ w₀ (record { run = record { worked = 0; emoji = false; text = false; mark = 1 }; worked = 0; class = 0; fine = true }) 0
+  pub scan-start : Scanning t l w₀ w₀ (record { run = record { worked = 0; emoji = false; text = false; tag = 1 }; worked = 0; class = 0; fine = true }) 0
   scan-start = record { done = []; walked = walked-start t l; same = refl; fine = refl; keeps = keeping-start t w₀ }
 
   module _ (w : List ℕ) (held : Held) (at : ℕ) (p : Scanning t l w₀ w held at) (h : at < length l) where

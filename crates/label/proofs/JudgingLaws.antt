@@ -15,7 +15,7 @@ use Rattle.table.specs.Table.{Table}
 use Rattle.lists.specs.Lists.{all}
 use Rattle.compounds.proofs.CompoundLaws.{listedWhite}
 use Rattle.spelling.specs.Spelling.{allAscii}
-use Rattle.spelling.specs.CellMarks.{codesIn, tagsIn}
+use Rattle.spelling.specs.CellTags.{codesIn, tagsIn}
 use Rattle.groups.specs.declared.GroupFound.{GroupFound}
 use Rattle.groups.specs.declared.GroupFound.the-variants.{At, Nothing}
 use Rattle.label.specs.declared.Judged.{Judged}

@@ -12,13 +12,13 @@ use Rattle.answers.specs.declared.Kind.{Kind}
 use Rattle.answers.specs.declared.Kind.the-variants.{Emoji, Ascii, Group}
 use Rattle.table.specs.Table.{Table}
 use Rattle.tokens.specs.Tokens.{Token, emoji, text, isEmoji, joinedTokens}
-use Rattle.tokens.specs.Cells.{marksOf, Cells}
+use Rattle.tokens.specs.Cells.{tagsOf, Cells}
 use Rattle.groups.specs.declared.GroupFound.the-variants.{At, Nothing}
 use Rattle.nsm.specs.Marks.{nsmFits}
 use Rattle.compounds.specs.Compounds.{compoundsFit, listOf}
 use Rattle.compounds.proofs.CompoundLaws.{listedWhite, white-asked}
 use Rattle.spelling.specs.Spelling.{lowLine, hyphens, fenced, allAscii}
-use Rattle.spelling.specs.CellMarks.{leadingAt, codesIn, tagsIn}
+use Rattle.spelling.specs.CellTags.{leadingAt, codesIn, tagsIn}
 use Rattle.spelling.proofs.LeadingLaws.{leading-tokens}
 use Rattle.confusable.specs.Confusable.{confusable}
 use Rattle.groups.specs.Groups.{Numbered, groupOf, groupFound}
@@ -166,15 +166,15 @@ only-ascii (text s ∷ u ∷ us) p e = go (any isEmoji (u ∷ us)) refl
 
 -- the verdict on the codepoints and tags of tokens is the verdict on the tokens
 pub judge-tokens : (t : Table) (place : ℕ) (ts : List Token) → Parted ts
-    → judgeAt t place (joinedTokens ts) (marksOf ts) (any isEmoji ts) (anyText ts) ≡ judge t place ts
+    → judgeAt t place (joinedTokens ts) (tagsOf ts) (any isEmoji ts) (anyText ts) ≡ judge t place ts
 unfolding judgeAt judge judgeMixed mixedAt
 judge-tokens t place ts p = go (anyText ts) refl
   where
-    mixed : mixedAt t place (joinedTokens ts) (marksOf ts) ≡ judgeMixed t place ts
+    mixed : mixedAt t place (joinedTokens ts) (tagsOf ts) ≡ judgeMixed t place ts
     mixed = rw (leading-tokens t ts, text-tokens ts)
 
     go : (b : Bool) → anyText ts ≡ b
-        → cond (not b) (accepted Emoji) (cond (not (any isEmoji ts) && allAscii (joinedTokens ts)) (judgeAscii place (joinedTokens ts)) (mixedAt t place (joinedTokens ts) (marksOf ts)))
+        → cond (not b) (accepted Emoji) (cond (not (any isEmoji ts) && allAscii (joinedTokens ts)) (judgeAscii place (joinedTokens ts)) (mixedAt t place (joinedTokens ts) (tagsOf ts)))
         ≡ cond (onlyEmoji ts) (accepted Emoji) (cond (onlyAscii ts) (judgeAscii place (joinedTokens ts)) (judgeMixed t place ts))
     go true e = rw (only-emoji ts, e, only-ascii ts p e, mixed)
     go false e = rw (only-emoji ts, e)
@@ -182,4 +182,4 @@ judge-tokens t place ts p = go (anyText ts) refl
 -- the same over a work area
 pub judge-cells : (t : Table) (place : ℕ) (ts : List Token) (w : List ℕ) (n : ℕ) → Cells ts w n → Parted ts
     → judgeAt t place (codesIn w n) (tagsIn w n) (any isEmoji ts) (anyText ts) ≡ judge t place ts
-judge-cells t place ts w n c p = rw (c .words, c .marks) (judge-tokens t place ts p)
+judge-cells t place ts w n c p = rw (c .words, c .tags) (judge-tokens t place ts p)

@@ -13,7 +13,7 @@ use Rattle.table.specs.Table.{Table}
 use Rattle.nsm.specs.Marks.{nsmFits}
 use Rattle.compounds.specs.Compounds.{compoundsFit, listOf}
 use Rattle.spelling.specs.Spelling.{allAscii, lowLine, fenced}
-use Rattle.spelling.specs.CellMarks.{leadingAt}
+use Rattle.spelling.specs.CellTags.{leadingAt}
 use Rattle.confusable.specs.Confusable.{confusable}
 use Rattle.label.specs.declared.Judged.{Judged}
 use Rattle.label.specs.declared.Judged.the-variants.{Accepted, Refused}

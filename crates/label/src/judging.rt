@@ -24,7 +24,7 @@ ghost use Rattle.limits.specs.Limits.{leastWork, mostWorked};
 ghost use Rattle.sections.specs.Laid.{Laid};
 ghost use Rattle.table.specs.Layout.{theTable};
 ghost use Rattle.memo.specs.Memo.{Memo};
-ghost use Rattle.spelling.specs.CellMarks.{codesIn, tagsIn};
+ghost use Rattle.spelling.specs.CellTags.{codesIn, tagsIn};
 ghost use Rattle.label.specs.Judge.{judgeAscii, judgeText};
 ghost use Rattle.label.specs.CellText.{textAt};
 ghost use Rattle.label.specs.Judging.{verdictOf, groupVerdict, inGroup, mixedAt, judgeAt, CellsJudged};

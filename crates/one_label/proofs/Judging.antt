@@ -27,7 +27,7 @@ use Rattle.scanning.specs.declared.Scanned.{Scanned}
 use Rattle.scanning.specs.declared.Scanned.the-variants as scanned
 use Rattle.label.specs.declared.Judged.{Judged}
 use Rattle.label.specs.declared.Judged.the-variants as verdict
-use Rattle.spelling.specs.CellMarks.{codesIn, tagsIn}
+use Rattle.spelling.specs.CellTags.{codesIn, tagsIn}
 use Rattle.label.specs.Judging.{verdictOf, judgeAt, CellsJudged}
 use Rattle.label.specs.Judge.{judge}
 use Rattle.label.proofs.VerdictLaws.{Parted, anyText, judge-cells}

@@ -1,21 +1,21 @@
--- `laying::put_marks` meets its contract: the loop keeps the codepoints that are marked. Assumes nothing.
+-- `laying::put_tags` meets its contract: the loop keeps the codepoints that are tagged. Assumes nothing.
 use Prim.Native.Nat.{_-_}
 use borrow.Author.Needs.{needs}
-use Rattle.laying.proofs.Marking.{Marking, mark-start, mark-more, mark-stop, mark-over}
-use Rattle.laying.proofs.put_marks.Statement.{statement}
-use Rattle.laying.proofs.put_marks.Tie as tie
+use Rattle.laying.proofs.Tagging.{Tagging, tag-start, tag-more, tag-stop, tag-over}
+use Rattle.laying.proofs.put_tags.Statement.{statement}
+use Rattle.laying.proofs.put_tags.Tie as tie
 
 abbrev Inv-loop : tie.InvT-loop
-Inv-loop w₀ from to first later mark₀ i₀ w mark i = Marking w₀ from to first later w mark i
+Inv-loop w₀ from to first later tag₀ i₀ w tag i = Tagging w₀ from to first later w tag i
 
 abbrev μ-loop : tie.MeasureT-loop
-μ-loop w₀ from to first later mark₀ i₀ w mark i = to - i
+μ-loop w₀ from to first later tag₀ i₀ w tag i = to - i
 
 returns : tie.Need-returns Inv-loop μ-loop
-returns c = mark-over _ _ _ _ _ (c .if1 .taken)
+returns c = tag-over _ _ _ _ _ (c .if1 .taken)
 
 loop-holds : tie.Need-loop-holds Inv-loop μ-loop
-loop-holds c = mark-start _ _ _ _ _
+loop-holds c = tag-start _ _ _ _ _
 
 add-w : tie.Need-add-w Inv-loop μ-loop
 add-w c = search needs
@@ -33,16 +33,16 @@ loop-less : tie.Need-loop-less Inv-loop μ-loop
 loop-less c = search needs
 
 loop-again : tie.Need-loop-again Inv-loop μ-loop
-loop-again c = mark-more _ _ _ _ _ _ _ _ (c .loop-test .taken) (c .before .loop .inv)
+loop-again c = tag-more _ _ _ _ _ _ _ _ (c .loop-test .taken) (c .before .loop .inv)
 
 same-length : tie.Need-same-length Inv-loop μ-loop
 same-length c = c .before .loop .inv .same
 
 returns-2 : tie.Need-returns-2 Inv-loop μ-loop
-returns-2 c = mark-stop _ _ _ _ _ _ _ _ (c .loop-test .left) (c .before .loop .inv)
+returns-2 c = tag-stop _ _ _ _ _ _ _ _ (c .loop-test .left) (c .before .loop .inv)
 
-pub put-marks-spec : {M : Type 1} → statement M
-put-marks-spec =
+pub put-tags-spec : {M : Type 1} → statement M
+put-tags-spec =
     tie.close
     (tie.spec
     Inv-loop
