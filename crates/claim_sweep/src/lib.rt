@@ -1,4 +1,4 @@
-// The sweep over the marks of a batch: groups that hold one of its numbers are joined.
+// The sweep over the claims of a batch: groups that hold one of its numbers are joined.
 use group_numbers::BATCH;
 use group_numbers::unite;
 ghost use mathlib.Core.Path.{_≡_};
@@ -6,13 +6,13 @@ ghost use mathlib.Core.Bool.{true, _&&_};
 ghost use Prim.Native.Nat.{_≤_, _<_};
 ghost use lib.ListN.{length};
 ghost use Rattle.sorting.specs.Order.{inOrder};
-ghost use Rattle.group_numbers.specs.Batch.{batch, Marks, Swept};
+ghost use Rattle.group_numbers.specs.Batch.{batch, Claims, Swept};
 
-// Joins the owners of marks that reach the same number of the batch: of the marks so far `last` is the owner of the one that reaches farthest.
+// Joins the owners of claims that reach the same number of the batch: of the claims so far `last` is the owner of the one that reaches farthest.
 pub fn sweep(xs: &[u32], ends: &[u64; BATCH], owners: &[u8; BATCH], k: &mut [u32])
     requires { ⌜ inOrder (now xs) ≡ true ⌝ }
     requires { ⌜ length (now xs) ≤ batch ⌝ }
-    requires { ⌜ Marks (now ends) (now owners) (now k) ⌝ }
+    requires { ⌜ Claims (now ends) (now owners) (now k) ⌝ }
     ensures { λ _. ⌜ Swept (now (xs .entry)) (now (ends .entry)) (now (owners .entry)) (now (k .entry)) (now (k .exit)) ⌝ }
 {
     let mut end: u64 = 0;

@@ -4,13 +4,13 @@ use Prim.Native.Nat.{_-_}
 use native.Mathlib.Omega.{arith}
 use lib.ListN.{length}
 use Rattle.table.proofs.GroupWalks.{group-room, group-few, pairs-fit, next-more, next-inside}
-use Rattle.group_numbers.specs.Batch.{marked}
-use Rattle.group_marks.proofs.TakeLaws.{TakeWalk, groups-start, groups-on, groups-stop}
-use Rattle.group_marks.proofs.take_groups.Statement.{statement}
-use Rattle.group_marks.proofs.take_groups.Tie as tie
+use Rattle.group_numbers.specs.Batch.{claimed}
+use Rattle.group_claims.proofs.TakeLaws.{TakeWalk, groups-start, groups-on, groups-stop}
+use Rattle.group_claims.proofs.take_groups.Statement.{statement}
+use Rattle.group_claims.proofs.take_groups.Tie as tie
 
 abbrev Inv-loop : tie.InvT-loop
-Inv-loop part xs ends₀ owners₀ k₀ n₀ at₀ ends owners k n at = TakeWalk part xs (marked ends₀ owners₀ k₀) (marked ends owners k) n at
+Inv-loop part xs ends₀ owners₀ k₀ n₀ at₀ ends owners k n at = TakeWalk part xs (claimed ends₀ owners₀ k₀) (claimed ends owners k) n at
 
 abbrev μ-loop : tie.MeasureT-loop
 μ-loop part xs ends₀ owners₀ k₀ n₀ at₀ ends owners k n at = length part - at
@@ -30,7 +30,7 @@ take-pairs-of-requires c κs =
     let p = c .before .before .before .before .before .loop in
     let a = c .before .before .before .before .before .before .before .before .before .pre in
     let h = c .before .before .before .before .loop-test .taken in
-    (pairs-fit _ (p .n) (p .at) _ (p .inv) h _ (c .before .before .before .group-at .ensures), (a .1 .0, ((a .1 .1 .0, group-few _ (p .n) (p .at) _ (p .inv) h), p .inv .so .takes .marks)))
+    (pairs-fit _ (p .n) (p .at) _ (p .inv) h _ (c .before .before .before .group-at .ensures), (a .1 .0, ((a .1 .1 .0, group-few _ (p .n) (p .at) _ (p .inv) h), p .inv .so .takes .claims)))
 
 add-n : tie.Need-add-n Inv-loop μ-loop
 add-n c =
@@ -50,7 +50,7 @@ loop-again c =
     groups-on _ _ _ _ (p .n) (p .at) (p .inv) (c .before .before .before .before .before .before .before .loop-test .taken) _ (c .before .before .before .before .before .before .group-at .ensures) _ (c .before .before .take-pairs-of .ensures)
 
 same-length : tie.Need-same-length Inv-loop μ-loop
-same-length c = c .before .loop .inv .so .takes .marks .numbers .size ∙ sym (c .before .before .before .before .before .pre .1 .1 .1 .numbers .size)
+same-length c = c .before .loop .inv .so .takes .claims .numbers .size ∙ sym (c .before .before .before .before .before .pre .1 .1 .1 .numbers .size)
 
 returns : tie.Need-returns Inv-loop μ-loop
 returns c = groups-stop _ _ _ _ (c .before .loop .n) (c .before .loop .at) (c .before .loop .inv) (c .loop-test .left)

@@ -5,10 +5,10 @@ use native.Mathlib.Omega.{arith}
 use mathlib.Core.Logic.{⊎-elim, inl, inr}
 use lib.ListN.{length}
 use borrow.Author.Tests.{ltb-true, ltb-false}
-use Rattle.mark_sweep.proofs.SweepLaws.{Sweep, sweep-start, sweep-stop, turn-none, turn-met, sweep-on}
+use Rattle.claim_sweep.proofs.SweepLaws.{Sweep, sweep-start, sweep-stop, turn-none, turn-met, sweep-on}
 use borrow.Author.Needs.{needs}
-use Rattle.mark_sweep.proofs.sweep.Statement.{statement}
-use Rattle.mark_sweep.proofs.sweep.Tie as tie
+use Rattle.claim_sweep.proofs.sweep.Statement.{statement}
+use Rattle.claim_sweep.proofs.sweep.Tie as tie
 
 abbrev Inv-loop : tie.InvT-loop
 Inv-loop xs ends owners k₀ end₀ last₀ q₀ k end last q = Sweep xs ends owners k₀ k end last q

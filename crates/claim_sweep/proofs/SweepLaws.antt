@@ -1,4 +1,4 @@
--- Laws of the sweep over the marks of a batch, which joins the owners of those that reach the same number. Assumes nothing.
+-- Laws of the sweep over the claims of a batch, which joins the owners of those that reach the same number. Assumes nothing.
 use Prim.Native.Nat.{ℕ, _+_, _<_, _≤_}
 use native.Mathlib.Omega.{arith}
 use mathlib.Core.Path.{_≡_, sym, _∙_, ap}
@@ -9,11 +9,11 @@ use lib.ListN.{length, getD}
 use Rattle.table.specs.Layout.{mostGroups}
 use Rattle.sorting.specs.Order.{inOrder}
 use Rattle.sorting.proofs.OrderLaws.{order-at}
-use Rattle.group_numbers.specs.Batch.{Numbers, Kept, Founded, Just, United, Marks, Held, Shared, Swept}
+use Rattle.group_numbers.specs.Batch.{Numbers, Kept, Founded, Just, United, Claims, Held, Shared, Swept}
 use Rattle.group_numbers.proofs.NumberLaws.{same-or-not, strict, above-zero, kept-same, founded-same, kept-on, founded-on, founded-by}
 
 module _ (xs ends owners k₀ : List ℕ) where
-  -- The sweep has come to place q. Of the marks before it, the one that reaches farthest ends at `end` and has the owner `last`: whatever
+  -- The sweep has come to place q. Of the claims before it, the one that reaches farthest ends at `end` and has the owner `last`: whatever
   -- one of them reaches from here on, that one reaches, and its owner has the same number.
   pub record Sweep (k : List ℕ) (end last q : ℕ) : Type 0 where
     pub inside : q ≤ length xs
@@ -28,7 +28,7 @@ module _ (xs ends owners k₀ : List ℕ) where
     pub holds-on : (holding : ℕ → ℕ → Bool) → Held holding xs ends owners → (r : ℕ) → q ≤ r → r < length xs → getD xs r 0 < end
         → holding last (getD xs r 0) ≡ true
 
-  pub sweep-start : Marks ends owners k₀ → Sweep k₀ 0 0 0
+  pub sweep-start : Claims ends owners k₀ → Sweep k₀ 0 0 0
   sweep-start w =
       record {
         inside = omega arith;
@@ -42,7 +42,7 @@ module _ (xs ends owners k₀ : List ℕ) where
         holds-on = λ holding h r l i j. absurd (omega arith);
       }
 
-  module _ (k : List ℕ) (end last q : ℕ) (o : inOrder xs ≡ true) (m : Marks ends owners k₀) (w : Sweep k end last q) where
+  module _ (k : List ℕ) (end last q : ℕ) (o : inOrder xs ≡ true) (m : Claims ends owners k₀) (w : Sweep k end last q) where
     pub sweep-stop : length xs ≤ q → Swept xs ends owners k₀ k
     sweep-stop h =
         record {
@@ -55,7 +55,7 @@ module _ (xs ends owners k₀ : List ℕ) where
               ∙ same ∙ w .kept .together (getD owners (b .from) 0) j (rw (b .same) (b .numbered)) (b .same);
         }
 
-    -- What one turn does to the numbers: where the mark that reaches farthest reaches place q, and a mark stands there, their owners are joined.
+    -- What one turn does to the numbers: where the claim that reaches farthest reaches place q, and a claim stands there, their owners are joined.
     pub record Turn (l : List ℕ) : Type 0 where
       pub numbers : Numbers l
       pub kept : Kept k l
@@ -89,19 +89,19 @@ module _ (xs ends owners k₀ : List ℕ) where
         }
 
     module _ (h : q < length xs) (l : List ℕ) (t : Turn l) where
-      -- an owner of a mark has a number
+      -- an owner of a claim has a number
       numbered : (s : ℕ) → 0 < getD ends s 0 → 0 < getD k (getD owners s 0) 0
       numbered s g = w .kept .held (getD owners s 0) (m .owned s g)
 
-      -- the owner of a mark before q that reaches r has the number of the last one
+      -- the owner of a claim before q that reaches r has the number of the last one
       as-last : (s r : ℕ) → s < q → q ≤ r → r < length xs → getD xs r 0 < getD ends s 0 → getD l (getD owners s 0) 0 ≡ getD l last 0
       as-last s r a b c d = t .kept .together (getD owners s 0) last (numbered s (omega arith)) (w .best s r a b c d .1)
 
-      -- so has that of the mark at q, where the last one reaches q
+      -- so has that of the claim at q, where the last one reaches q
       as-here : getD xs q 0 < end → 0 < getD ends q 0 → getD l (getD owners q 0) 0 ≡ getD l last 0
       as-here a b = sym (t .met a b)
 
-      -- the owner of a mark that reaches q has the number of the one at q, or all of them have that of the last
+      -- the owner of a claim that reaches q has the number of the one at q, or all of them have that of the last
       at-q : (s : ℕ) → s ≤ q → getD xs q 0 < getD ends s 0 → ((s ≡ q) ⊎ ((getD xs q 0 < end) × (getD l (getD owners s 0) 0 ≡ getD l last 0)))
       at-q s a b = ⊎-elim (λ e. inl e) (λ f. let before : s < q = less f in inr (w .best s q before (omega arith) h b .0, as-last s q before (omega arith) h b)) (same-or-not s q)
         where
@@ -136,7 +136,7 @@ module _ (xs ends owners k₀ : List ℕ) where
       links : (holding : ℕ → ℕ → Bool) → Held holding xs ends owners → Founded (Shared holding xs) k₀ l
       links holding held = founded-on (Shared holding xs) k₀ k l (w .links holding held) (t .links holding held)
 
-      -- the mark at q does not reach farther
+      -- the claim at q does not reach farther
       sweep-stay : getD ends q 0 ≤ end → Sweep l end last (q + 1)
       sweep-stay g =
           record {

@@ -3,14 +3,14 @@ use mathlib.Core.Path.{sym, _∙_}
 use Prim.Native.Nat.{_-_}
 use native.Mathlib.Omega.{arith}
 use lib.ListN.{length}
-use Rattle.group_numbers.specs.Batch.{marked}
-use Rattle.group_marks.proofs.TakeLaws.{PairWalk, pair-start, pair-on, pair-stop}
+use Rattle.group_numbers.specs.Batch.{claimed}
+use Rattle.group_claims.proofs.TakeLaws.{PairWalk, pair-start, pair-on, pair-stop}
 use borrow.Author.Needs.{needs}
-use Rattle.group_marks.proofs.take_pairs.Statement.{statement}
-use Rattle.group_marks.proofs.take_pairs.Tie as tie
+use Rattle.group_claims.proofs.take_pairs.Statement.{statement}
+use Rattle.group_claims.proofs.take_pairs.Tie as tie
 
 abbrev Inv-loop : tie.InvT-loop
-Inv-loop pairs xs ends₀ owners₀ k₀ n i₀ ends owners k i = PairWalk pairs xs n (marked ends₀ owners₀ k₀) (marked ends owners k) i
+Inv-loop pairs xs ends₀ owners₀ k₀ n i₀ ends owners k i = PairWalk pairs xs n (claimed ends₀ owners₀ k₀) (claimed ends owners k) i
 
 abbrev μ-loop : tie.MeasureT-loop
 μ-loop pairs xs ends₀ owners₀ k₀ n i₀ ends owners k i = length pairs - i
@@ -39,7 +39,7 @@ shared-slice-read-take-pair-2 c = search needs
 take-pair-requires : tie.Need-take-pair-requires Inv-loop μ-loop
 take-pair-requires c κs =
     let p = c .before .before .before .before .before .before .before .before .before .before .pre in
-    (p .0, (p .1 .0, c .before .before .before .before .before .before .loop .inv .takes .marks))
+    (p .0, (p .1 .0, c .before .before .before .before .before .before .loop .inv .takes .claims))
 
 add-i : tie.Need-add-i Inv-loop μ-loop
 add-i c = search needs
@@ -51,7 +51,7 @@ loop-again : tie.Need-loop-again Inv-loop μ-loop
 loop-again c = pair-on _ _ _ _ _ (c .before .before .before .before .before .before .before .before .before .loop .i) (c .before .before .before .before .before .before .before .before .before .loop .inv) (omega arith) _ (c .before .before .take-pair .ensures)
 
 same-length : tie.Need-same-length Inv-loop μ-loop
-same-length c = c .before .loop .inv .takes .marks .numbers .size ∙ sym (c .before .before .before .before .before .pre .1 .1 .numbers .size)
+same-length c = c .before .loop .inv .takes .claims .numbers .size ∙ sym (c .before .before .before .before .before .pre .1 .1 .numbers .size)
 
 returns : tie.Need-returns Inv-loop μ-loop
 returns c = pair-stop _ _ _ _ _ (c .before .loop .i) (c .before .loop .inv) (c .loop-test .left)

@@ -1,4 +1,4 @@
-// Marks at the places of a batch: how far a group, the owner of the mark, holds the numbers of the batch from there on.
+// Claims at the places of a batch: how far a group, the owner of the claim, holds the numbers of the batch from there on.
 use group_numbers::BATCH;
 use group_numbers::meet;
 use sorting::count_below;
@@ -16,10 +16,10 @@ ghost use Rattle.table.specs.Part.{inPairs};
 ghost use Rattle.table.specs.GroupPart.{GroupsPart, groupsIn};
 ghost use Rattle.sorting.specs.Order.{inOrder};
 ghost use Rattle.group_numbers.specs.Components.{nth};
-ghost use Rattle.group_numbers.specs.Batch.{batch, Marks, MarkSet, Takes, marked};
+ghost use Rattle.group_numbers.specs.Batch.{batch, Claims, ClaimSet, Takes, claimed};
 
-// Marks a place for group n, up to `end`; a group that has marked it before gets one number with n.
-fn mark(
+// Claims a place for group n, up to `end`; a group that has claimed it before gets one number with n.
+fn claim(
     ends: &mut [u64; BATCH],
     owners: &mut [u8; BATCH],
     k: &mut [u32],
@@ -27,9 +27,9 @@ fn mark(
     n: usize,
     end: u64,
 )
-    requires { ⌜ Marks (now ends) (now owners) (now k) ⌝ }
+    requires { ⌜ Claims (now ends) (now owners) (now k) ⌝ }
     requires { ⌜ (at < batch) × (n < mostGroups) ⌝ }
-    ensures { λ _. ⌜ MarkSet at n end (marked (now (ends .entry)) (now (owners .entry)) (now (k .entry))) (marked (now (ends .exit)) (now (owners .exit)) (now (k .exit))) ⌝ }
+    ensures { λ _. ⌜ ClaimSet at n end (claimed (now (ends .entry)) (now (owners .entry)) (now (k .entry))) (claimed (now (ends .exit)) (now (owners .exit)) (now (k .exit))) ⌝ }
 {
     let other = ends[at];
     meet(k, 0 < other, owners[at] as usize, n);
@@ -39,7 +39,7 @@ fn mark(
     }
 }
 
-// Marks the numbers of the batch from a to b for group n.
+// Claims the numbers of the batch from a to b for group n.
 fn take_pair(
     xs: &[u32],
     ends: &mut [u64; BATCH],
@@ -51,13 +51,13 @@ fn take_pair(
 )
     requires { ⌜ inOrder (now xs) ≡ true ⌝ }
     requires { ⌜ (length (now xs) ≤ batch) × (n < mostGroups) ⌝ }
-    requires { ⌜ Marks (now ends) (now owners) (now k) ⌝ }
+    requires { ⌜ Claims (now ends) (now owners) (now k) ⌝ }
     ensures { λ _. ⌜ Takes (λ i x. eqb i n && (leb a x && leb x b)) (now (xs .entry))
-        (marked (now (ends .entry)) (now (owners .entry)) (now (k .entry))) (marked (now (ends .exit)) (now (owners .exit)) (now (k .exit))) ⌝ }
+        (claimed (now (ends .entry)) (now (owners .entry)) (now (k .entry))) (claimed (now (ends .exit)) (now (owners .exit)) (now (k .exit))) ⌝ }
 {
     let at = count_below(xs, a);
     if at < xs.len() && xs[at] <= b {
-        mark(ends, owners, k, at, n, b as u64 + 1);
+        claim(ends, owners, k, at, n, b as u64 + 1);
     }
 }
 
@@ -72,9 +72,9 @@ fn take_pairs(
 )
     requires { ⌜ inOrder (now xs) ≡ true ⌝ }
     requires { ⌜ (length (now xs) ≤ batch) × (n < mostGroups) ⌝ }
-    requires { ⌜ Marks (now ends) (now owners) (now k) ⌝ }
+    requires { ⌜ Claims (now ends) (now owners) (now k) ⌝ }
     ensures { λ _. ⌜ Takes (λ i x. eqb i n && inPairs x (now (pairs .entry))) (now (xs .entry))
-        (marked (now (ends .entry)) (now (owners .entry)) (now (k .entry))) (marked (now (ends .exit)) (now (owners .exit)) (now (k .exit))) ⌝ }
+        (claimed (now (ends .entry)) (now (owners .entry)) (now (k .entry))) (claimed (now (ends .exit)) (now (owners .exit)) (now (k .exit))) ⌝ }
 {
     let mut i: usize = 0;
     while 1 < pairs.len() - i {
@@ -96,9 +96,9 @@ fn take_pairs_of(
     requires { ⌜ Fits (now part) s ⌝ }
     requires { ⌜ inOrder (now xs) ≡ true ⌝ }
     requires { ⌜ (length (now xs) ≤ batch) × (n < mostGroups) ⌝ }
-    requires { ⌜ Marks (now ends) (now owners) (now k) ⌝ }
+    requires { ⌜ Claims (now ends) (now owners) (now k) ⌝ }
     ensures { λ _. ⌜ Takes (λ i x. eqb i n && inPairs x (within s (now (part .entry)))) (now (xs .entry))
-        (marked (now (ends .entry)) (now (owners .entry)) (now (k .entry))) (marked (now (ends .exit)) (now (owners .exit)) (now (k .exit))) ⌝ }
+        (claimed (now (ends .entry)) (now (owners .entry)) (now (k .entry))) (claimed (now (ends .exit)) (now (owners .exit)) (now (k .exit))) ⌝ }
 {
     let from = s.from;
     let to = s.to;
@@ -116,9 +116,9 @@ pub fn take_groups(
     requires { ⌜ GroupsPart (now part) ⌝ }
     requires { ⌜ inOrder (now xs) ≡ true ⌝ }
     requires { ⌜ length (now xs) ≤ batch ⌝ }
-    requires { ⌜ Marks (now ends) (now owners) (now k) ⌝ }
+    requires { ⌜ Claims (now ends) (now owners) (now k) ⌝ }
     ensures { λ _. ⌜ Takes (λ i x. holds (nth (groupsIn (now (part .entry))) i) x) (now (xs .entry))
-        (marked (now (ends .entry)) (now (owners .entry)) (now (k .entry))) (marked (now (ends .exit)) (now (owners .exit)) (now (k .exit))) ⌝ }
+        (claimed (now (ends .entry)) (now (owners .entry)) (now (k .entry))) (claimed (now (ends .exit)) (now (owners .exit)) (now (k .exit))) ⌝ }
 {
     let mut n: usize = 0;
     let mut at: usize = 0;

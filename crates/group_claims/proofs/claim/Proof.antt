@@ -1,11 +1,11 @@
--- `mark` meets its contract. Assumes nothing.
+-- `claim` meets its contract. Assumes nothing.
 use native.Mathlib.Omega.{arith}
 use mathlib.Core.Path.{refl}
 use mathlib.Core.Logic.{inl, inr}
 use borrow.Author.Tests.{ltb-true}
 use borrow.Author.Needs.{needs}
-use Rattle.group_marks.proofs.mark.Statement.{statement}
-use Rattle.group_marks.proofs.mark.Tie as tie
+use Rattle.group_claims.proofs.claim.Statement.{statement}
+use Rattle.group_claims.proofs.claim.Tie as tie
 
 mul-other : tie.Need-mul-other
 mul-other c = search needs
@@ -48,8 +48,8 @@ same-length-2 c = search needs
 returns-2 : tie.Need-returns-2
 returns-2 c = record { met = c .before .before .before .meet .ensures; set-or-not = inr (c .if1 .left, refl, refl) }
 
-pub mark-spec : {M : Type 1} → statement M
-mark-spec =
+pub claim-spec : {M : Type 1} → statement M
+claim-spec =
     tie.close
     (tie.spec
     mul-other

@@ -1,4 +1,4 @@
--- Laws of the marks of a batch: how they are set, and what is reached from them. Assumes nothing.
+-- Laws of the claims of a batch: how they are set, and what is reached from them. Assumes nothing.
 use Prim.Native.Nat.{ℕ, _+_, _<_, _≤_}
 use native.Mathlib.Omega.{arith}
 use mathlib.Core.Path.{_≡_, refl, sym, _∙_, ap}
@@ -13,15 +13,15 @@ use Rattle.lists.specs.Laws.{both-left, both-right, either}
 use Rattle.table.specs.Layout.{mostGroups}
 use Rattle.sorting.specs.Order.{inOrder, CountBelow}
 use Rattle.sorting.proofs.OrderLaws.{order-at}
-use Rattle.group_numbers.specs.Batch.{batch, Founded, Marks, Held, Shared, Reached, Marked, MarkSet, Takes}
+use Rattle.group_numbers.specs.Batch.{batch, Founded, Claims, Held, Shared, Reached, Claimed, ClaimSet, Takes}
 use Rattle.group_numbers.proofs.NumberLaws.{same-or-not, kept-same, founded-same, kept-on, founded-on, founded-by}
 
 -- nothing is taken
-pub takes-none : (xs : List ℕ) (m : Marked) → Marks (m .ends) (m .owners) (m .numbers) → (taken : ℕ → ℕ → Bool)
+pub takes-none : (xs : List ℕ) (m : Claimed) → Claims (m .ends) (m .owners) (m .numbers) → (taken : ℕ → ℕ → Bool)
     → ((i q : ℕ) → q < length xs → taken i (getD xs q 0) ≡ true → ⊥) → Takes taken xs m m
 takes-none xs m w taken f =
     record {
-      marks = w;
+      claims = w;
       links = λ holding h g. (founded-same (Shared holding xs) (m .numbers), h);
       kept = kept-same (m .numbers);
       stays = λ i q h r. r;
@@ -29,11 +29,11 @@ takes-none xs m w taken f =
     }
 
 -- one after the other is taken
-pub takes-on : (xs : List ℕ) (m n o : Marked) (a b c : ℕ → ℕ → Bool) → Takes a xs m n → Takes b xs n o
+pub takes-on : (xs : List ℕ) (m n o : Claimed) (a b c : ℕ → ℕ → Bool) → Takes a xs m n → Takes b xs n o
     → ((i x : ℕ) → c i x ≡ (a i x || b i x)) → Takes c xs m o
 takes-on xs m n o a b c s t e =
     record {
-      marks = t .marks;
+      claims = t .claims;
       links = λ holding h g.
           let p = s .links holding h (λ i q k f. g i q k (e i (getD xs q 0) ∙ rw f)) in
           let r = t .links holding (p .1) (λ i q k f. g i q k (e i (getD xs q 0) ∙ later (a i (getD xs q 0)) (b i (getD xs q 0)) f)) in
@@ -49,7 +49,7 @@ takes-on xs m n o a b c s t e =
     later false y f = f
 
 -- A pair of group n, whose lower end has the place `at`.
-module _ (xs : List ℕ) (m : Marked) (n a b at : ℕ) (o : inOrder xs ≡ true) (w : Marks (m .ends) (m .owners) (m .numbers)) (z : CountBelow xs a at) where
+module _ (xs : List ℕ) (m : Claimed) (n a b at : ℕ) (o : inOrder xs ≡ true) (w : Claims (m .ends) (m .owners) (m .numbers)) (z : CountBelow xs a at) where
   abbrev taken : ℕ → ℕ → Bool
   taken i x = eqb i n && (leb a x && leb x b)
 
@@ -85,11 +85,11 @@ module _ (xs : List ℕ) (m : Marked) (n a b at : ℕ) (o : inOrder xs ≡ true)
   pub take-over : at < length xs → b < getD xs at 0 → Takes taken xs m m
   take-over h k = takes-none xs m w taken (λ i q l e. let y = within i (getD xs q 0) e in omega (arith, y .high, order-at xs o at q (behind q (y .low)) l))
 
-  module _ (h : at < length xs) (k : getD xs at 0 ≤ b) (few : n < mostGroups) (room : at < batch) (m′ : Marked) (s : MarkSet at n (b + 1) m m′) where
+  module _ (h : at < length xs) (k : getD xs at 0 ≤ b) (few : n < mostGroups) (room : at < batch) (m′ : Claimed) (s : ClaimSet at n (b + 1) m m′) where
     here : taken n (getD xs at 0) ≡ true
     here = taken-in (getD xs at 0) (z .above at (omega arith) h) k
 
-    -- the mark of a place: it is the one that was set, or as before
+    -- the claim of a place: it is the one that was set, or as before
     record SetHere (p : ℕ) : Type 0 where
       place : p ≡ at
       raised : getD (m .ends) p 0 < b + 1
@@ -117,7 +117,7 @@ module _ (xs : List ℕ) (m : Marked) (n a b at : ℕ) (o : inOrder xs ≡ true)
         (λ u. inr (record { end = rw (u .1); owner = rw (u .2) }))
         (s .set-or-not)
 
-    -- the mark at the place itself
+    -- the claim at the place itself
     top : b < getD (m′ .ends) at 0
     top = ⊎-elim (λ u. rw (u .1, getD-set-same (m .ends) at (b + 1) 0 (omega (arith, w .ends-size))) (omega arith)) (λ u. rw (u .1) (omega (arith, u .0))) (s .set-or-not)
 
@@ -127,8 +127,8 @@ module _ (xs : List ℕ) (m : Marked) (n a b at : ℕ) (o : inOrder xs ≡ true)
         (λ u. ap (λ (x : ℕ). getD (m′ .numbers) x 0) (u .owner) ∙ s .met .same (lt-ltb 0 (getD (m .ends) at 0) (omega (arith, top, u .end))))
         (point at)
 
-    marks : Marks (m′ .ends) (m′ .owners) (m′ .numbers)
-    marks =
+    claims : Claims (m′ .ends) (m′ .owners) (m′ .numbers)
+    claims =
         record {
           ends-size = ⊎-elim (λ u. rw (u .1) (length-set (m .ends) at (b + 1) ∙ w .ends-size)) (λ u. rw (u .1) (w .ends-size)) (s .set-or-not);
           owners-size = ⊎-elim (λ u. rw (u .2) (length-set (m .owners) at n ∙ w .owners-size)) (λ u. rw (u .2) (w .owners-size)) (s .set-or-not);
@@ -202,7 +202,7 @@ module _ (xs : List ℕ) (m : Marked) (n a b at : ℕ) (o : inOrder xs ≡ true)
     pub take-hit : Takes taken xs m m′
     take-hit =
         record {
-          marks = marks;
+          claims = claims;
           links = λ holding held tells. (founded holding held tells, now-held holding held tells);
           kept = s .met .joins .kept;
           stays = stays;
