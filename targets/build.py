@@ -17,7 +17,7 @@ HERE = ROOT / "targets"
 
 # As the toolchain tells its clang, for every machine; and what tools/staticlib adds: functions with large local arrays keep their own frames.
 CLANG = ("-ffunction-sections -fdata-sections -mllvm -trap-unreachable -mllvm -no-trap-after-noreturn --no-default-config"
-         " -fintegrated-cc1 -Werror -mllvm -inline-max-stacksize=2048").split()
+         " -fintegrated-cc1 -Werror -mllvm -inline-max-stacksize=2048 -mllvm -inline-threshold=130").split()
 C = ["-std=c11", "-ffreestanding", "-nostdinc", "-Wall", "-Wextra", f"-I{HERE / 'include'}", f"-I{ROOT / 'include'}"]
 
 # What a compiler for ARM calls for memcpy, memmove and memset (the run-time ABI of ARM, 4.3.4).

@@ -68,22 +68,33 @@ fn middle_and_most(of: impl Iterator<Item = f64>) -> [f64; 2] {
     [all[all.len() / 2], all[all.len() - 1]]
 }
 
-/// Other work on the machine makes a few ratios far too great or too small: those
-/// at both ends are measured again, more often.
-fn remeasure(names: &[Vec<u32>], table: &[u32], times: &mut [[f64; 2]]) {
+/// How many scalar passes a real name may take.
+const PASSES: f64 = 3.0;
+
+/// Other work on the machine makes a few times far too great: the ratios at both
+/// ends, and what takes over three passes, are measured again, more often.
+fn remeasure(names: &[Vec<u32>], table: &[u32], pass: f64, times: &mut [[f64; 2]]) {
     let mut order: Vec<usize> = (0..names.len()).collect();
     order.sort_by(|&a, &b| (times[a][0] / times[a][1]).total_cmp(&(times[b][0] / times[b][1])));
     let ends = order.len().min(100);
-    for &i in order[..ends].iter().chain(&order[order.len() - ends..]) {
+    let mut again: Vec<usize> = [&order[..ends], &order[order.len() - ends..]].concat();
+    again.extend(order.iter().filter(|&&i| times[i][0] > PASSES * pass));
+    for i in again {
         let again = both(&names[i], table, 8 * REPEATS);
         times[i] = [times[i][0].min(again[0]), times[i][1].min(again[1])];
     }
 }
 
+/// The length of a name and its first codepoints.
+fn shown(name: &[u32]) -> String {
+    let first: Vec<String> = name.iter().take(12).map(|c| format!("{c:X}")).collect();
+    format!("{} codepoints, {}", name.len(), first.join(" "))
+}
+
 fn over(what: &str, names: &[Vec<u32>], table: &[u32]) {
     let pass = one_pass(table);
     let mut times: Vec<[f64; 2]> = names.iter().map(|name| both(name, table, REPEATS)).collect();
-    remeasure(names, table, &mut times);
+    remeasure(names, table, pass, &mut times);
     let [middle, most] = middle_and_most(times.iter().map(|[proved, plain]| proved / plain));
     let [sum_proved, sum_plain] = [0, 1].map(|i| times.iter().map(|of| of[i]).sum::<f64>());
     println!("{what}, {} names, {} words: one scalar pass {:.1} us", names.len(), table.len(), pass * 1e6);
@@ -92,10 +103,13 @@ fn over(what: &str, names: &[Vec<u32>], table: &[u32]) {
         let [middle, most] = middle_and_most(times.iter().map(|of| of[i] / pass));
         println!("  {version}: median {:.1} us, {middle:.2} scalar passes, worst {most:.2}", middle * pass * 1e6);
     }
-    let worst = (0..names.len()).max_by(|&a, &b| (times[a][0] / times[a][1]).total_cmp(&(times[b][0] / times[b][1])));
-    let worst = worst.expect("a name");
-    let shown: Vec<String> = names[worst].iter().take(12).map(|c| format!("{c:X}")).collect();
-    println!("  the worst ratio: {} codepoints, {}", names[worst].len(), shown.join(" "));
+    let dearest = |of: fn(&[f64; 2]) -> f64| {
+        let worst = (0..names.len()).max_by(|&a, &b| of(&times[a]).total_cmp(&of(&times[b])));
+        shown(&names[worst.expect("a name")])
+    };
+    println!("  the worst ratio: {}", dearest(|t| t[0] / t[1]));
+    let long = times.iter().filter(|t| t[0] > PASSES * pass).count();
+    println!("  proved, over {PASSES} scalar passes: {long} names; the longest time: {}", dearest(|t| t[0]));
 }
 
 /// The parts of the pass, each as a multiple of the scalar pass.
