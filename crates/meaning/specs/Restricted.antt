@@ -19,7 +19,7 @@ use Rattle.joining.specs.Labels.{cons-accepts, accepts-cons}
 use Rattle.joining.specs.Joining.{NameAccepts, name-accepts, accepts-name}
 use Rattle.meaning.specs.Numbers.{OfRules, label-refuses}
 
--- "Without" the setting: at 0 a label's verdict is that of 5 to 14.
+-- "Without" the setting: at 0 a label's verdict is that of 5 to 14 and 16.
 pub off : (t : Table) (start done place : ℕ) (l : List ℕ) → labelBy 0 t start done place l ≡ labelVerdict t start done place l
 off = by-off
 

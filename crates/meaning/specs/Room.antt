@@ -37,7 +37,7 @@ one-accepted on t l x e =
     go (some at) place f = absurd (let z : _≡_ {A = ℕ} 0 1 = cc in omega arith)
 
 module _ (on : ℕ) (words input : List ℕ) (room work : ℕ) (enough : mostWorked ≤ room) where
-  -- the answer of a name that passes 1 to 14 fits
+  -- the answer of a name that passes 1 to 14, 16 and 17 fits
   name-fits : (ls : List Label) → nameBefore15 on words input work ≡ accepted ls → length (nameAnswer ls) ≤ mostWorked
   unfolding nameVerdict
   name-fits ls e =

@@ -61,7 +61,7 @@ labelBy setting t start done place l = next (labelVerdict t start done place l) 
 
 -- The one label of the label call. "The label call gives 5 for a 2E, which no emoji match covers there": where there is a 2E, the part
 -- before the first one is scanned alone, and 5 is given in it or else at that 2E, before 6 and 7. "Its place for 6 to 14 is 0.", and for
--- 17.
+-- 16 and 17.
 unfoldable pub oneLabel : ℕ → Table → List ℕ → Verdict Label
 unfolding steps firstDisallowed labelBy
 oneLabel setting t l =

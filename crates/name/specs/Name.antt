@@ -18,8 +18,8 @@ unfolding split
 labelsOf [] = []
 labelsOf (c ∷ n) = split stop (c ∷ n)
 
--- "then 5 to 14 in order for each label from the left", and 17 "after 14 in each label": the labels from number `place` on, which start at
--- `start`; `done` is the worked length before them, "plus one for each stop between them"
+-- "then 5 to 14 in order for each label from the left", by 02's Item 12 with 16, and 17 "after 14 in each label": the labels from number `place` on,
+-- which start at `start`; `done` is the worked length before them, "plus one for each stop between them"
 unfoldable pub labelsVerdict : ℕ → Table → ℕ → ℕ → ℕ → List (List ℕ) → Verdict (List Label)
 unfolding labelBy
 labelsVerdict setting t start done place [] = accepted []

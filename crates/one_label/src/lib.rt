@@ -59,7 +59,7 @@ fn normalised(
     }
 }
 
-// 6 to 14 on the tokens that a scan has laid down.
+// 6 to 14 and 16 on the tokens that a scan has laid down.
 fn judge_tokens(
     words: &[u32],
     ix: Sections,

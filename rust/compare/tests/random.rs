@@ -35,7 +35,7 @@ fn disturbed_sections() {
     assert!(report.counts.differences == 0 && 4 * report.counts.with_rules > report.counts.lengthened_names);
 }
 
-/// Groups with lists (02, Item 12), also by a second voice.
+/// Groups with lists (02, Item 12), with a second check.
 #[test]
 fn lists_of_sequences() {
     check_lists(&Slow, &[&Plain, &Passed, &Indexed], 12_000_000, 400);

@@ -36,7 +36,7 @@ fn disturbed_sections() {
 }
 
 /// Groups with lists (02, Item 12): as the plain version, its slow ways and a
-/// second voice.
+/// second check.
 #[test]
 fn lists_of_sequences() {
     check_lists(&Proved, &[&Plain, &Slow], 12_100_000, 400);
