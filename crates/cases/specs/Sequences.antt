@@ -13,6 +13,7 @@ use Rattle.table.specs.Table as table
 use Rattle.table.specs.Layout.{parse, theTable}
 use Rattle.tokens.specs.Tokens.{emoji, text, joinedText}
 use Rattle.compounds.specs.Compounds.{compounds}
+use Rattle.name.specs.Label.{labelCall}
 use Rattle.name.specs.Name.{nameVerdict, nameCall}
 use Rattle.soundness.specs.Soundness.{soundnessOf}
 use Rattle.cases.specs.SmallTable.{latinWith, tableWith, smallTable}
@@ -127,3 +128,70 @@ past-section = refl
 pub sound : map soundnessOf (listedTable ∷ tableWith (latinWith 6 (1 ∷ 2 ∷ 0x78 ∷ 0xD800 ∷ [])) ∷ []) ≡ none ∷ some 1 ∷ []
 unfolding soundnessOf listedTable tableWith
 sound = refl
+
+-- "a run of over 7 marks is never listed": here the longest list record, 78 and seven marks. One mark more or fewer is 16.
+unfoldable pub longTable : List ℕ
+unfolding tableWith
+longTable = tableWith (latinWith 6 (1 ∷ 8 ∷ 0x78 ∷ replicate 7 0x300))
+
+unfoldable pub longCases : List Case
+unfolding gives refuses
+longCases =
+    gives (0x78 ∷ replicate 7 0x300) (0x78 ∷ replicate 7 0x300) (latin ∷ []) ∷ refuses (0x78 ∷ replicate 8 0x300) 16 0 ∷ refuses (0x78 ∷ replicate 6 0x300) 16 0 ∷ []
+
+pub long-runs : map (λ c. outcome longTable (c .name)) longCases ≡ map (λ c. c .due) longCases
+unfolding outcome longTable longCases
+long-runs = refl
+
+-- Flags 7: the group with the list is restricted. With Item 13's setting on, what is listed is 17, and 16 comes before it.
+unfoldable pub restrictedTable : List ℕ
+unfolding tableWith
+restrictedTable = tableWith (latinWith 7 list)
+
+unfoldable pub restrictedCases : List Case
+unfolding gives refuses
+restrictedCases =
+    gives (0x78 ∷ 0x300 ∷ []) (0x78 ∷ 0x300 ∷ []) (Group (record { number = 0; restricted = true }) ∷ []) ∷ refuses (0x78 ∷ 0x303 ∷ []) 16 0 ∷ []
+
+pub restricted : map (λ c. outcome restrictedTable (c .name)) restrictedCases ≡ map (λ c. c .due) restrictedCases
+unfolding outcome restrictedTable restrictedCases
+restricted = refl
+
+pub before-17 : map (λ (name : List ℕ). nameCall 1 restrictedTable name 8 leastWork .values .number) ((0x78 ∷ 0x300 ∷ []) ∷ (0x78 ∷ 0x303 ∷ []) ∷ []) ≡ 17 ∷ 16 ∷ []
+unfolding nameCall restrictedTable
+before-17 = refl
+
+-- 16 comes before 14: 445 looks like Latin 78. In a group that lists 445 303, that text is 14 and 445 300 is 16; without the list both are 14.
+abbrev lookalikes : ℕ → List ℕ → List ℕ
+lookalikes flags words = tableWith (latinWith 0 [] ++ (flags ∷ 6 ∷ 0x300 ∷ 0x300 ∷ 0x303 ∷ 0x303 ∷ 0x445 ∷ 0x445 ∷ words))
+
+abbrev numbers : List ℕ → List ℕ
+numbers words = map (λ (name : List ℕ). nameCall 0 words name 8 leastWork .values .number) ((0x445 ∷ 0x303 ∷ []) ∷ (0x445 ∷ 0x300 ∷ []) ∷ [])
+
+pub before-14 : map numbers (lookalikes 6 (1 ∷ 2 ∷ 0x445 ∷ 0x303 ∷ []) ∷ lookalikes 2 [] ∷ []) ≡ (14 ∷ 16 ∷ []) ∷ (14 ∷ 14 ∷ []) ∷ []
+unfolding nameCall tableWith
+before-14 = refl
+
+-- the label call: 16 at place 0, and zeros
+pub label-place : labelCall 0 listedTable (0x78 ∷ 0x303 ∷ []) 8 leastWork
+    ≡ record { values = record { number = 16; place = 0; length = 0; kind = none }; answer = replicate 8 0; work = replicate leastWork 0 }
+unfolding labelCall listedTable
+label-place = refl
+
+-- A list's items are not the group's characters: where no group's pairs hold 303 (it is valid by the decomposition of 1EBD), the list of 78 303 leaves
+-- the table sound, and that label is 12.
+unfoldable pub outsideTable : List ℕ
+unfolding tableWith
+outsideTable =
+    tableWith (
+    (6 ∷ 20 ∷ 0x24 ∷ 0x24 ∷ 0x2D ∷ 0x2D ∷ 0x30 ∷ 0x39 ∷ 0x5F ∷ 0x5F ∷ 0x61 ∷ 0x7A ∷ 0xE0 ∷ 0xE0 ∷ 0xE6 ∷ 0xE6 ∷ 0x300 ∷ 0x300 ∷ 0x1EBD ∷ 0x1EBD ∷ 0x2019 ∷ 0x2019 ∷ 1 ∷ 2 ∷ 0x78 ∷ 0x303 ∷ [])
+    ++ (0 ∷ 8 ∷ 0x2D ∷ 0x2D ∷ 0x30 ∷ 0x39 ∷ 0x3BE ∷ 0x3BE ∷ 0x3C4 ∷ 0x3C4 ∷ 0 ∷ 8 ∷ 0x30 ∷ 0x39 ∷ 0x442 ∷ 0x442 ∷ 0x445 ∷ 0x445 ∷ 0x4D5 ∷ 0x4D5 ∷ [])
+    )
+
+pub outside-sound : soundnessOf outsideTable ≡ none
+unfolding soundnessOf outsideTable
+outside-sound = refl
+
+pub outside-12 : nameCall 0 outsideTable (0x78 ∷ 0x303 ∷ []) 8 leastWork .values .number ≡ 12
+unfolding nameCall outsideTable
+outside-12 = refl
