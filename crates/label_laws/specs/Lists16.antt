@@ -25,7 +25,8 @@ module _ (t : Table) (place : ℕ) (s : List ℕ) (g : Numbered) where
   unfolding judgeInGroup compoundsFit
   unlisted e = rw e
 
-  -- a group with a list is whitelisted, so that 13 is not asked; and a list permits what it lists, no more
+  -- A group that is whitelisted and has a list: 13 is not asked, and the list permits what it lists, no more. In every table a group with a list is
+  -- whitelisted: `sequence_laws` `Laid` `listed-white`, and there `judged-listed` says this of the group found.
   pub listed : (list : List (List ℕ)) → g .group .whitelisted ≡ true → g .group .sequences ≡ some list
       → judgeInGroup t place s g ≡ unless (not (all (inList list) (compounds t s))) 16 place (from14 t place s g)
   unfolding judgeInGroup compoundsFit
