@@ -17,7 +17,9 @@ HERE = ROOT / "targets"
 
 # As the toolchain tells its clang, for every machine; and what tools/staticlib adds: functions with large local arrays keep their own frames.
 CLANG = ("-ffunction-sections -fdata-sections -mllvm -trap-unreachable -mllvm -no-trap-after-noreturn --no-default-config"
-         " -fintegrated-cc1 -Werror -mllvm -inline-max-stacksize=2048 -mllvm -inline-threshold=130").split()
+         " -fintegrated-cc1 -Werror -mllvm -inline-max-stacksize=2048").split()
+# What it adds for x86-64 alone: with it a copy of a sponge, with bytes of a label, stays on the stack of WebAssembly.
+X86 = "-mllvm -inline-threshold=130".split()
 C = ["-std=c11", "-ffreestanding", "-nostdinc", "-Wall", "-Wextra", f"-I{HERE / 'include'}", f"-I{ROOT / 'include'}"]
 
 # What a compiler for ARM calls for memcpy, memmove and memset (the run-time ABI of ARM, 4.3.4).
@@ -190,7 +192,7 @@ def sections(path):
 def is_kept(name, room):
     """Whether the module that is kept of an archive is the one that it was compiled from: compiled again as rt does, it gives the same object."""
     kept = ROOT / "target/staticlib"
-    clang(f"--target={TRIPLE}", "-march=x86-64", *CLANG, "-fPIC", "-O3", "-c", "-x", "ir", kept / f"{name}.bc", "-o", room / "again.o")
+    clang(f"--target={TRIPLE}", "-march=x86-64", *CLANG, *X86, "-fPIC", "-O3", "-c", "-x", "ir", kept / f"{name}.bc", "-o", room / "again.o")
     return [(room / "again.o").read_bytes()] == list(objects(kept / f"lib{name}.a"))
 
 
@@ -207,7 +209,8 @@ def build(machine, modules, to):
             changed, calls = retarget(text, header, layout, triple, machine.probes, machine.bits)
             (room / f"{name}.ll").write_text(changed, encoding="utf-8")
             (room / f"{name}_calls.c").write_text(header.shim(calls), encoding="utf-8")
-            clang(*machine.clang, *CLANG, machine.level, "-fstack-usage", "-c", "-x", "ir", room / f"{name}.ll", "-o", room / f"{name}.o")
+            words = [*machine.clang, *CLANG, *(X86 if machine.name.startswith("x86_64") else []), machine.level, "-fstack-usage"]
+            clang(*words, "-c", "-x", "ir", room / f"{name}.ll", "-o", room / f"{name}.o")
             compile_c(machine, room / f"{name}_calls.c", room / f"{name}_calls.o", "-O2", "-fstack-usage")
             members += [room / f"{name}.o", room / f"{name}_calls.o"]
             done += calls
