@@ -1,5 +1,6 @@
-// Whether a call leaves text that needs no NFC as it is: rules 6 to 8 are looked for where the input is so long that this saves more than the
-// look costs.
+// Whether a call leaves text that needs no NFC as it is: rules 6 to 8 are looked for where the input is long enough to bear the look, and no
+// longer than the worked length may be, since text over that is given up at the limit and scanned again.
+use limits::MOST_WORKED;
 use quick_found::finds;
 use sections::Sections;
 use unpaired::QUICK_PLACE;
@@ -25,7 +26,7 @@ pub fn ask(words: &[u32], ix: Sections, unpaired: &mut [u32], n: usize)
     ensures { λ _. ⌜ (has (now (unpaired .exit)) pairPlaces ≡ true
         → (has (now (unpaired .entry)) pairPlaces ≡ true) ⊎ RulesHold (theTable (now (words .entry)))) ⌝ }
 {
-    if n < QUICK_FROM {
+    if (n < QUICK_FROM) | (MOST_WORKED < n) {
         return;
     }
     if !finds(words, ix) {

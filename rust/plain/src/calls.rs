@@ -34,13 +34,13 @@ pub fn check_room<'t>(table: &'t [u32], work: &[u32]) -> Result<Table<'t>, Refus
 
 /// The same with what one pass finds; rules 6 to 8 are looked for where the
 /// input has `QUICK_FROM` codepoints: a shorter one would pay more for that than
-/// it saves.
+/// it saves, and one over the worked limit would be scanned twice.
 pub fn check_room_by_pass<'t>(table: &'t [u32], work: &[u32], input: &[u32]) -> Result<Pass<'t>, Refusal> {
     let Some(mut pass) = Pass::read(table) else {
         return refuse(1, 0);
     };
     check_work(work)?;
-    if (QUICK_FROM..=limits::INPUT).contains(&input.len()) {
+    if (QUICK_FROM..=limits::WORKED).contains(&input.len()) {
         pass.look_for_rules();
     }
     Ok(pass)
