@@ -51,6 +51,7 @@ enum wanlopheng_refusal {
     WANLOPHENG_NSM_RUN = 13,        /* too many or equal nonspacing marks together */
     WANLOPHENG_CONFUSABLE = 14,     /* the label looks like another one */
     WANLOPHENG_ANSWER_TOO_SMALL = 15, /* the answer buffer is too small */
+    WANLOPHENG_COMPOUND = 16,       /* a character with marks that its script group does not list */
     WANLOPHENG_RESTRICTED = 17,     /* the label is of a restricted script group */
     WANLOPHENG_FILE_VERSION = 20,   /* the table file has another version */
     WANLOPHENG_FILE_LENGTH = 21,    /* the table file has a wrong length */
@@ -79,7 +80,7 @@ enum wanlopheng_kind {
 
 /* What unpacking answers. */
 struct wanlopheng_unpack {
-    uint32_t number; /* 0: unpacked. 20: a version other than 1 to 3. 21: a wrong length. 22: the answer is too small. */
+    uint32_t number; /* 0: unpacked. 20: a version other than 1 to 4. 21: a wrong length. 22: the answer is too small. */
     size_t count;    /* the number of words, added ones included; 0 beside a refusal */
 };
 
@@ -90,8 +91,8 @@ struct wanlopheng_unpack wanlopheng_unpack(const uint8_t *file, size_t file_leng
 
 /* What the name call answers. */
 struct wanlopheng_name {
-    uint32_t number; /* 0: accepted. 1 to 15, 17: the refusal. */
-    size_t place;    /* the place of the refusal: an index of the name for 4 and 5, a label for 6 to 14 and 17, else 0 */
+    uint32_t number; /* 0: accepted. 1 to 17: the refusal. */
+    size_t place;    /* the place of the refusal: an index of the name for 4 and 5, a label for 6 to 14, 16 and 17, else 0 */
     size_t length;   /* the length of the normal form; 0 beside a refusal */
     size_t labels;   /* the number of labels; 0 beside a refusal */
 };
@@ -113,7 +114,7 @@ struct wanlopheng_name wanlopheng_screen(const uint32_t *input, size_t input_len
 
 /* What the label call answers. */
 struct wanlopheng_label {
-    uint32_t number;     /* 0: accepted. 1 to 15, 17: the refusal. */
+    uint32_t number;     /* 0: accepted. 1 to 17: the refusal. */
     size_t place;        /* the place of the refusal: an index of the label for 4 and 5, else 0 */
     size_t length;       /* the length of the normal form; 0 beside a refusal */
     uint32_t kind;       /* 1: emoji. 2: ASCII. 3: a group. 0 beside a refusal. */
@@ -205,7 +206,7 @@ struct wanlopheng_account {
 
 /* What save, forget and reset of the payee book answer. */
 struct wanlopheng_book {
-    uint32_t number; /* 0: done. 40: the area has another size. 41: it is damaged. Then the name call's 1 to 15 and 17. 42: the normal form is
+    uint32_t number; /* 0: done. 40: the area has another size. 41: it is damaged. Then the name call's 1 to 17. 42: the normal form is
                         empty. 43: it has over 255 codepoints. 44 (find, forget): the name is not filed. 45 (save): no slot is free. */
     size_t place;    /* that of a refusal of the name call, else 0 */
 };
@@ -300,7 +301,7 @@ struct wanlopheng_namehash wanlopheng_namehash(const uint32_t *input, size_t inp
 
 /* What the report answers. */
 struct wanlopheng_report {
-    uint32_t number; /* 0: done. Else that of the name call's refusal, 1 to 14 and 17; then 32: the report is longer than its buffer. */
+    uint32_t number; /* 0: done. Else that of the name call's refusal, 1 to 14, 16 and 17; then 32: the report is longer than its buffer. */
     size_t place;    /* that of a refusal of the name call, else 0 */
     size_t length;   /* the number of bytes of the report; 0 beside a refusal */
 };

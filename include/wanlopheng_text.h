@@ -22,6 +22,7 @@ static inline const char *wanlopheng_text(uint32_t number) {
     case 13: return "too many or equal nonspacing marks together";
     case 14: return "the label looks like another one";
     case 15: return "the answer buffer is too small";
+    case 16: return "a character with marks that its script group does not list";
     case 17: return "the label is of a restricted script group";
     case 20: return "the table file has another version";
     case 21: return "the table file has a wrong length";

@@ -39,9 +39,11 @@ LIBC = {"aarch64-linux-gnu-gcc": "libc6-dev-arm64-cross", "arm-linux-gnueabihf-g
 
 
 def left_most(machine):
-    """Single codepoints of a name that may stay on the stack (docs/STACK.md), and how many in order. Thumb has few registers and saves more of them;
-    machines that save registers in pairs save the two codepoints of a composition side by side."""
-    return 24 if machine.name.startswith("thumb") else 16, 1 if machine.name.startswith(("x86_64", "wasm32")) else 2
+    """Single codepoints of a name that may stay on the stack (docs/STACK.md), and how many in order. Thumb has few registers and saves more of them, the
+    M0, which has the fewest, most; machines that save registers in pairs save the two codepoints of a composition side by side."""
+    name = machine.name
+    words = 32 if name.startswith("thumbv6m") else 24 if name.startswith("thumb") else 16
+    return words, 1 if name.startswith(("x86_64", "wasm32")) else 2
 
 
 def check_left(machine, kind, words, in_order, tally):

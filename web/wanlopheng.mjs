@@ -19,6 +19,7 @@ export const MEANINGS = Object.freeze({
     13: 'too many or equal nonspacing marks together',
     14: 'the label looks like another one',
     15: 'the answer buffer is too small',
+    16: 'a character with marks that its script group does not list',
     17: 'the label is of a restricted script group',
     20: 'the table file has another version',
     21: 'the table file has a wrong length',

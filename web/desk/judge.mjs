@@ -29,8 +29,9 @@ export const RULES = Object.freeze({
     13: ['Too many marks stand on one letter, or the same mark stands on it twice.', 'Four different ones are the most.'],
     14: ['The label looks like another one that is written in another script.', 'Do not trust it by its looks.'],
     15: ['The answer does not fit its buffer.', 'This is a fault of the page.'],
+    16: ['A letter carries marks that this script does not have on it.', 'Remove a mark, or write another letter.'],
     17: ['The label is of a script that few people use, and the setting refuses those.', 'The switch "Refuse rare scripts" turns this off.'],
-    20: ['The table file has a version that the engine does not know.', 'Versions 1 and 2 are known.'],
+    20: ['The table file has a version that the engine does not know.', 'Versions 1 to 4 are known.'],
     21: ['The table file does not have the length that it says.', 'It may be cut, or not be a table file.'],
     22: ['The table is too large.', 'It may have 131,074 words.'],
     30: ['The bytes are not UTF-8.', 'Save the text as UTF-8.'],
@@ -223,7 +224,7 @@ function refused(desk, codepoints, { number, place, text }) {
         const label = labelsOf(codepoints).findIndex(({ end }) => place < end);
         return { ...found, start: place, end: place + 1, label, codepoint: codepoints[place] };
     }
-    if ((number >= 6 && number <= 14) || number === 17) {
+    if ((number >= 6 && number <= 14) || number === 16 || number === 17) {
         const { start, end } = labelsOf(codepoints)[place];
         const label = codepoints.slice(start, end);
         const more = number === 12 ? { characters: behind12(desk, label) } : number === 14 ? behind14(desk, label) : {};

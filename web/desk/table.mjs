@@ -26,7 +26,8 @@ const readers = {
     counted: (words, at) => [{ items: [...words.subarray(at + 1, at + 1 + words[at])] }, at + 1 + words[at]],
     groups: (words, at) => {
         const end = at + 2 + words[at + 1];
-        return [{ restricted: (words[at] & 1) === 1, whitelisted: (words[at] & 2) === 2, pairs: entries('pairs', words.subarray(at + 2, end)) }, end];
+        const [list, next] = (words[at] & 4) === 4 ? sequences(words, end) : [null, end];
+        return [{ restricted: (words[at] & 1) === 1, whitelisted: (words[at] & 2) === 2, pairs: entries('pairs', words.subarray(at + 2, end)), list }, next];
     },
     wholes: (words, at) => {
         const middle = at + 1 + words[at];
@@ -34,6 +35,18 @@ const readers = {
         return [{ valid: [...words.subarray(at + 1, middle)], confused: [...words.subarray(middle + 1, end)] }, end];
     },
 };
+
+/** The list of a group, which starts with its count, and the place behind it. */
+function sequences(words, start) {
+    const found = [];
+    let at = start + 1;
+    for (let left = words[start]; left > 0; left -= 1) {
+        const [{ items }, next] = readers.counted(words, at);
+        found.push(items);
+        at = next;
+    }
+    return [found, at];
+}
 
 function entries(kind, words) {
     const found = [];

@@ -180,6 +180,16 @@ test('the contents of a table', async () => {
     assert.deepEqual([contents.fate(0x61).how, contents.fate(0x41).to, contents.fate(0xad).how, contents.fate(0x131).how], ['kept', [0x61], 'ignored', 'disallowed']);
     assert.ok(contents.groupsOf(0x61).includes(0));
     assert.deepEqual(contents.lookalikes(0x31), []);
+    assert.ok(contents.groups.every(({ list }) => list === null));
+});
+
+test('the contents of a table with lists of sequences', () => {
+    // Ten empty sections, exclusions with their record; three groups, the first two with lists; three empty sections.
+    const groups = [6, 2, 0x61, 0x62, 2, 2, 0x61, 0x300, 3, 0x62, 0x300, 0x301, 7, 0, 0, 1, 2, 0x63, 0x63];
+    const contents = new Contents(Uint32Array.from([...Array(8).fill(0), 1, 0, 0, groups.length, ...groups, 0, 0, 0]));
+    assert.deepEqual(contents.groups.map((g) => g.list), [[[0x61, 0x300], [0x62, 0x300, 0x301]], [], null]);
+    assert.deepEqual(contents.groups.map((g) => [g.restricted, g.whitelisted]), [[false, true], [true, true], [true, false]]);
+    assert.deepEqual([contents.groupsOf(0x62), contents.groupsOf(0x63), contents.groupsOf(0x300)], [[0], [2], []]);
 });
 
 test('payee books: dumps, damage, what a reset leaves', async () => {

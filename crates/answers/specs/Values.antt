@@ -5,7 +5,7 @@ use Prim.Native.Nat.{ℕ}
 use mathlib.Core.Option.{Option, none, some}
 use Rattle.answers.specs.declared.Kind.{Kind}
 use Rattle.answers.specs.declared.Refusal.{Refusal}
-use Rattle.answers.specs.declared.Refusal.the-variants.{LayoutFault, WorkAreaTooSmall, InputTooLong, NotScalar, Disallowed, NoTokens, WorkedTooLong, LowLine, Hyphens, Fenced, LeadingMark, NoGroup, NsmRun, Confusable, Restricted, BufferTooSmall}
+use Rattle.answers.specs.declared.Refusal.the-variants.{LayoutFault, WorkAreaTooSmall, InputTooLong, NotScalar, Disallowed, NoTokens, WorkedTooLong, LowLine, Hyphens, Fenced, LeadingMark, NoGroup, NsmRun, Compound, Confusable, Restricted, BufferTooSmall}
 use Rattle.answers.specs.declared.NameAnswer.{NameAnswer}
 use Rattle.answers.specs.declared.NameAnswer.the-variants as name
 use Rattle.answers.specs.declared.LabelAnswer.{LabelAnswer}
@@ -30,6 +30,7 @@ numberOf (Fenced l) = 10
 numberOf (LeadingMark l) = 11
 numberOf (NoGroup l) = 12
 numberOf (NsmRun l) = 13
+numberOf (Compound l) = 16
 numberOf (Confusable l) = 14
 numberOf (Restricted l) = 17
 numberOf BufferTooSmall = 15
@@ -49,6 +50,7 @@ placeOf (Fenced l) = l
 placeOf (LeadingMark l) = l
 placeOf (NoGroup l) = l
 placeOf (NsmRun l) = l
+placeOf (Compound l) = l
 placeOf (Confusable l) = l
 placeOf (Restricted l) = l
 placeOf BufferTooSmall = 0

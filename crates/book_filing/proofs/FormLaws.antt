@@ -12,7 +12,7 @@ use Rattle.lists.specs.Laws.{not-empty}
 use Rattle.answers.specs.Verdict.{Verdict, accepted, refused}
 use Rattle.answers.specs.Values.{NameValues, nameValues, numberOf, placeOf}
 use Rattle.answers.specs.declared.Refusal.{Refusal}
-use Rattle.answers.specs.declared.Refusal.the-variants.{LayoutFault, WorkAreaTooSmall, InputTooLong, NotScalar, Disallowed, NoTokens, WorkedTooLong, LowLine, Hyphens, Fenced, LeadingMark, NoGroup, NsmRun, Confusable, Restricted, BufferTooSmall}
+use Rattle.answers.specs.declared.Refusal.the-variants.{LayoutFault, WorkAreaTooSmall, InputTooLong, NotScalar, Disallowed, NoTokens, WorkedTooLong, LowLine, Hyphens, Fenced, LeadingMark, NoGroup, NsmRun, Compound, Confusable, Restricted, BufferTooSmall}
 use Rattle.answers.specs.declared.NameAnswer.{NameAnswer}
 use Rattle.answers.specs.declared.NameAnswer.the-variants as name
 use Rattle.ending.specs.Ends.{result-fits}
@@ -63,6 +63,7 @@ numbered (Fenced l) = refl
 numbered (LeadingMark l) = refl
 numbered (NoGroup l) = refl
 numbered (NsmRun l) = refl
+numbered (Compound l) = refl
 numbered (Confusable l) = refl
 numbered (Restricted l) = refl
 numbered BufferTooSmall = refl

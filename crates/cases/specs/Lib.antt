@@ -2,3 +2,4 @@ pub mod SmallTable
 pub mod Starred
 pub mod Differences
 pub mod Extents
+pub mod Sequences

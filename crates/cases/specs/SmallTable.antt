@@ -1,6 +1,6 @@
 -- A small table of our own for the worked cases. Assumes nothing.
 use Prim.Native.Nat.{ℕ}
-use mathlib.Core.List.{List, [], _∷_}
+use mathlib.Core.List.{List, [], _∷_, _++_}
 use lib.ListN.{length}
 use Rattle.lists.specs.Lists.{joined}
 
@@ -48,9 +48,11 @@ exclusionWords = 0 ∷ []
 abbrev classWords : List ℕ
 classWords = 0x300 ∷ 0x303 ∷ 230 ∷ []
 
--- groups: Latin 0, Greek 1, Cyrillic 2; none is restricted or whitelisted; all hold the digits
-abbrev groupWords : List ℕ
-groupWords = 0 ∷ 22 ∷ 0x24 ∷ 0x24 ∷ 0x2D ∷ 0x2D ∷ 0x30 ∷ 0x39 ∷ 0x5F ∷ 0x5F ∷ 0x61 ∷ 0x7A ∷ 0xE0 ∷ 0xE0 ∷ 0xE6 ∷ 0xE6 ∷ 0x300 ∷ 0x300 ∷ 0x303 ∷ 0x303 ∷ 0x1EBD ∷ 0x1EBD ∷ 0x2019 ∷ 0x2019 ∷ 0 ∷ 8 ∷ 0x2D ∷ 0x2D ∷ 0x30 ∷ 0x39 ∷ 0x3BE ∷ 0x3BE ∷ 0x3C4 ∷ 0x3C4 ∷ 0 ∷ 8 ∷ 0x30 ∷ 0x39 ∷ 0x442 ∷ 0x442 ∷ 0x445 ∷ 0x445 ∷ 0x4D5 ∷ 0x4D5 ∷ []
+-- groups: Latin 0 with flags and what stands behind its pairs, Greek 1, Cyrillic 2, which are neither restricted nor whitelisted; all hold the digits
+abbrev pub latinWith : ℕ → List ℕ → List ℕ
+latinWith flags list =
+    (flags ∷ 22 ∷ 0x24 ∷ 0x24 ∷ 0x2D ∷ 0x2D ∷ 0x30 ∷ 0x39 ∷ 0x5F ∷ 0x5F ∷ 0x61 ∷ 0x7A ∷ 0xE0 ∷ 0xE0 ∷ 0xE6 ∷ 0xE6 ∷ 0x300 ∷ 0x300 ∷ 0x303 ∷ 0x303 ∷ 0x1EBD ∷ 0x1EBD ∷ 0x2019 ∷ 0x2019 ∷ list)
+    ++ (0 ∷ 8 ∷ 0x2D ∷ 0x2D ∷ 0x30 ∷ 0x39 ∷ 0x3BE ∷ 0x3BE ∷ 0x3C4 ∷ 0x3C4 ∷ 0 ∷ 8 ∷ 0x30 ∷ 0x39 ∷ 0x442 ∷ 0x442 ∷ 0x445 ∷ 0x445 ∷ 0x4D5 ∷ 0x4D5 ∷ [])
 
 -- wholes: 445 looks like Latin 78, 442 like Greek 3C4, 4D5 like Latin E6
 abbrev wholeWords : List ℕ
@@ -60,6 +62,12 @@ wholeWords = 1 ∷ 0x78 ∷ 1 ∷ 0x445 ∷ 1 ∷ 0x3C4 ∷ 1 ∷ 0x442 ∷ 1 �
 abbrev escapeWords : List ℕ
 escapeWords = 0x200D ∷ 0x200D ∷ 0xFE0E ∷ 0xFE0F ∷ []
 
-unfoldable pub smallTable : List ℕ
-smallTable =
+-- the table with these groups
+unfoldable pub tableWith : List ℕ → List ℕ
+tableWith groupWords =
     joined (section validWords ∷ section ignoredWords ∷ section fencedWords ∷ section markWords ∷ section nsmWords ∷ section mappedWords ∷ section decompositionWords ∷ section emojiWords ∷ section exclusionWords ∷ section classWords ∷ section groupWords ∷ section wholeWords ∷ section escapeWords ∷ section [] ∷ [])
+
+-- Latin is neither restricted nor whitelisted
+unfoldable pub smallTable : List ℕ
+unfolding tableWith
+smallTable = tableWith (latinWith 0 [])

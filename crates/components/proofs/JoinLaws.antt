@@ -18,17 +18,17 @@ use Rattle.table.specs.Layout.{mostGroups}
 use Rattle.table.specs.Lookup.{holds}
 use Rattle.sorting.specs.Order.{inOrder, Gathered}
 use Rattle.group_numbers.specs.Components.{nth, Linked, Components}
-use Rattle.group_numbers.specs.Batch.{batch, Numbers, Founded, Marks, Held, Shared, marked, Takes, Swept, JoinsMore, Least}
+use Rattle.group_numbers.specs.Batch.{batch, Numbers, Founded, Claims, Held, Shared, claimed, Takes, Swept, JoinsMore, Least}
 use Rattle.group_numbers.proofs.NumberLaws.{kept-same, founded-same, kept-on, founded-on, founded-by}
 
--- no marks at first
+-- no claims at first
 zero-at : (n i : ℕ) → _≡_ {A = ℕ} (getD (replicate n 0) i 0) 0
 zero-at zero i = refl
 zero-at (suc n) zero = refl
 zero-at (suc n) (suc i) = zero-at n i
 
-pub marks-none : (k : List ℕ) → Numbers k → Marks (replicate batch 0) (replicate batch 0) k
-marks-none k w =
+pub claims-none : (k : List ℕ) → Numbers k → Claims (replicate batch 0) (replicate batch 0) k
+claims-none k w =
     record {
       ends-size = length-replicate {A = ℕ} batch 0;
       owners-size = length-replicate {A = ℕ} batch 0;
@@ -44,8 +44,8 @@ held-none holding xs =
       later = λ s q h i l. absurd (omega (arith, l, zero-at batch s));
     }
 
--- marks were set for the groups, and the sweep joined their owners
-pub sorted-joins : (gs : List Group) (xs k e o l m : List ℕ) → Takes (λ i x. holds (nth gs i) x) xs (marked (replicate batch 0) (replicate batch 0) k) (marked e o l)
+-- claims were set for the groups, and the sweep joined their owners
+pub sorted-joins : (gs : List Group) (xs k e o l m : List ℕ) → Takes (λ i x. holds (nth gs i) x) xs (claimed (replicate batch 0) (replicate batch 0) k) (claimed e o l)
     → Swept xs e o l m → JoinsMore gs (λ x. mem x xs) k m
 sorted-joins gs xs k e o l m t s = record { joins = record { numbers = s .numbers; kept = kept-on k l m (t .kept) (s .kept); founded = founded }; joined = joined }
   where

@@ -1,10 +1,10 @@
 // The components that the members of a whole make of the groups: groups that hold one member are joined. The members are put in order, BATCH at
 // a time, and a pair of a group is looked up among them by halves, so that the steps are in proportion to the members and, for each batch, to the
-// pairs, whatever the table.
+// pairs and to the records of the groups' lists, whatever the table.
 use buffers::clear;
-use group_marks::take_groups;
+use claim_sweep::sweep;
+use group_claims::take_groups;
 use group_numbers::BATCH;
-use mark_sweep::sweep;
 use sorting::gather;
 ghost use mathlib.Core.Path.{_≡_};
 ghost use mathlib.Core.Bool.{true, _||_};

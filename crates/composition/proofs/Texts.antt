@@ -11,7 +11,7 @@ use Rattle.text.specs.Decomposition.{classOf}
 use Rattle.text.specs.Ordering.{order}
 use Rattle.ordering.specs.Sorting.{sortBy}
 use Rattle.composition.specs.Work.{Ready}
-use Rattle.ordering.proofs.Sorting.{order-sort, map-sort, sort-in-order}
+use Rattle.ordering.proofs.SortingLaws.{order-sort, map-sort, sort-in-order}
 
 -- what the loop that writes the classes keeps
 pub record Beside (t : Table) (d ks : List ℕ) (i : ℕ) : Type 0 where

@@ -55,6 +55,8 @@ fn note_wholes(part: &[u32], set: &mut [u32])
 }
 
 // Makes the filter for a text of so many characters. Of few it leaves every bit set, which rules nothing out.
+// The promise only limits the result: a character whose bit is clear is in no confused list, and of a bit that is set nothing is promised. Which bits
+// are set costs or saves time alone: `whole_by` searches the wholes where one is set, and its answer does not depend on it.
 pub fn make_filter(words: &[u32], ix: Sections, set: &mut [u32], characters: usize)
     requires { ⌜ Laid (now words) ix ⌝ }
     requires { ⌜ now set ≡ replicate filterWords 0xFFFFFFFF ⌝ }

@@ -24,7 +24,7 @@ use Rattle.text.specs.Hangul.{syllableCount, isSyllable, jamoOf}
 use Rattle.text.specs.Decomposition.{single}
 use Rattle.decomposition.specs.Rounds.{itemsBy, ByFits, orItself, ReplacedBy, PartsAre}
 use Rattle.text.proofs.Syllables.{syllable}
-use Rattle.decomposition.proofs.Rounds.{single-syllable, single-items, single-itself}
+use Rattle.decomposition.proofs.RoundLaws.{single-syllable, single-items, single-itself}
 
 -- the jamo of a syllable, by their places
 abbrev two : ℕ → List ℕ

@@ -15,7 +15,7 @@ use Rattle.table.proofs.Lookups.{behind, within-within, behind-fits}
 use Rattle.table.proofs.Records.{sequences-step, sequences-end, records-start, sequence-items}
 use Rattle.firsts.specs.Firsts.{sequencesIn}
 use Rattle.finder.specs.Match.{SequenceFits, Sequences}
-use Rattle.finder.proofs.Finding.{emoji-known}
+use Rattle.finder.proofs.FindingLaws.{emoji-known}
 use Rattle.emoji_record.specs.Record.{SequenceIs}
 
 -- the records before `at` are passed over, and `left` more have to be

@@ -26,10 +26,10 @@ unfoldable pub flagsFor : (Group → Bool) → List Group → List ℕ
 flagsFor f gs = map (λ g. bit (f g)) gs
 
 -- the flags of the groups that hold m are set
-unfoldable pub marked : ℕ → List Group → List ℕ → List ℕ
-marked m [] fs = fs
-marked m (g ∷ gs) [] = []
-marked m (g ∷ gs) (f ∷ fs) = cond (holds g m) 1 f ∷ marked m gs fs
+unfoldable pub flagged : ℕ → List Group → List ℕ → List ℕ
+flagged m [] fs = fs
+flagged m (g ∷ gs) [] = []
+flagged m (g ∷ gs) (f ∷ fs) = cond (holds g m) 1 f ∷ flagged m gs fs
 
 -- a flag is kept where the other list has one, and else cleared
 unfoldable pub kept : List ℕ → List ℕ → List ℕ

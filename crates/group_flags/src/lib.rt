@@ -8,13 +8,13 @@ ghost use Rattle.table.specs.Layout.{mostGroups, theTable};
 ghost use Rattle.sections.specs.Known.{GroupsKnown};
 ghost use Rattle.sections.specs.Laid.{Laid};
 ghost use Rattle.table.specs.GroupPart.{GroupsPart, groupsIn};
-ghost use Rattle.group_flags.specs.Flags.{marked, kept, apart, anySet, OwnNumber, KeepsOutside};
+ghost use Rattle.group_flags.specs.Flags.{flagged, kept, apart, anySet, OwnNumber, KeepsOutside};
 
 // Sets the flags of the groups of a section that hold m.
-fn mark_in(part: &[u32], sorted: bool, flags: &mut [u32; 256], m: u32)
+fn flag_in(part: &[u32], sorted: bool, flags: &mut [u32; 256], m: u32)
     requires { ⌜ GroupsPart (now part) × GroupsKnown (now part) sorted ⌝ }
     requires { ⌜ length (now flags) ≡ mostGroups ⌝ }
-    ensures { λ _. ⌜ now (flags .exit) ≡ marked m (groupsIn (now (part .entry))) (now (flags .entry)) ⌝ }
+    ensures { λ _. ⌜ now (flags .exit) ≡ flagged m (groupsIn (now (part .entry))) (now (flags .entry)) ⌝ }
 {
     let mut n: usize = 0;
     let mut at: usize = 0;
@@ -59,15 +59,15 @@ pub fn any_set(flags: &[u32; 256]) -> bool
 }
 
 // Sets the flags of the groups of a table that hold m.
-pub fn mark_holders(words: &[u32], ix: Sections, flags: &mut [u32; 256], m: u32)
+pub fn flag_holders(words: &[u32], ix: Sections, flags: &mut [u32; 256], m: u32)
     requires { ⌜ Laid (now words) ix ⌝ }
     requires { ⌜ length (now flags) ≡ mostGroups ⌝ }
-    ensures { λ _. ⌜ now (flags .exit) ≡ marked m (theTable (now (words .entry)) .groups) (now (flags .entry)) ⌝ }
+    ensures { λ _. ⌜ now (flags .exit) ≡ flagged m (theTable (now (words .entry)) .groups) (now (flags .entry)) ⌝ }
 {
     let s = ix.groups;
     let from = s.from;
     let to = s.to;
-    mark_in(&words[from..to], ix.sorted.groups, flags, m);
+    flag_in(&words[from..to], ix.sorted.groups, flags, m);
 }
 
 // Keeps the flags of the groups whose component, by its number, is there and is not that of `own`.

@@ -59,9 +59,9 @@ pub record Met (k k′ : List ℕ) (m : ℕ) (held : Bool) (n : ℕ) : Type 0 wh
   pub here : 0 < getD k′ n 0
   pub same : held ≡ true → getD k′ m 0 ≡ getD k′ n 0
 
--- Marks at the places of a batch: where an end, not included, is above 0, a group that has a number, the owner, holds the numbers of the batch
+-- Claims at the places of a batch: where an end, not included, is above 0, a group that has a number, the owner, holds the numbers of the batch
 -- from that place to that end.
-pub record Marks (ends owners k : List ℕ) : Type 0 where
+pub record Claims (ends owners k : List ℕ) : Type 0 where
   pub ends-size : length ends ≡ batch
   pub owners-size : length owners ≡ batch
   pub numbers : Numbers k
@@ -80,7 +80,7 @@ pub record Shared (holding : ℕ → ℕ → Bool) (xs : List ℕ) (i j : ℕ) :
   pub first : holding i (getD xs place 0) ≡ true
   pub second : holding j (getD xs place 0) ≡ true
 
--- the number at place q is reached from a mark whose owner has the number of group i
+-- the number at place q is reached from a claim whose owner has the number of group i
 pub record Reached (xs ends owners k : List ℕ) (i q : ℕ) : Type 0 where
   pub from : ℕ
   pub before : from ≤ q
@@ -88,24 +88,24 @@ pub record Reached (xs ends owners k : List ℕ) (i q : ℕ) : Type 0 where
   pub same : getD k (getD owners from 0) 0 ≡ getD k i 0
   pub numbered : 0 < getD k i 0
 
--- the marks and numbers of one moment
-pub record Marked : Type 0 where
+-- the claims and numbers of one moment
+pub record Claimed : Type 0 where
   pub ends : List ℕ
   pub owners : List ℕ
   pub numbers : List ℕ
 
-abbrev pub marked : List ℕ → List ℕ → List ℕ → Marked
-marked e o k = record { ends = e; owners = o; numbers = k }
+abbrev pub claimed : List ℕ → List ℕ → List ℕ → Claimed
+claimed e o k = record { ends = e; owners = o; numbers = k }
 
--- The mark at a place is set for group n where its end is raised by that; a group that has marked the place before has one number with n.
-pub record MarkSet (at n end : ℕ) (m m′ : Marked) : Type 0 where
+-- The claim at a place is set for group n where its end is raised by that; a group that has claimed the place before has one number with n.
+pub record ClaimSet (at n end : ℕ) (m m′ : Claimed) : Type 0 where
   pub met : Met (m .numbers) (m′ .numbers) (getD (m .owners) at 0) (ltb 0 (getD (m .ends) at 0)) n
   pub set-or-not : ((getD (m .ends) at 0 < end) × (m′ .ends ≡ set (m .ends) at end) × (m′ .owners ≡ set (m .owners) at n))
       ⊎ ((end ≤ getD (m .ends) at 0) × (m′ .ends ≡ m .ends) × (m′ .owners ≡ m .owners))
 
--- Marks that were set for what `taken` says: the numbers of the batch that groups hold.
-pub record Takes (taken : ℕ → ℕ → Bool) (xs : List ℕ) (m m′ : Marked) : Type 0 where
-  pub marks : Marks (m′ .ends) (m′ .owners) (m′ .numbers)
+-- Claims that were set for what `taken` says: the numbers of the batch that groups hold.
+pub record Takes (taken : ℕ → ℕ → Bool) (xs : List ℕ) (m m′ : Claimed) : Type 0 where
+  pub claims : Claims (m′ .ends) (m′ .owners) (m′ .numbers)
   pub links : (holding : ℕ → ℕ → Bool) → Held holding xs (m .ends) (m .owners)
       → ((i q : ℕ) → q < length xs → taken i (getD xs q 0) ≡ true → holding i (getD xs q 0) ≡ true)
       → Founded (Shared holding xs) (m .numbers) (m′ .numbers) × Held holding xs (m′ .ends) (m′ .owners)
@@ -113,7 +113,7 @@ pub record Takes (taken : ℕ → ℕ → Bool) (xs : List ℕ) (m m′ : Marked
   pub stays : (i q : ℕ) → q < length xs → Reached xs (m .ends) (m .owners) (m .numbers) i q → Reached xs (m′ .ends) (m′ .owners) (m′ .numbers) i q
   pub reaches : (i q : ℕ) → q < length xs → taken i (getD xs q 0) ≡ true → Reached xs (m′ .ends) (m′ .owners) (m′ .numbers) i q
 
--- Groups from whose marks one number is reached have one number now.
+-- Groups from whose claims one number is reached have one number now.
 pub record Swept (xs ends owners k k′ : List ℕ) : Type 0 where
   pub numbers : Numbers k′
   pub kept : Kept k k′

@@ -3,6 +3,7 @@
 use Prim.Native.Nat.{ℕ, _<_}
 use mathlib.Core.Path.{_≡_}
 use mathlib.Core.Bool.{Bool, true, false}
+use mathlib.Core.Option.{none}
 use mathlib.Core.List.{List, []}
 use lib.ListN.{length, getD}
 use Rattle.table.specs.Table.{Group}
@@ -11,7 +12,7 @@ use Rattle.table.specs.Lookup.{holds}
 
 -- a group that holds nothing
 unfoldable pub noGroup : Group
-noGroup = record { restricted = false; whitelisted = false; ranges = [] }
+noGroup = record { restricted = false; whitelisted = false; ranges = []; sequences = none }
 
 -- group i of a list, counted from 0
 unfoldable pub nth : List Group → ℕ → Group

@@ -34,7 +34,7 @@ pub record Again (on : ℕ) (words name : List ℕ) (ls : List Label) (room work
   pub alone-before : (room₂ work₂ : ℕ) → EachAlone on words room₂ work₂ (labelsOf name) ls
   pub alone-after : (room₂ work₂ : ℕ) → EachAlone on words room₂ work₂ (labelsOf (nameAnswer ls)) ls
 
--- 1 to 15 do not apply to the answer
+-- 1 to 17 do not apply to the answer
 accepted-again : (on : ℕ) (words name : List ℕ) (ls : List Label) (room₁ work₁ room work : ℕ) → soundnessOf words ≡ none → nameVerdict on words name room₁ work₁ ≡ accepted ls → EnoughRoom (nameAnswer ls) room work → (nameVerdict on words (nameAnswer ls) room work ≡ accepted ls) × (labelsOf (nameAnswer ls) ≡ map answer ls)
 accepted-again on words name ls room₁ work₁ room work sound first enough =
     let a = name-accepts on words name room₁ work₁ ls first in

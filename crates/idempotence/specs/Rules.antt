@@ -18,7 +18,7 @@ use Rattle.table.specs.Lookup.{inRange, inRanges, itemsOf, holds}
 use Rattle.scalar.specs.Scalar.{isSurrogate, isScalar}
 use Rattle.text.specs.Decomposition.{fourRounds}
 use Rattle.finder.specs.Emoji.{selector}
-use Rattle.soundness.specs.Scalars.{scalarsBetween, scalarRanges, scalarHeaded, rule1}
+use Rattle.soundness.specs.Scalars.{scalarsBetween, scalarRanges, scalarHeaded, scalarGroup, rule1}
 use Rattle.soundness.specs.Valid.{countedFrom, listed, groupCharacters, spellable, rule2, rule3}
 use Rattle.soundness.specs.Sequences.{rule4, rule5}
 use Rattle.soundness.specs.Pairs.{rule6, rule7}
@@ -106,7 +106,7 @@ rule1-parts t h =
     let to-decompositions : Bool = to-nsm && scalarHeaded (t .mapped) && scalarHeaded (t .decompositions) in
     let to-exclusions : Bool = to-decompositions && emoji && all isScalar (t .exclusions) in
     let classes : Bool = all (λ (r : ClassRange). scalarsBetween (r .first) (r .last)) (t .classes) in
-    let groups : Bool = all (λ (g : Group). scalarRanges (g .ranges)) (t .groups) in
+    let groups : Bool = all scalarGroup (t .groups) in
     let wholes : Bool = all (λ (w : Whole). all isScalar (w .valid ++ w .confused)) (t .wholes) in
     let to-wholes : Bool = to-exclusions && classes && groups && wholes in
     let w : to-wholes ≡ true = first-of-three to-wholes (scalarRanges (t .escape)) (scalarRanges (t .quickCheck)) h in

@@ -17,6 +17,7 @@ use Rattle.tokens.specs.Tokens.{Token, tokensOf, worked, normal, joinedTokens, 
 use Rattle.answers.specs.declared.Kind.the-variants.{Emoji, Ascii, Group}
 use Rattle.spelling.specs.Spelling.{lowLine, hyphens, fenced, leadingMark}
 use Rattle.nsm.specs.Marks.{nsmFits}
+use Rattle.compounds.specs.Compounds.{compoundsFit}
 use Rattle.confusable.specs.Confusable.{confusable}
 use Rattle.groups.specs.Groups.{Numbered, groupOf}
 use Rattle.label.specs.Judge.{judge, judgeAscii, judgeMixed, judgeText, judgeInGroup, unless, onlyEmoji, onlyAscii}
@@ -49,9 +50,12 @@ module _ (k : Kind) where
   unfolding judgeInGroup
   in-group-moves t p q s g =
       let kind : Verdict Kind = accepted (Group (record { number = g .number; restricted = g .group .restricted })) in
-      unless-moves (not (g .group .whitelisted) && not (nsmFits t s)) 13 p q (unless (confusable t s) 14 p kind)
+      let white : Bool = not (g .group .whitelisted) && not (nsmFits t s) in
+      let from-13 : ℕ → Verdict Kind = λ x. unless white 13 x (unless (confusable t s) 14 x kind) in
+      unless-moves (not (compoundsFit t (g .group .sequences) s)) 16 p q (from-13 p) (from-13 q)
+      (unless-moves white 13 p q (unless (confusable t s) 14 p kind)
       (unless (confusable t s) 14 q kind)
-      (unless-moves (confusable t s) 14 p q kind kind (λ e. e))
+      (unless-moves (confusable t s) 14 p q kind kind (λ e. e)))
 
   text-moves : (t : Table) (p q : ℕ) (s : List ℕ) → judgeText t p s ≡ accepted k → judgeText t q s ≡ accepted k
   unfolding judgeText

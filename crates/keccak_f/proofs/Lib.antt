@@ -1,4 +1,4 @@
 pub mod Lanes
 pub mod Rotation
 pub mod Rounds
-pub mod Tables
+pub mod TableLaws

@@ -1,4 +1,4 @@
-// The tables of Keccak-f[1600]. Their rules stand in specs/Tables.antt and proofs/Tables.antt.
+// The tables of Keccak-f[1600]. Their rules stand in specs/Tables.antt and proofs/TableLaws.antt.
 
 // How far rho rotates each lane.
 pub const OFFSETS: [u64; 25] = [

@@ -17,7 +17,7 @@ use Rattle.tokens.specs.Scan as scan
 use Rattle.tokens.specs.Scan.{Step}
 use Rattle.laying.specs.declared.Run.{Run}
 use Rattle.laying.specs.Laying.{stepText, laid, Laying, PutAt, EmojiPut}
-use Rattle.laying.proofs.Laying.{four-joins, kept-joins, laid-snoc, laid-none, laid-text, laying-start, laying-empty, laying-text, laying-ignored}
+use Rattle.laying.proofs.LayingLaws.{four-joins, kept-joins, laid-snoc, laid-none, laid-text, laying-start, laying-empty, laying-text, laying-ignored}
 use Rattle.laying.proofs.Putting.{put-start, put-more, put-stop}
 use Rattle.laying.proofs.Texts.{items-next}
 use Rattle.kept_scan.specs.declared.Held.{Held}
@@ -33,15 +33,15 @@ none-of : (l : List ℕ) → length l ≡ 0 → l ≡ []
 none-of [] e = refl
 none-of (x ∷ l) e = absurd (omega arith)
 
--- one codepoint and its mark, put behind the first n
-one-put : (w : List ℕ) (n c mark : ℕ) → leastWork ≤ length w → n < mostWorked → PutAt w (set (set w n c) (mostWorked + n) mark) n (c ∷ []) (mark ∷ []) (n + 1)
-one-put w n c mark big room =
+-- one codepoint and its tag, put behind the first n
+one-put : (w : List ℕ) (n c tag : ℕ) → leastWork ≤ length w → n < mostWorked → PutAt w (set (set w n c) (mostWorked + n) tag) n (c ∷ []) (tag ∷ []) (n + 1)
+one-put w n c tag big room =
     let e : n + 0 ≡ n = add-zero n in
-    let p = put-more w n (c ∷ []) mark 2 w mark 0 big (omega arith) (put-start w n (c ∷ []) mark 2 (omega arith)) in
-    put-stop w n (c ∷ []) mark 2 (set (set w n c) (mostWorked + n) mark) 2 1 (omega arith) (rw e at p)
+    let p = put-more w n (c ∷ []) tag 2 w tag 0 big (omega arith) (put-start w n (c ∷ []) tag 2 (omega arith)) in
+    put-stop w n (c ∷ []) tag 2 (set (set w n c) (mostWorked + n) tag) 2 1 (omega arith) (rw e at p)
 
 module _ (t : Table) where
-  pub keeping-start : (w : List ℕ) → Keeping t [] (record { run = record { worked = 0; emoji = false; text = false; mark = 1 }; worked = 0; class = 0; fine = true }) w
+  pub keeping-start : (w : List ℕ) → Keeping t [] (record { run = record { worked = 0; emoji = false; text = false; tag = 1 }; worked = 0; class = 0; fine = true }) w
   unfolding laid stepsPass classAfter
   keeping-start w = record { lays = laying-start asItIs w; few = omega arith; worked = refl; passes = refl; class = refl }
 
@@ -82,10 +82,10 @@ module _ (t : Table) where
       n = held .run .worked
 
       abbrev w′ : List ℕ
-      w′ = set (set (out ++ drop 0 w) n c) (mostWorked + n) (held .run .mark)
+      w′ = set (set (out ++ drop 0 w) n c) (mostWorked + n) (held .run .tag)
 
       abbrev r : Held
-      r = record { run = record { worked = n + 1; emoji = held .run .emoji; text = true; mark = 2 }; worked = worked; class = class; fine = true }
+      r = record { run = record { worked = n + 1; emoji = held .run .emoji; text = true; tag = 2 }; worked = worked; class = class; fine = true }
 
       unwritten : out ++ drop 0 w ≡ w
       unwritten = ap (λ (l : List ℕ). l ++ w) (none-of out (ap length (d .written .put) ∙ length-sets [] (held .worked) (fourRounds t (c ∷ []))))
@@ -93,11 +93,11 @@ module _ (t : Table) where
       pub write-room : n < length (out ++ drop 0 w)
       write-room = rw unwritten (omega (arith, m .room))
 
-      pub mark-room : mostWorked + n < length (set (out ++ drop 0 w) n c)
-      mark-room = rw unwritten (simp length-set (omega (arith, m .room)))
+      pub tag-room : mostWorked + n < length (set (out ++ drop 0 w) n c)
+      tag-room = rw unwritten (simp length-set (omega (arith, m .room)))
 
-      put : PutAt w w′ n (c ∷ []) (held .run .mark ∷ []) (n + 1)
-      put = rw unwritten (one-put w n c (held .run .mark) big (m .room))
+      put : PutAt w w′ n (c ∷ []) (held .run .tag ∷ []) (n + 1)
+      put = rw unwritten (one-put w n c (held .run .tag) big (m .room))
 
       more : class ≡ classOf t c → (ss : List Step) (a : List ℕ) → Keeping t (ss ++ scan.text a ∷ []) held w → Keeping t (ss ++ scan.text (a ++ c ∷ []) ∷ []) r w′
       more k ss a p =

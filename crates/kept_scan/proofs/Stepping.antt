@@ -21,7 +21,7 @@ use Rattle.tokens.specs.Single.{SingleFound}
 use Rattle.tokens.specs.Tokens as tokens
 use Rattle.tokens.specs.Tokens.{Token, tokensOf}
 use Rattle.tokens.specs.Cells.{Cells}
-use Rattle.laying.proofs.Laying.{kept-joins}
+use Rattle.laying.proofs.LayingLaws.{kept-joins}
 use Rattle.scanning.specs.Scanning.{firstStep}
 use Rattle.scanning.proofs.Grouping.{tokensBy, tokens-worked, tokens-emoji, tokens-text, laying-cells}
 use Rattle.scanning.proofs.Walking.{first-found, first-alone, codepoint-width, rest-is, stepHere, Walked, walked-start, walked-left, walked-taken, walked-more, walked-stop}
@@ -104,7 +104,7 @@ as-they-are (tokens.emoji s ∷ ts) = ap (λ (r : List Token). tokens.emoji s �
 as-they-are (tokens.text s ∷ ts) = ap (λ (r : List Token). tokens.text s ∷ r) (as-they-are ts)
 
 module _ (t : Table) (l w₀ : List ℕ) where
-  pub scan-start : Scanning t l w₀ w₀ (record { run = record { worked = 0; emoji = false; text = false; mark = 1 }; worked = 0; class = 0; fine = true }) 0
+  pub scan-start : Scanning t l w₀ w₀ (record { run = record { worked = 0; emoji = false; text = false; tag = 1 }; worked = 0; class = 0; fine = true }) 0
   scan-start = record { done = []; walked = walked-start t l; same = refl; fine = refl; keeps = keeping-start t w₀ }
 
   module _ (w : List ℕ) (held : Held) (at : ℕ) (p : Scanning t l w₀ w held at) (h : at < length l) where

@@ -97,13 +97,13 @@ fn keep_text(words: &[u32], ix: Sections, w: &mut [u32], held: Held, c: u32) -> 
     }
     let worked = append_decomposed(words, ix, &mut w[..0], held.worked, c);
     w[n] = c;
-    w[MOST_WORKED + n] = run.mark;
+    w[MOST_WORKED + n] = run.tag;
     Held {
         run: Run {
             worked: n + 1,
             emoji: run.emoji,
             text: true,
-            mark: 2,
+            tag: 2,
         },
         worked,
         class,
@@ -217,7 +217,7 @@ pub fn scan_kept(words: &[u32], ix: Sections, label: &[u32], w: &mut [u32]) -> K
         worked: 0,
         emoji: false,
         text: false,
-        mark: 1,
+        tag: 1,
     };
     let mut held = Held {
         run,

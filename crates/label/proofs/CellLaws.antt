@@ -11,8 +11,8 @@ use lib.Dec.{eqb}
 use borrow.Author.Tests.{eq-eqb, ne-eqb}
 use Rattle.limits.specs.Limits.{leastWork, mostWorked}
 use Rattle.tokens.specs.Tokens.{Token, emoji, text, codepoints, textPart, joinedTokens, joinedText}
-use Rattle.tokens.specs.Cells.{markToken, marksOf}
-use Rattle.spelling.specs.CellMarks.{codesIn, tagsIn}
+use Rattle.tokens.specs.Cells.{tokenTags, tagsOf}
+use Rattle.spelling.specs.CellTags.{codesIn, tagsIn}
 use Rattle.spelling.proofs.LeadingLaws.{tag-length, tag-at}
 use Rattle.label.specs.CellText.{textAt, TextAlone}
 
@@ -41,17 +41,17 @@ text-all [] = refl
 text-all (c ∷ s) = ap (λ (r : List ℕ). c ∷ r) (text-all s)
 
 -- one token
-token-text : (x : Token) → textAt (codepoints x) (markToken x) ≡ textPart x
+token-text : (x : Token) → textAt (codepoints x) (tokenTags x) ≡ textPart x
 unfolding textAt
 token-text (emoji s) = text-none s
 token-text (text []) = refl
 token-text (text (c ∷ s)) = ap (λ (r : List ℕ). c ∷ r) (text-all s)
 
 -- tokens
-pub text-tokens : (ts : List Token) → textAt (joinedTokens ts) (marksOf ts) ≡ joinedText ts
-unfolding textAt joinedTokens marksOf joinedText
+pub text-tokens : (ts : List Token) → textAt (joinedTokens ts) (tagsOf ts) ≡ joinedText ts
+unfolding textAt joinedTokens tagsOf joinedText
 text-tokens [] = refl
-text-tokens (x ∷ ts) = text-append (codepoints x) (markToken x) (joinedTokens ts) (marksOf ts) (tag-length x) ∙ rw (token-text x, text-tokens ts)
+text-tokens (x ∷ ts) = text-append (codepoints x) (tokenTags x) (joinedTokens ts) (tagsOf ts) (tag-length x) ∙ rw (token-text x, text-tokens ts)
 
 -- one element more
 part-more : (s : List ℕ) (i : ℕ) → i < length s → take (i + 1) s ≡ take i s ++ getD s i 0 ∷ []

@@ -12,8 +12,10 @@ use Rattle.answers.specs.declared.Kind.{Kind}
 use Rattle.answers.specs.declared.Kind.the-variants.{Emoji}
 use Rattle.answers.specs.declared.Refusal.the-variants.{NoGroup}
 use Rattle.table.specs.Table.{Table}
+use Rattle.lists.specs.Lists.{all}
+use Rattle.compounds.proofs.CompoundLaws.{listedWhite}
 use Rattle.spelling.specs.Spelling.{allAscii}
-use Rattle.spelling.specs.CellMarks.{codesIn, tagsIn}
+use Rattle.spelling.specs.CellTags.{codesIn, tagsIn}
 use Rattle.groups.specs.declared.GroupFound.{GroupFound}
 use Rattle.groups.specs.declared.GroupFound.the-variants.{At, Nothing}
 use Rattle.label.specs.declared.Judged.{Judged}
@@ -63,16 +65,16 @@ module _ (t : Table) (place : ℕ) (w w′ : List ℕ) (n m : ℕ) (a : TextAlon
           verdict = text-none t place (textAt (codesIn w n) (tagsIn w n)) (sym e ∙ rw alone-text at found);
         }
 
-    pub judged-in-group : (number : ℕ) (restricted whitelisted : Bool) → r ≡ At number restricted whitelisted → (j : Judged)
+    pub judged-in-group : all listedWhite (t .groups) ≡ true → (number : ℕ) (restricted whitelisted : Bool) → r ≡ At number restricted whitelisted → (j : Judged)
         → verdictOf j ≡ inGroup t place alone number restricted whitelisted
         → CellsJudged (judgeText t place (textAt (codesIn w n) (tagsIn w n))) w w′ j
-    judged-in-group number restricted whitelisted e j v =
+    judged-in-group white number restricted whitelisted e j v =
         record {
           same = a .same;
           kept = a .kept;
           verdict =
               (rw alone-text at v)
-              ∙ text-group t place (textAt (codesIn w n) (tagsIn w n)) number restricted whitelisted (sym e ∙ rw alone-text at found);
+              ∙ text-group t place (textAt (codesIn w n) (tagsIn w n)) white number restricted whitelisted (sym e ∙ rw alone-text at found);
         }
 
 -- the choice of the kind

@@ -2,3 +2,4 @@ pub mod CellLaws
 pub mod VerdictLaws
 pub mod JudgingLaws
 pub mod PartedLaws
+pub mod FoundLaws

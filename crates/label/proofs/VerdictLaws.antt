@@ -1,22 +1,24 @@
 -- Laws of the verdict: which refusal comes first, and what the verdict on codepoints with tags says of the tokens. Assumes nothing.
 use Prim.Native.Nat.{ℕ, suc, _≤_}
 use native.Mathlib.Omega.{arith}
-use mathlib.Core.Path.{_≡_, refl, sym}
+use mathlib.Core.Path.{_≡_, refl, sym, _∙_, ap}
 use mathlib.Core.Bool.{Bool, true, false, not, _&&_, _||_, cond, false≢true}
 use mathlib.Core.List.{List, [], _∷_, append-nil}
 use mathlib.Core.Option.{Option, none, some}
 use lib.ListN.{length}
-use Rattle.lists.specs.Lists.{any, onSome}
+use Rattle.lists.specs.Lists.{all, any, onSome}
 use Rattle.answers.specs.Verdict.{Verdict, accepted, refused}
 use Rattle.answers.specs.declared.Kind.{Kind}
 use Rattle.answers.specs.declared.Kind.the-variants.{Emoji, Ascii, Group}
 use Rattle.table.specs.Table.{Table}
 use Rattle.tokens.specs.Tokens.{Token, emoji, text, isEmoji, joinedTokens}
-use Rattle.tokens.specs.Cells.{marksOf, Cells}
+use Rattle.tokens.specs.Cells.{tagsOf, Cells}
 use Rattle.groups.specs.declared.GroupFound.the-variants.{At, Nothing}
 use Rattle.nsm.specs.Marks.{nsmFits}
+use Rattle.compounds.specs.Compounds.{compoundsFit, listOf}
+use Rattle.compounds.proofs.CompoundLaws.{listedWhite, white-asked}
 use Rattle.spelling.specs.Spelling.{lowLine, hyphens, fenced, allAscii}
-use Rattle.spelling.specs.CellMarks.{leadingAt, codesIn, tagsIn}
+use Rattle.spelling.specs.CellTags.{leadingAt, codesIn, tagsIn}
 use Rattle.spelling.proofs.LeadingLaws.{leading-tokens}
 use Rattle.confusable.specs.Confusable.{confusable}
 use Rattle.groups.specs.Groups.{Numbered, groupOf, groupFound}
@@ -24,6 +26,7 @@ use Rattle.label.specs.Judge.{onlyEmoji, onlyAscii, unless, judgeAscii, 
 use Rattle.label.specs.CellText.{textAt}
 use Rattle.label.specs.Judging.{groupVerdict, inGroup, mixedAt, judgeAt}
 use Rattle.label.proofs.CellLaws.{text-tokens}
+use Rattle.label.proofs.FoundLaws.{found-here}
 
 -- the first refusal that applies, or what follows
 pub first-refused : (a : Bool) (n place : ℕ) (v : Verdict Kind) → a ≡ true → refused n place ≡ unless a n place v
@@ -68,11 +71,20 @@ module _ (t : Table) (place : ℕ) (s : List ℕ) (number : ℕ) (restricted : B
   unfolding groupVerdict kind
   verdict-kind fits e f = rw e (next-verdict (confusable t s) 14 place kind kind (sym f) refl)
 
-  -- 13 is asked of a group that is not whitelisted
-  pub verdict-group : (fits whitelisted : Bool) → fits ≡ (whitelisted || nsmFits t s)
-      → groupVerdict t place s fits number restricted ≡ inGroup t place s number restricted whitelisted
-  unfolding inGroup
-  verdict-group fits whitelisted e = rw e
+  -- 16 comes first; 13 is asked of a group that is not whitelisted
+  module _ (permitted whitelisted : Bool) (p : permitted ≡ (not whitelisted || compoundsFit t (listOf (t .groups) number) s)) where
+    pub verdict-compound : permitted ≡ false → refused 16 place ≡ inGroup t place s number restricted whitelisted
+    unfolding inGroup
+    verdict-compound k =
+        let b : Bool = not whitelisted || compoundsFit t (listOf (t .groups) number) s in
+        first-refused (not b) 16 place (groupVerdict t place s (whitelisted || nsmFits t s) number restricted) (ap not (sym p ∙ k))
+
+    pub verdict-group : permitted ≡ true → (fits : Bool) → fits ≡ (whitelisted || nsmFits t s)
+        → groupVerdict t place s fits number restricted ≡ inGroup t place s number restricted whitelisted
+    unfolding inGroup
+    verdict-group k fits e =
+        let b : Bool = not whitelisted || compoundsFit t (listOf (t .groups) number) s in
+        next-verdict (not b) 16 place (groupVerdict t place s fits number restricted) (groupVerdict t place s (whitelisted || nsmFits t s) number restricted) (ap not (sym p ∙ k)) (ap (λ (f : Bool). groupVerdict t place s f number restricted) e)
 
 -- other tokens
 module _ (t : Table) (place : ℕ) (s ks : List ℕ) where
@@ -108,23 +120,24 @@ module _ (t : Table) (place : ℕ) (s : List ℕ) where
       go none f = refl
       go (some g) f = absurd (let z : _≡_ {A = ℕ} 0 1 = cc in omega arith)
 
-  pub text-group : (number : ℕ) (restricted whitelisted : Bool) → At number restricted whitelisted ≡ groupFound (groupOf (t .groups) s)
-      → inGroup t place s number restricted whitelisted ≡ judgeText t place s
+  pub text-group : all listedWhite (t .groups) ≡ true → (number : ℕ) (restricted whitelisted : Bool)
+      → At number restricted whitelisted ≡ groupFound (groupOf (t .groups) s) → inGroup t place s number restricted whitelisted ≡ judgeText t place s
   unfolding judgeText judgeInGroup inGroup groupVerdict
-  text-group number restricted whitelisted e = go (groupOf (t .groups) s) e
+  text-group white number restricted whitelisted e = go (groupOf (t .groups) s) refl e
     where
       same : (a b : Bool) → not (a || b) ≡ (not a && not b)
       same true b = refl
       same false b = refl
 
-      go : (o : Option Numbered) → At number restricted whitelisted ≡ groupFound o
-          → groupVerdict t place s (whitelisted || nsmFits t s) number restricted ≡ onSome o (judgeInGroup t place s) (refused 12 place)
-      go none f = absurd (let z : _≡_ {A = ℕ} 0 1 = cc in omega arith)
-      go (some g) f =
+      go : (o : Option Numbered) → groupOf (t .groups) s ≡ o → At number restricted whitelisted ≡ groupFound o
+          → inGroup t place s number restricted whitelisted ≡ onSome o (judgeInGroup t place s) (refused 12 place)
+      go none k f = absurd (let z : _≡_ {A = ℕ} 0 1 = cc in omega arith)
+      go (some g) k f =
           let a : number ≡ g .number = cc in
           let b : restricted ≡ g .group .restricted = cc in
           let d : whitelisted ≡ g .group .whitelisted = cc in
-          rw (a, b, d, same (g .group .whitelisted) (nsmFits t s))
+          let h = found-here (t .groups) s g white k in
+          rw (a, b, d, h .list, white-asked t (g .group) s (h .white), same (g .group .whitelisted) (nsmFits t s))
 
 -- Without emoji tokens there is at most one token: text between emoji is one token.
 abbrev pub Parted : List Token → Type 0
@@ -153,15 +166,15 @@ only-ascii (text s ∷ u ∷ us) p e = go (any isEmoji (u ∷ us)) refl
 
 -- the verdict on the codepoints and tags of tokens is the verdict on the tokens
 pub judge-tokens : (t : Table) (place : ℕ) (ts : List Token) → Parted ts
-    → judgeAt t place (joinedTokens ts) (marksOf ts) (any isEmoji ts) (anyText ts) ≡ judge t place ts
+    → judgeAt t place (joinedTokens ts) (tagsOf ts) (any isEmoji ts) (anyText ts) ≡ judge t place ts
 unfolding judgeAt judge judgeMixed mixedAt
 judge-tokens t place ts p = go (anyText ts) refl
   where
-    mixed : mixedAt t place (joinedTokens ts) (marksOf ts) ≡ judgeMixed t place ts
+    mixed : mixedAt t place (joinedTokens ts) (tagsOf ts) ≡ judgeMixed t place ts
     mixed = rw (leading-tokens t ts, text-tokens ts)
 
     go : (b : Bool) → anyText ts ≡ b
-        → cond (not b) (accepted Emoji) (cond (not (any isEmoji ts) && allAscii (joinedTokens ts)) (judgeAscii place (joinedTokens ts)) (mixedAt t place (joinedTokens ts) (marksOf ts)))
+        → cond (not b) (accepted Emoji) (cond (not (any isEmoji ts) && allAscii (joinedTokens ts)) (judgeAscii place (joinedTokens ts)) (mixedAt t place (joinedTokens ts) (tagsOf ts)))
         ≡ cond (onlyEmoji ts) (accepted Emoji) (cond (onlyAscii ts) (judgeAscii place (joinedTokens ts)) (judgeMixed t place ts))
     go true e = rw (only-emoji ts, e, only-ascii ts p e, mixed)
     go false e = rw (only-emoji ts, e)
@@ -169,4 +182,4 @@ judge-tokens t place ts p = go (anyText ts) refl
 -- the same over a work area
 pub judge-cells : (t : Table) (place : ℕ) (ts : List Token) (w : List ℕ) (n : ℕ) → Cells ts w n → Parted ts
     → judgeAt t place (codesIn w n) (tagsIn w n) (any isEmoji ts) (anyText ts) ≡ judge t place ts
-judge-cells t place ts w n c p = rw (c .words, c .marks) (judge-tokens t place ts p)
+judge-cells t place ts w n c p = rw (c .words, c .tags) (judge-tokens t place ts p)

@@ -6,7 +6,7 @@ use mathlib.Core.List.{List, [], _∷_}
 use lib.ListN.{length, take, drop}
 use lib.Dec.{eqb}
 use Rattle.limits.specs.Limits.{mostWorked}
-use Rattle.spelling.specs.CellMarks.{codesIn, tagsIn}
+use Rattle.spelling.specs.CellTags.{codesIn, tagsIn}
 
 -- the text alone
 unfoldable pub textAt : List ℕ → List ℕ → List ℕ

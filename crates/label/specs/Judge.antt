@@ -1,4 +1,4 @@
--- The rules on the tokens of a label, after 5, 6 and 7: refusals 8 to 14 "in order", and the kind. 01, "The rules of one label",
+-- The rules on the tokens of a label, after 5, 6 and 7: refusals 8 to 14 and 16 "in order", and the kind. 01, "The rules of one label",
 -- "Then, on these tokens". The place of these refusals is the number of the label. Assumes nothing.
 use Prim.Native.Nat.{ℕ}
 use mathlib.Core.Bool.{Bool, true, false, not, _&&_, cond}
@@ -10,6 +10,7 @@ use Rattle.answers.specs.declared.Kind.the-variants.{Emoji, Ascii, Group}
 use Rattle.table.specs.Table.{Table}
 use Rattle.tokens.specs.Tokens.{Token, emoji, text, isEmoji, joinedTokens, joinedText}
 use Rattle.nsm.specs.Marks.{nsmFits}
+use Rattle.compounds.specs.Compounds.{compoundsFit}
 use Rattle.spelling.specs.Spelling.{lowLine, hyphens, fenced, leadingMark, allAscii}
 use Rattle.confusable.specs.Confusable.{confusable}
 use Rattle.groups.specs.Groups.{Numbered, groupOf}
@@ -36,13 +37,14 @@ unfolding lowLine hyphens
 judgeAscii place s = unless (lowLine s) 8 place (unless (hyphens s) 9 place (accepted Ascii))
 
 -- "If it isn't whitelisted, decompose the text; in every run of NSM .., else 13. Then 14, on the text as composed. The kind is that
--- group."
+-- group." 02, Item 12: in a group with a list, which is whitelisted, 16 "takes the place of 13".
 unfoldable pub judgeInGroup : Table → ℕ → List ℕ → Numbered → Verdict Kind
-unfolding nsmFits confusable
+unfolding nsmFits compoundsFit confusable
 judgeInGroup t place s g =
-    unless (not (g .group .whitelisted) && not (nsmFits t s)) 13 place
+    unless (not (compoundsFit t (g .group .sequences) s)) 16 place
+    (unless (not (g .group .whitelisted) && not (nsmFits t s)) 13 place
     (unless (confusable t s) 14 place
-    (accepted (Group (record { number = g .number; restricted = g .group .restricted }))))
+    (accepted (Group (record { number = g .number; restricted = g .group .restricted })))))
 
 -- "then the joined text alone: the first group that holds every character, else 12"
 unfoldable pub judgeText : Table → ℕ → List ℕ → Verdict Kind

@@ -11,8 +11,9 @@ use Rattle.answers.specs.declared.Kind.{Kind}
 use Rattle.answers.specs.declared.Kind.the-variants.{Emoji, Group}
 use Rattle.table.specs.Table.{Table}
 use Rattle.nsm.specs.Marks.{nsmFits}
+use Rattle.compounds.specs.Compounds.{compoundsFit, listOf}
 use Rattle.spelling.specs.Spelling.{allAscii, lowLine, fenced}
-use Rattle.spelling.specs.CellMarks.{leadingAt}
+use Rattle.spelling.specs.CellTags.{leadingAt}
 use Rattle.confusable.specs.Confusable.{confusable}
 use Rattle.label.specs.declared.Judged.{Judged}
 use Rattle.label.specs.declared.Judged.the-variants.{Accepted, Refused}
@@ -29,9 +30,10 @@ unfoldable pub groupVerdict : Table → ℕ → List ℕ → Bool → ℕ → Bo
 groupVerdict t place s fits number restricted =
     unless (not fits) 13 place (unless (confusable t s) 14 place (accepted (Group (record { number = number; restricted = restricted }))))
 
--- 13 and 14 in a group
+-- 16, 13 and 14 in a group; only one that is whitelisted has a list
 unfoldable pub inGroup : Table → ℕ → List ℕ → ℕ → Bool → Bool → Verdict Kind
-inGroup t place s number restricted whitelisted = groupVerdict t place s (whitelisted || nsmFits t s) number restricted
+inGroup t place s number restricted whitelisted =
+    unless (not (not whitelisted || compoundsFit t (listOf (t .groups) number) s)) 16 place (groupVerdict t place s (whitelisted || nsmFits t s) number restricted)
 
 -- "Otherwise 8 and 10 over the joined tokens, 11 for each text token, then the joined text alone"
 unfoldable pub mixedAt : Table → ℕ → List ℕ → List ℕ → Verdict Kind

@@ -1,10 +1,11 @@
-// The verdict on the tokens of a label, as they stand in the work area: refusals 8 to 14 and the kind. The memo is the look-alike test's, for
+// The verdict on the tokens of a label, as they stand in the work area: refusals 8 to 14 and 16, and the kind. The memo is the look-alike test's, for
 // the labels of one name.
 use crate::Judged;
 use crate::cells::text_alone;
 use answers::GroupKind;
 use answers::Kind;
 use answers::Refusal;
+use compounds::compounds_fit;
 use groups::GroupFound;
 use groups::group_of;
 use limits::MOST_WORKED;
@@ -23,7 +24,7 @@ ghost use Rattle.limits.specs.Limits.{leastWork, mostWorked};
 ghost use Rattle.sections.specs.Laid.{Laid};
 ghost use Rattle.table.specs.Layout.{theTable};
 ghost use Rattle.memo.specs.Memo.{Memo};
-ghost use Rattle.spelling.specs.CellMarks.{codesIn, tagsIn};
+ghost use Rattle.spelling.specs.CellTags.{codesIn, tagsIn};
 ghost use Rattle.label.specs.Judge.{judgeAscii, judgeText};
 ghost use Rattle.label.specs.CellText.{textAt};
 ghost use Rattle.label.specs.Judging.{verdictOf, groupVerdict, inGroup, mixedAt, judgeAt, CellsJudged};
@@ -69,7 +70,7 @@ fn judge_group(
     }))
 }
 
-// 13 and 14, in the group that holds the text.
+// 16, 13 and 14, in the group that holds the text.
 fn judge_in_group(
     words: &[u32],
     ix: Sections,
@@ -85,6 +86,9 @@ fn judge_in_group(
     ensures { λ r. ⌜ verdictOf r ≡ inGroup (theTable (now (words .entry))) place (now (text .entry)) number restricted whitelisted ⌝ }
     ensures { λ _. ⌜ Memo (now (words .entry)) (now (memo .exit)) ⌝ }
 {
+    if !compounds_fit(words, ix, whitelisted, number, text) {
+        return Judged::Refused(Refusal::Compound(place));
+    }
     let mut fits = whitelisted;
     if !whitelisted {
         fits = nsm_fits(words, ix, text);
@@ -92,7 +96,7 @@ fn judge_in_group(
     judge_group(words, ix, text, fits, number, restricted, place, memo)
 }
 
-// The text alone: 12 where no group holds it, else 13 and 14 in the first that does.
+// The text alone: 12 where no group holds it, else 16, 13 and 14 in the first that does.
 fn judge_text(
     words: &[u32],
     ix: Sections,
@@ -161,7 +165,7 @@ fn judge_mixed(
     judge_text(words, ix, w, n, place, memo)
 }
 
-// 8 to 14 and the kind, on tokens in normal form, n codepoints; `emoji` and `text` say whether there are tokens of that kind.
+// 8 to 14 and 16, and the kind, on tokens in normal form, n codepoints; `emoji` and `text` say whether there are tokens of that kind.
 pub fn judge(
     words: &[u32],
     ix: Sections,

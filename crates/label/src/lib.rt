@@ -1,4 +1,4 @@
-// The rules of one label, refusals 8 to 14, and its kind.
+// The rules of one label, refusals 8 to 14 and 16, and its kind.
 use answers::Kind;
 use answers::Refusal;
 

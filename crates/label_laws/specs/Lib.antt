@@ -1,3 +1,4 @@
 pub mod OwnGroup
 pub mod Unique
 pub mod Respelling
+pub mod Lists16

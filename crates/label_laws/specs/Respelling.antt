@@ -19,6 +19,7 @@ use Rattle.table.specs.Table.{Table, Whole}
 use Rattle.table.specs.Lookup.{holds, wholeOf}
 use Rattle.groups.specs.Groups.{Numbered}
 use Rattle.nsm.specs.Marks.{nsmFits}
+use Rattle.compounds.specs.Compounds.{compoundsFit}
 use Rattle.confusable.specs.Confusable.{isConfused, members, extent, outside, respells, confusable}
 use Rattle.label.specs.Judge.{judgeInGroup, unless}
 
@@ -106,10 +107,11 @@ confusable-respelled t s = (there, back)
         both (any (isConfused t) s) (any (λ g. all (respells t g) s) (t .groups)) (passing-any (isConfused t) (r .in-text) (r .is-confused))
         (passing-any (λ g. all (respells t g) s) (r .in-table) (all-of (respells t (r .group)) s (λ c m. spells-respells t (r .group) c (r .spells c m))))
 
--- A label that reaches the test, its group being whitelisted or its NSM in order, is refused as 14 exactly then.
-pub refused-14 : (t : Table) (place : ℕ) (s : List ℕ) (g : Numbered) → not (g .group .whitelisted) && not (nsmFits t s) ≡ false → (judgeInGroup t place s g ≡ refused 14 place) ↔ Respelled t s
+-- A label that reaches the test, its group permitting its compound sequences and being whitelisted or its NSM in order, is refused as 14 exactly then.
+pub refused-14 : (t : Table) (place : ℕ) (s : List ℕ) (g : Numbered) → not (compoundsFit t (g .group .sequences) s) ≡ false
+    → not (g .group .whitelisted) && not (nsmFits t s) ≡ false → (judgeInGroup t place s g ≡ refused 14 place) ↔ Respelled t s
 unfolding judgeInGroup
-refused-14 t place s g reaches = (λ e. there (confusable t s) refl (rw reaches at e), λ r. rw (reaches, confusable-respelled t s .1 r))
+refused-14 t place s g lists reaches = (λ e. there (confusable t s) refl (rw (lists, reaches) at e), λ r. rw (lists, reaches, confusable-respelled t s .1 r))
   where
     kind : Verdict Kind
     kind = accepted (Group (record { number = g .number; restricted = g .group .restricted }))

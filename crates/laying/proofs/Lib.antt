@@ -1,5 +1,5 @@
 pub mod Putting
-pub mod Marking
-pub mod Laying
+pub mod Tagging
+pub mod LayingLaws
 pub mod Stripping
 pub mod Texts

@@ -18,10 +18,10 @@ use Rattle.laying.specs.declared.Run.{Run}
 use Rattle.finder.specs.Emoji.{selector, strip}
 use Rattle.finder.specs.Match.{SequenceFits}
 use Rattle.decomposition.specs.Rounds.{placed, Appended}
-use Rattle.decomposition.proofs.Rounds.{placed-join}
-use Rattle.laying.specs.Laying.{MarksPut, EmojiPut}
-use Rattle.laying.proofs.Marking.{put-both}
-use Rattle.laying.proofs.Laying.{laying-emoji, laying-emoji-over}
+use Rattle.decomposition.proofs.RoundLaws.{placed-join}
+use Rattle.laying.specs.Laying.{TagsPut, EmojiPut}
+use Rattle.laying.proofs.Tagging.{put-both}
+use Rattle.laying.proofs.LayingLaws.{laying-emoji, laying-emoji-over}
 
 keep-join : (p : ℕ → Bool) (a b : List ℕ) → keep p (a ++ b) ≡ keep p a ++ keep p b
 keep-join p [] b = refl
@@ -86,21 +86,21 @@ sequence-short ws s f = simp (length-take, length-drop) (omega (arith, f .short)
 -- a stripped sequence that is written into the work area is an emoji laid down
 module _ (ws w : List ℕ) (s : Span) (run : Run) where
   pub emoji-put : (out w₂ : List ℕ) (end : ℕ) → leastWork ≤ length w → run .worked ≤ mostWorked
-      → Appended (take mostWorked w) out (run .worked) (strip (within s ws)) end → MarksPut (out ++ drop mostWorked w) w₂ (run .worked) end 0 0
-      → EmojiPut ws w w₂ s run (record { worked = end; emoji = true; text = run .text; mark = 1 })
+      → Appended (take mostWorked w) out (run .worked) (strip (within s ws)) end → TagsPut (out ++ drop mostWorked w) w₂ (run .worked) end 0 0
+      → EmojiPut ws w w₂ s run (record { worked = end; emoji = true; text = run .text; tag = 1 })
   emoji-put out w₂ end big few a m =
       let p = put-both w out (run .worked) end (strip (within s ws)) big a w₂ 0 0 m in
       record {
         same = p .same;
         grows = omega (arith, p .end);
         lays = λ put ss f e l.
-            laying-emoji put ss run w w₂ f (record { worked = end; emoji = true; text = run .text; mark = 1 }) l refl refl few (rw e p) refl;
+            laying-emoji put ss run w w₂ f (record { worked = end; emoji = true; text = run .text; tag = 1 }) l refl refl few (rw e p) refl;
       }
 
-  pub emoji-over : mostWorked < run .worked → EmojiPut ws w w s run (record { worked = run .worked; emoji = true; text = run .text; mark = 1 })
+  pub emoji-over : mostWorked < run .worked → EmojiPut ws w w s run (record { worked = run .worked; emoji = true; text = run .text; tag = 1 })
   emoji-over h =
       record {
         same = refl;
         grows = omega arith;
-        lays = λ put ss f e l. laying-emoji-over put ss run w w f (record { worked = run .worked; emoji = true; text = run .text; mark = 1 }) l refl refl h refl;
+        lays = λ put ss f e l. laying-emoji-over put ss run w w f (record { worked = run .worked; emoji = true; text = run .text; tag = 1 }) l refl refl h refl;
       }

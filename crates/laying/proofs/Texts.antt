@@ -14,15 +14,15 @@ use Rattle.text.specs.Decomposition.{fourRounds}
 use Rattle.decomposition.specs.Rounds.{Decomposed}
 use Rattle.laying.specs.declared.Run.{Run}
 use Rattle.tokens.specs.Scan.{Step, text}
-use Rattle.laying.specs.Laying.{nextMark, Laying, MarksPut, TextPut, ItemsPut}
-use Rattle.laying.proofs.Marking.{put-both}
-use Rattle.laying.proofs.Laying.{four-joins, laying-empty, laying-text, laying-text-over}
+use Rattle.laying.specs.Laying.{nextTag, Laying, TagsPut, TextPut, ItemsPut}
+use Rattle.laying.proofs.Tagging.{put-both}
+use Rattle.laying.proofs.LayingLaws.{four-joins, laying-empty, laying-text, laying-text-over}
 
-pub next-some : (m n : ℕ) → (n ≡ 0 → ⊥) → 2 ≡ nextMark m n
+pub next-some : (m n : ℕ) → (n ≡ 0 → ⊥) → 2 ≡ nextTag m n
 next-some m zero h = absurd (h refl)
 next-some m (suc n) h = refl
 
-pub next-none : (m n : ℕ) → n ≡ 0 → m ≡ nextMark m n
+pub next-none : (m n : ℕ) → n ≡ 0 → m ≡ nextTag m n
 next-none m n h = rw h
 
 -- a codepoint's decomposition that is written into the work area is text laid down
@@ -30,25 +30,25 @@ module _ (t : Table) (c : ℕ) (w : List ℕ) (run : Run) where
   pub decomposed-behind : (out : List ℕ) (end : ℕ) → Decomposed t c (take mostWorked w) out (run .worked) end → run .worked ≤ end
   decomposed-behind out end d = omega (arith, d .written .end)
 
-  pub text-put : (out w₂ : List ℕ) (end mark : ℕ) → leastWork ≤ length w → run .worked ≤ mostWorked
-      → Decomposed t c (take mostWorked w) out (run .worked) end → MarksPut (out ++ drop mostWorked w) w₂ (run .worked) end (run .mark) 2
-      → mark ≡ nextMark (run .mark) (end - run .worked)
-      → TextPut t w w₂ c run (record { worked = end; emoji = run .emoji; text = true; mark = mark })
-  text-put out w₂ end mark big few d m n =
+  pub text-put : (out w₂ : List ℕ) (end tag : ℕ) → leastWork ≤ length w → run .worked ≤ mostWorked
+      → Decomposed t c (take mostWorked w) out (run .worked) end → TagsPut (out ++ drop mostWorked w) w₂ (run .worked) end (run .tag) 2
+      → tag ≡ nextTag (run .tag) (end - run .worked)
+      → TextPut t w w₂ c run (record { worked = end; emoji = run .emoji; text = true; tag = tag })
+  text-put out w₂ end tag big few d m n =
       let s : List ℕ = fourRounds t (c ∷ []) in
-      let p = put-both w out (run .worked) end s big (d .written) w₂ (run .mark) 2 m in
+      let p = put-both w out (run .worked) end s big (d .written) w₂ (run .tag) 2 m in
       let e : end - run .worked ≡ length s = omega (arith, d .written .end) in
       record {
         same = p .same;
         lays = λ ss a l.
-            laying-text (fourRounds t) (four-joins t) ss a run w w₂ c (record { worked = end; emoji = run .emoji; text = true; mark = mark }) l few p refl refl (rw e at n);
+            laying-text (fourRounds t) (four-joins t) ss a run w w₂ c (record { worked = end; emoji = run .emoji; text = true; tag = tag }) l few p refl refl (rw e at n);
       }
 
-  pub text-over : mostWorked < run .worked → TextPut t w w c run (record { worked = run .worked; emoji = run .emoji; text = true; mark = run .mark })
+  pub text-over : mostWorked < run .worked → TextPut t w w c run (record { worked = run .worked; emoji = run .emoji; text = true; tag = run .tag })
   text-over h =
       record {
         same = refl;
-        lays = λ ss a l. laying-text-over (fourRounds t) (four-joins t) ss a run w w c (record { worked = run .worked; emoji = run .emoji; text = true; mark = run .mark }) l h refl refl refl;
+        lays = λ ss a l. laying-text-over (fourRounds t) (four-joins t) ss a run w w c (record { worked = run .worked; emoji = run .emoji; text = true; tag = run .tag }) l h refl refl refl;
       }
 
 -- the items from `from` up to i are laid down

@@ -1,4 +1,4 @@
-// Laying tokens down in the work area: codepoints in its first MOST_WORKED words, marks beside them in the next MOST_WORKED. Each codepoint is
+// Laying tokens down in the work area: codepoints in its first MOST_WORKED words, tags beside them in the next MOST_WORKED. Each codepoint is
 // written to its place at once: what is copied stays on the stack.
 use decomposition::append_decomposed;
 use decomposition::put;
@@ -16,30 +16,30 @@ ghost use Rattle.decomposition.specs.Rounds.{Appended};
 ghost use Rattle.finder.specs.Emoji.{strip};
 ghost use Rattle.finder.specs.Match.{SequenceFits};
 ghost use Rattle.tokens.specs.Single.{ItemsThere};
-ghost use Rattle.laying.specs.Laying.{nextMark, MarksPut, EmojiPut, TextPut, ItemsPut};
+ghost use Rattle.laying.specs.Laying.{nextTag, TagsPut, EmojiPut, TextPut, ItemsPut};
 
-// What is laid down so far: the number of codepoints, whether there are emoji and text, and the mark of the next codepoint of text. A number over
+// What is laid down so far: the number of codepoints, whether there are emoji and text, and the tag of the next codepoint of text. A number over
 // MOST_WORKED says that they are over, and not by how much: nothing is decomposed or laid down any more.
 pub struct Run {
     pub worked: usize,
     pub emoji: bool,
     pub text: bool,
-    pub mark: u32,
+    pub tag: u32,
 }
 
-// Marks the codepoints from `from` up to `to`, the first of them with `first` and each later one with `later`, if they are not over.
-fn put_marks(w: &mut [u32], from: usize, to: usize, first: u32, later: u32)
+// Tags the codepoints from `from` up to `to`, the first of them with `first` and each later one with `later`, if they are not over.
+fn put_tags(w: &mut [u32], from: usize, to: usize, first: u32, later: u32)
     requires { ⌜ leastWork ≤ length (now w) ⌝ }
-    ensures { λ _. ⌜ MarksPut (now (w .entry)) (now (w .exit)) from to first later ⌝ }
+    ensures { λ _. ⌜ TagsPut (now (w .entry)) (now (w .exit)) from to first later ⌝ }
 {
     if MOST_WORKED < to {
         return;
     }
-    let mut mark = first;
+    let mut tag = first;
     let mut i = from;
     while i < to {
-        w[MOST_WORKED + i] = mark;
-        mark = later;
+        w[MOST_WORKED + i] = tag;
+        tag = later;
         i += 1;
     }
 }
@@ -73,28 +73,28 @@ pub fn put_emoji(words: &[u32], w: &mut [u32], run: Run, sequence: Span) -> Run
             worked: n,
             emoji: true,
             text: run.text,
-            mark: 1,
+            tag: 1,
         };
     }
     let from = sequence.from;
     let to = sequence.to;
     let end = strip_into(&words[from..to], &mut w[..MOST_WORKED], n);
-    put_marks(w, n, end, 0, 0);
+    put_tags(w, n, end, 0, 0);
     Run {
         worked: end,
         emoji: true,
         text: run.text,
-        mark: 1,
+        tag: 1,
     }
 }
 
-// The mark of the next codepoint of a text behind those from `from` up to `to`.
-fn next_mark(mark: u32, from: usize, to: usize) -> u32
+// The tag of the next codepoint of a text behind those from `from` up to `to`.
+fn next_tag(tag: u32, from: usize, to: usize) -> u32
     requires { ⌜ from ≤ to ⌝ }
-    ensures { λ r. ⌜ r ≡ nextMark mark (to - from) ⌝ }
+    ensures { λ r. ⌜ r ≡ nextTag tag (to - from) ⌝ }
 {
     if from == to {
-        return mark;
+        return tag;
     }
     2
 }
@@ -111,17 +111,17 @@ pub fn put_text(words: &[u32], ix: Sections, w: &mut [u32], run: Run, c: u32) ->
             worked: at,
             emoji: run.emoji,
             text: true,
-            mark: run.mark,
+            tag: run.tag,
         };
     }
     let end = append_decomposed(words, ix, &mut w[..MOST_WORKED], at, c);
-    put_marks(w, at, end, run.mark, 2);
-    let mark = next_mark(run.mark, at, end);
+    put_tags(w, at, end, run.tag, 2);
+    let tag = next_tag(run.tag, at, end);
     Run {
         worked: end,
         emoji: run.emoji,
         text: true,
-        mark,
+        tag,
     }
 }
 

@@ -3,19 +3,22 @@
 use Prim.Native.Nat.{ℕ, zero, suc, _+_, _-_, _≤_, _<_}
 use native.Mathlib.Omega.{arith}
 use native.Mathlib.Numerals.{add-one, add-two}
-use mathlib.Core.Path.{_≡_, refl, ap, _∙_}
+use mathlib.Core.Path.{_≡_, refl, sym, ap, _∙_}
 use mathlib.Core.Bool.{Bool, true, false, not, _&&_, and-false}
 use mathlib.Core.List.{List, [], _∷_}
-use mathlib.Core.Option.{Option, none, some}
+use mathlib.Core.Option.{Option, none, some, Option·map}
 use lib.ListN.{length, getD, take, drop, length-drop, drop-of-length-le}
 use lib.Seq.{drop-cons, drop-drop, take-all}
 use lib.Dec.{leb, ltb, eqb, leb·suc-suc, leb·suc-zero}
 use borrow.Author.Tests.{ltb-true, ltb-false, leb-true, leb-false, le-leb, lt-leb, ne-eqb}
 use Rattle.lists.specs.Lists.{isSome, given, andThen}
 use Rattle.table.specs.Table.{Whole}
-use Rattle.table.specs.Layout.{mostFlags, onlyIf, inFront, ranges, excluded, group, groups, Tail, confusedPart, wholes}
+use Rattle.table.specs.Layout.{hasList, flagsFit, onlyIf, inFront, ranges, excluded, group, listPart, GroupEnd, withList, groupEnd, groups, Tail, confusedPart, wholes}
+use Rattle.table.specs.GroupPart.{listSize, endSize}
 use Rattle.layout.specs.Walk.{sizeIf, wholeSize, groupSize, groupPairs, wholesFit, groupsWithin}
 use Rattle.table.proofs.Fuels.{groups-next, wholes-next}
+use Rattle.table.proofs.Records.{end-rest}
+use Rattle.table.proofs.ListSizes.{list-inside, list-some}
 
 -- The test f of the words comes to: a record of n words comes next, and the test of the rest.
 abbrev Steps : (List ℕ → Bool) → ℕ → List ℕ → Type 0
@@ -102,18 +105,29 @@ whole-fits ws =
     let n = getD ws 0 0 + 2 + getD ws (getD ws 0 0 + 1) 0 in
     size-le (leb n (length ws)) n (length ws) (λ e. leb-true _ _ e)
 
+pub end-fits : (b : Bool) (ws : List ℕ) (at : ℕ) → at ≤ length ws → at + endSize b (drop at ws) ≤ length ws
+end-fits true ws at h = omega (arith, list-inside (drop at ws), length-drop at ws)
+end-fits false ws at h = omega arith
+
 pub group-fits : (ws : List ℕ) → groupSize ws ≤ length ws
 unfolding groupSize
 group-fits ws =
     let n = getD ws 1 0 in
-    let f = leb (getD ws 0 0) mostFlags in
+    let f = flagsFit (getD ws 0 0) in
     let r = leb (n + 2) (length ws) in
     let p = isSome (ranges (take n (drop 2 ws))) in
-    size-le (f && r && p) (n + 2) (length ws) (λ e. leb-true _ _ (last-true f r (first-true (f && r) p e)))
+    let b = hasList (getD ws 0 0) in
+    let g = isSome (groupEnd b (drop (n + 2) ws)) in
+    size-le (f && r && p && g) (n + 2 + endSize b (drop (n + 2) ws)) (length ws)
+    (λ e. end-fits b ws (n + 2) (leb-true _ _ (last-true f r (first-true (f && r) p (first-true (f && r && p) g e)))))
 
 -- the part of the words from `at` on
 pub part-tail : (ws : List ℕ) (at : ℕ) → take (length ws - at) (drop at ws) ≡ drop at ws
 part-tail ws at = take-all (length ws - at) (drop at ws) (simp length-drop (omega arith))
+
+some-map : {A B : Type 0} (f : A → B) (o : Option A) → isSome (Option·map f o) ≡ isSome o
+some-map f none = refl
+some-map f (some a) = refl
 
 -- The walk at `at`: nothing is left, no record comes next, or one does and the rest behind it decides.
 pub walk-end : (ws : List ℕ) (at : ℕ) → length ws ≤ at → wholesFit (drop at ws) ≡ true
@@ -145,12 +159,17 @@ pub walk-none : (ws : List ℕ) (at : ℕ) → at < length ws → 0 ≡ wholeSiz
 walk-none = at-none wholesFit wholesFit wholeSize wholes-step
 
 -- The groups, of which there may be at most so many.
-given-group : {A B : Type 0} (b : Bool) (o : Option A) (g : A → B) (r : Option (List B)) (most : ℕ) →
-    given (λ gs. leb (length gs) most) (onlyIf b (andThen o (λ a. inFront (g a) r))) ≡ (b && isSome o && given (λ gs. leb (suc (length gs)) most) r)
-given-group true none g r most = refl
-given-group true (some a) g none most = refl
-given-group true (some a) g (some gs) most = refl
-given-group false o g r most = refl
+given-group : {A E B : Type 0} (b : Bool) (o : Option A) (p : Option E) (g : A → E → B) (r : E → Option (List B)) (rest : Option (List B)) (most : ℕ)
+    → ((e : E) → p ≡ some e → r e ≡ rest)
+    → given (λ gs. leb (length gs) most) (onlyIf b (andThen o (λ a. andThen p (λ e. inFront (g a e) (r e))))) ≡ (b && isSome o && isSome p && given (λ gs. leb (suc (length gs)) most) rest)
+given-group true none p g r rest most h = refl
+given-group true (some a) none g r rest most h = refl
+given-group {B = B} true (some a) (some e) g r rest most h = go (r e) (h e refl)
+  where
+    go : (o : Option (List B)) → o ≡ rest → given (λ gs. leb (length gs) most) (inFront (g a e) o) ≡ given (λ gs. leb (suc (length gs)) most) rest
+    go none k = rw (← k)
+    go (some gs) k = rw (← k)
+given-group false o p g r rest most h = refl
 
 given-less : {B : Type 0} (r : Option (List B)) (most : ℕ) → given (λ gs. leb (suc (length gs)) (suc most)) r ≡ given (λ gs. leb (length gs) most) r
 given-less none most = refl
@@ -170,24 +189,33 @@ unfolding groupsLeft groupsWithin
 given-left zero ws = given-full (groups (length ws) ws)
 given-left (suc most) ws = given-less (groups (length ws) ws) most
 
+-- the words behind the group
+groupRest : ℕ → ℕ → List ℕ → List ℕ
+groupRest f n ws = drop (endSize (hasList f) (drop n ws)) (drop n ws)
+
 group-front : (most f n : ℕ) (ws : List ℕ) →
-    groupsWithin most (f ∷ n ∷ ws) ≡ (leb f mostFlags && leb n (length ws) && isSome (ranges (take n ws)) && groupsLeft most (drop n ws))
-unfolding groupsWithin
+    groupsWithin most (f ∷ n ∷ ws) ≡ (flagsFit f && leb n (length ws) && isSome (ranges (take n ws)) && isSome (groupEnd (hasList f) (drop n ws)) && groupsLeft most (groupRest f n ws))
+unfolding groupsWithin groupRest
 group-front most f n ws =
-    let head : Bool = leb f mostFlags && leb n (length ws) in
-    let rest = groups (length (drop n ws)) (drop n ws) in
+    let head : Bool = flagsFit f && leb n (length ws) in
+    let last : Bool = isSome (groupEnd (hasList f) (drop n ws)) in
+    let rest = groupRest f n ws in
+    let same : (e : GroupEnd) → groupEnd (hasList f) (drop n ws) ≡ some e → groups (length (e .rest)) (e .rest) ≡ groups (length rest) rest
+    = λ e h. ap (λ (v : List ℕ). groups (length v) v) (sym (end-rest (hasList f) (drop n ws) e h)) in
     ap (given (λ gs. leb (length gs) most)) (groups-next f n ws) ∙
-    given-group head (ranges (take n ws)) (group f) rest most ∙
-    ap (λ (b : Bool). head && isSome (ranges (take n ws)) && b) (given-left most (drop n ws))
+    given-group head (ranges (take n ws)) (groupEnd (hasList f) (drop n ws)) (λ rs e. group f rs (e .sequences)) (λ e. groups (length (e .rest)) (e .rest)) (groups (length rest) rest) most same ∙
+    ap (λ (b : Bool). head && isSome (ranges (take n ws)) && last && b) (given-left most rest)
 
 group-step : (most w : ℕ) (ws : List ℕ) → groupsWithin most (w ∷ ws) ≡ (not (eqb (groupSize (w ∷ ws)) 0) && groupsLeft most (drop (groupSize (w ∷ ws)) (w ∷ ws)))
-unfolding groupsWithin groupSize
-group-step most f [] = rw (and-false (leb f mostFlags))
+unfolding groupsWithin groupSize groupRest
+group-step most f [] = rw (and-false (flagsFit f))
 group-step most f (n ∷ ws) =
     let room : leb (n + 2) (length (f ∷ n ∷ ws)) ≡ leb n (length ws) = leb-same (n + 2) (length (f ∷ n ∷ ws)) n (length ws) (λ i. omega arith) (λ i. omega arith) in
-    let rest : drop (n + 2) (f ∷ n ∷ ws) ≡ drop n ws = rw add-two in
-    rw room
-    (steps-if (groupsLeft most) (leb f mostFlags && leb n (length ws) && isSome (ranges (take n ws))) (n + 2) (f ∷ n ∷ ws) (omega arith)
+    let behind : drop (n + 2) (f ∷ n ∷ ws) ≡ drop n ws = rw add-two in
+    let k : ℕ = endSize (hasList f) (drop n ws) in
+    let rest : drop (n + 2 + k) (f ∷ n ∷ ws) ≡ groupRest f n ws = sym (drop-drop k (n + 2) (f ∷ n ∷ ws)) ∙ ap (drop k) behind in
+    rw (room, behind)
+    (steps-if (groupsLeft most) (flagsFit f && leb n (length ws) && isSome (ranges (take n ws)) && isSome (groupEnd (hasList f) (drop n ws))) (n + 2 + k) (f ∷ n ∷ ws) (omega arith)
     (rw rest (group-front most f n ws)))
 
 -- The walk over the groups at `at`.
@@ -223,19 +251,40 @@ module _ (ws : List ℕ) where
 
   pub group-short : length ws < getD ws 1 0 + 2 → 0 ≡ groupSize ws
   unfolding groupSize
-  group-short h = rw (lt-leb (getD ws 1 0 + 2) (length ws) h, and-false (leb (getD ws 0 0) mostFlags))
+  group-short h = rw (lt-leb (getD ws 1 0 + 2) (length ws) h, and-false (flagsFit (getD ws 0 0)))
 
-  pub group-over : mostFlags < getD ws 0 0 → 0 ≡ groupSize ws
+  pub group-flags : flagsFit (getD ws 0 0) ≡ false → 0 ≡ groupSize ws
   unfolding groupSize
-  group-over h = rw (lt-leb (getD ws 0 0) mostFlags h)
+  group-flags h = rw h
 
   pub group-broken : isSome (ranges (groupPairs ws)) ≡ false → 0 ≡ groupSize ws
   unfolding groupSize
-  group-broken h = rw (h, and-false (leb (getD ws 0 0) mostFlags && leb (getD ws 1 0 + 2) (length ws)))
+  group-broken h = rw (h, and-false (flagsFit (getD ws 0 0) && leb (getD ws 1 0 + 2) (length ws)))
 
-  pub group-there : getD ws 0 0 ≤ mostFlags → getD ws 1 0 + 2 ≤ length ws → isSome (ranges (groupPairs ws)) ≡ true → getD ws 1 0 + 2 ≡ groupSize ws
+  pub group-there : flagsFit (getD ws 0 0) ≡ true → getD ws 1 0 + 2 ≤ length ws → isSome (ranges (groupPairs ws)) ≡ true
+      → sizeIf (isSome (groupEnd (hasList (getD ws 0 0)) (drop (getD ws 1 0 + 2) ws))) (getD ws 1 0 + 2 + endSize (hasList (getD ws 0 0)) (drop (getD ws 1 0 + 2) ws)) ≡ groupSize ws
   unfolding groupSize
-  group-there h i j = rw (le-leb (getD ws 0 0) mostFlags h, le-leb (getD ws 1 0 + 2) (length ws) i, j)
+  group-there h i j = rw (h, le-leb (getD ws 1 0 + 2) (length ws) i, j)
+
+-- What is behind the pairs, by the size of a list that is due.
+module _ (ws : List ℕ) (at : ℕ) where
+  pub end-listed : (b : Bool) (n : ℕ) → b ≡ true → n ≡ listSize (take (length ws - at) (drop at ws)) → (n ≡ 0 → ⊥) → at + n ≡ sizeIf (isSome (groupEnd b (drop at ws))) (at + endSize b (drop at ws))
+  unfolding groupEnd
+  end-listed b n e m h =
+      let same : n ≡ listSize (drop at ws) = rw (part-tail ws at) at m in
+      let some-list : isSome (listPart (drop at ws)) ≡ true = list-some (drop at ws) ∙ rw (← same, ne-eqb n 0 h) in
+      rw (e, some-map withList (listPart (drop at ws)), some-list) (ap (λ (k : ℕ). at + k) same)
+
+  pub end-missing : (b : Bool) (n : ℕ) → b ≡ true → n ≡ listSize (take (length ws - at) (drop at ws)) → n ≡ 0 → 0 ≡ sizeIf (isSome (groupEnd b (drop at ws))) (at + endSize b (drop at ws))
+  unfolding groupEnd
+  end-missing b n e m h =
+      let same : n ≡ listSize (drop at ws) = rw (part-tail ws at) at m in
+      let no-list : isSome (listPart (drop at ws)) ≡ false = list-some (drop at ws) ∙ rw (← same, h) in
+      rw (e, some-map withList (listPart (drop at ws)), no-list)
+
+  pub end-plain : (b : Bool) → b ≡ false → at ≡ sizeIf (isSome (groupEnd b (drop at ws))) (at + endSize b (drop at ws))
+  unfolding groupEnd
+  end-plain b e = rw e (omega arith)
 
 -- The single record of the exclusions.
 pub excluded-none : (ws : List ℕ) → length ws ≡ 0 → false ≡ isSome (excluded ws)

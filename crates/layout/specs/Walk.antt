@@ -8,7 +8,8 @@ use lib.Dec.{leb}
 use Rattle.lists.specs.Lists.{isSome, given}
 use Rattle.halving.specs.Halving.{Apart}
 use Rattle.layout.specs.declared.GroupSeen.{GroupSeen}
-use Rattle.table.specs.Layout.{mostFlags, ranges, groups, wholes}
+use Rattle.table.specs.Layout.{hasList, flagsFit, ranges, groupEnd, groups, wholes}
+use Rattle.table.specs.GroupPart.{listSize, endSize}
 
 -- `size` where the test passes, else 0, which stands for no record
 abbrev pub sizeIf : Bool → ℕ → ℕ
@@ -21,11 +22,17 @@ wholeSize ws =
     let m = getD ws (n + 1) 0 in
     sizeIf (leb (n + 2 + m) (length ws)) (n + 2 + m)
 
+-- the place behind a group whose pairs end at `at`, or 0 where a list is due and there is none
+abbrev pub endAt : List ℕ → ℕ → Bool → ℕ
+endAt ws at listed = sizeIf (isSome (groupEnd listed (drop at ws))) (at + endSize listed (drop at ws))
+
 unfoldable pub groupSize : List ℕ → ℕ
-unfolding ranges
+unfolding ranges groupEnd listSize
 groupSize ws =
     let n = getD ws 1 0 in
-    sizeIf (leb (getD ws 0 0) mostFlags && leb (n + 2) (length ws) && isSome (ranges (take n (drop 2 ws)))) (n + 2)
+    let listed = hasList (getD ws 0 0) in
+    let behind = drop (n + 2) ws in
+    sizeIf (flagsFit (getD ws 0 0) && leb (n + 2) (length ws) && isSome (ranges (take n (drop 2 ws))) && isSome (groupEnd listed behind)) (n + 2 + endSize listed behind)
 
 -- the words of the pairs of the group that the words begin with
 abbrev pub groupPairs : List ℕ → List ℕ

@@ -13,6 +13,7 @@ use sections::Sections;
 use sections::Sorted;
 use sections::Starts;
 use table::Span;
+use table::lookup::list_size;
 
 // 02, Item 11: "allows 131,074 words"
 const MOST_WORDS: usize = 131074;
@@ -24,21 +25,22 @@ const MOST_PARTS: usize = 4;
 
 const MOST_GROUPS: usize = 256;
 
-// "flags at most 3"
-const MOST_FLAGS: u32 = 3;
+// flags 1, 2 and 4
+const MOST_FLAGS: u32 = 7;
 
 ghost use Prim.Native.Nat.{_≤_};
 ghost use mathlib.Core.Path.{_≡_};
 ghost use mathlib.Core.Bool.{not};
+ghost use lib.ListN.{length};
 ghost use Rattle.lists.specs.Lists.{isSome};
-ghost use Rattle.table.specs.Layout.{mostItems, mostGroups, ranges, classRanges, excluded};
+ghost use Rattle.table.specs.Layout.{mostItems, mostGroups, flagsFit, ranges, classRanges, excluded};
 ghost use Rattle.table.specs.Spans.{within, Fits};
 ghost use Rattle.table.specs.GroupPart.{groupsIn};
 ghost use Rattle.halving.specs.Order.{isFault, isSorted};
 ghost use Rattle.halving.specs.Halving.{Apart};
 ghost use Rattle.sections.specs.Known.{noneSorted, noStarts, behindCount, GroupsApart};
 ghost use Rattle.sections.specs.Laid.{spanAt, sectionsOf, AllFit, LaidOut};
-ghost use Rattle.layout.specs.Walk.{wholeSize, wholesFit, GroupSized, groupsWithin};
+ghost use Rattle.layout.specs.Walk.{endAt, wholeSize, wholesFit, GroupSized, groupsWithin};
 ghost use Rattle.layout.specs.Seeing.{Sees, SeesHeads, SeesFirsts, SetsFound, OthersFound, allFit, sortedOf, startsOf, foundOf};
 
 // What is seen of a section: whether it is well formed, and whether it is sorted.
@@ -237,6 +239,28 @@ fn told(order: Order) -> Seen
     }
 }
 
+// Whether a group may have these flags: 1, 2 and, only beside 2, 4.
+fn flags_fit(flags: u32) -> bool
+    ensures { λ r. ⌜ r ≡ flagsFit flags ⌝ }
+{
+    (flags <= MOST_FLAGS) & ((flags / 2 % 2 == 1) | !(flags / 4 % 2 == 1))
+}
+
+// The place behind a group whose pairs end at `at`, or 0 where a list is due and there is none.
+fn group_end(rest: &[u32], at: usize, listed: bool) -> usize
+    requires { ⌜ at ≤ length (now rest) ⌝ }
+    ensures { λ r. ⌜ r ≡ endAt (now (rest .entry)) at listed ⌝ }
+{
+    if listed {
+        let size = list_size(&rest[at..]);
+        if size == 0 {
+            return 0;
+        }
+        return at + size;
+    }
+    at
+}
+
 // The group that `rest` begins with.
 fn group_size(rest: &[u32]) -> GroupSeen
     ensures { λ r. ⌜ GroupSized (now (rest .entry)) r ⌝ }
@@ -248,7 +272,8 @@ fn group_size(rest: &[u32]) -> GroupSeen
     if rest.len() < 2 {
         return none;
     }
-    if rest[0] > MOST_FLAGS {
+    let flags = rest[0];
+    if !flags_fit(flags) {
         return none;
     }
     let n = rest[1] as usize;
@@ -258,8 +283,9 @@ fn group_size(rest: &[u32]) -> GroupSeen
     let to = n + 2;
     let pairs = told(pairs_order(&rest[2..to]));
     if pairs.fits {
+        let size = group_end(rest, to, flags / 4 % 2 == 1);
         return GroupSeen {
-            size: to,
+            size: size,
             sorted: pairs.sorted,
         };
     }

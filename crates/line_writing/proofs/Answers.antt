@@ -7,7 +7,7 @@ use lib.ListN.{length, take}
 use lib.Dec.{eqb}
 use Rattle.answers.specs.Values.{numberOf, placeOf, nameValues}
 use Rattle.answers.specs.declared.Refusal.{Refusal}
-use Rattle.answers.specs.declared.Refusal.the-variants.{LayoutFault, WorkAreaTooSmall, InputTooLong, NotScalar, Disallowed, NoTokens, WorkedTooLong, LowLine, Hyphens, Fenced, LeadingMark, NoGroup, NsmRun, Confusable, Restricted, BufferTooSmall}
+use Rattle.answers.specs.declared.Refusal.the-variants.{LayoutFault, WorkAreaTooSmall, InputTooLong, NotScalar, Disallowed, NoTokens, WorkedTooLong, LowLine, Hyphens, Fenced, LeadingMark, NoGroup, NsmRun, Compound, Confusable, Restricted, BufferTooSmall}
 use Rattle.answers.specs.declared.NameAnswer.{NameAnswer}
 use Rattle.answers.specs.declared.NameAnswer.the-variants.{Accepted, Refused}
 use Rattle.line_writing.specs.Writing.{okLine, noLine, answerLine}
@@ -28,6 +28,7 @@ numbered (Fenced l) = refl
 numbered (LeadingMark l) = refl
 numbered (NoGroup l) = refl
 numbered (NsmRun l) = refl
+numbered (Compound l) = refl
 numbered (Confusable l) = refl
 numbered (Restricted l) = refl
 numbered BufferTooSmall = refl

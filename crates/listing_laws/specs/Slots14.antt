@@ -16,6 +16,7 @@ use Rattle.answers.specs.Verdict.{Verdict, accepted, refused, next}
 use Rattle.ending.specs.Numbers.{Refuses}
 use Rattle.name.specs.Label.{Label}
 use Rattle.name.specs.Name.{nameAnswer, nameBefore15, nameResult, nameVerdict, nameCall}
+use Rattle.table.specs.Layout.{theTable}
 use Rattle.meaning.specs.Numbers.{Before15, name-before-refuses}
 use Rattle.meaning.specs.Room.{name-whole}
 use Rattle.book_slots.specs.Book.{Slot, emptySlot}
@@ -31,7 +32,7 @@ module _ (words : List ℕ) (work : ℕ) where
   by-the-name-call name room enough =
       rw (name-whole 0 words name room work enough) (go (nameBefore15 0 words name work) (name-before-refuses 0 words name work))
     where
-      go : (v : Verdict (List Label)) → Refuses Before15 v
+      go : (v : Verdict (List Label)) → Refuses (Before15 (theTable words)) v
           → changeOf name (next v (λ labels. fileable (nameAnswer labels))) ≡ changeOf name (next (formOf (nameResult name room work v)) fileable)
       go (accepted ls) h = rw (take-filled room (nameAnswer ls))
       go (refused n p) h = rw (ne-eqb n 0 (λ q. omega (arith, h .0)))

@@ -3,9 +3,9 @@ use confused_set::FILTER_WORDS;
 use confused_set::make_filter;
 use confused_set::whole_by;
 use group_flags::any_set;
+use group_flags::flag_holders;
 use group_flags::keep_both;
 use group_flags::keep_outside;
-use group_flags::mark_holders;
 use memo::recall;
 use sections::Sections;
 use table::WholeAt;
@@ -46,7 +46,7 @@ fn narrow(
         }
         WholeAt::Unconfused => {
             let mut can = [0; 256];
-            mark_holders(words, ix, &mut can, c);
+            flag_holders(words, ix, &mut can, c);
             keep_both(flags, &can);
             false
         }

@@ -4,3 +4,4 @@ pub mod Room
 pub mod Lookalikes
 pub mod Calls
 pub mod Instances
+pub mod NoList

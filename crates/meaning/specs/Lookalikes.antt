@@ -20,13 +20,14 @@ use Rattle.tokens.specs.Tokens.{Token, tokensOf, worked, normal, joinedTokens, 
 use Rattle.spelling.specs.Spelling.{lowLine, hyphens, fenced, leadingMark}
 use Rattle.groups.specs.Groups.{Numbered, groupOf}
 use Rattle.nsm.specs.Marks.{nsmFits}
+use Rattle.compounds.specs.Compounds.{compoundsFit}
 use Rattle.confusable.specs.Confusable.{confusable}
 use Rattle.label.specs.Judge.{unless, onlyEmoji, onlyAscii, judgeAscii, judgeInGroup, judgeText, judgeMixed, judge}
 use Rattle.label_laws.specs.Respelling.{Respelled, refused-14}
 use Rattle.name.specs.Label.{Label, judged, labelVerdict}
 
 -- The tokens, in normal form, reach the look-alike test: they are neither emoji alone nor ASCII, 8, 10 and 11 do not apply, a group is
--- found, and 13 does not apply. (9 is for ASCII alone.)
+-- found, and 16 and 13 do not apply. (9 is for ASCII alone.)
 pub record TokensReach (t : Table) (ts : List Token) : Type 0 where
   pub not-emoji : onlyEmoji ts ≡ false
   pub not-ascii : onlyAscii ts ≡ false
@@ -35,6 +36,7 @@ pub record TokensReach (t : Table) (ts : List Token) : Type 0 where
   pub no-11 : leadingMark t ts ≡ false
   pub group : Numbered
   pub no-12 : groupOf (t .groups) (joinedText ts) ≡ some group
+  pub no-16 : not (compoundsFit t (group .group .sequences) (joinedText ts)) ≡ false
   pub no-13 : not (group .group .whitelisted) && not (nsmFits t (joinedText ts)) ≡ false
 
 -- The label reaches it: 5, 6 and 7 do not apply, and its tokens reach it.
@@ -63,24 +65,26 @@ passed-by n true p q v h e = absurd (apart h e)
 passed-by n false p q v h e = (refl, e)
 
 module _ (t : Table) (place : ℕ) where
-  -- 12 and 13 did not apply, and 14 did
+  -- 12, 16 and 13 did not apply, and 14 did
   text-14 : (s : List ℕ) → judgeText t place s ≡ refused 14 place
-      → (g : Numbered) × (groupOf (t .groups) s ≡ some g) × (not (g .group .whitelisted) && not (nsmFits t s) ≡ false) × Respelled t s
+      → (g : Numbered) × (groupOf (t .groups) s ≡ some g) × (not (compoundsFit t (g .group .sequences) s) ≡ false) × (not (g .group .whitelisted) && not (nsmFits t s) ≡ false) × Respelled t s
   unfolding judgeText judgeInGroup
   text-14 s e = go (groupOf (t .groups) s) refl e
     where
       in-group : (g : Numbered) → judgeInGroup t place s g ≡ refused 14 place
-          → (not (g .group .whitelisted) && not (nsmFits t s) ≡ false) × Respelled t s
+          → (not (compoundsFit t (g .group .sequences) s) ≡ false) × (not (g .group .whitelisted) && not (nsmFits t s) ≡ false) × Respelled t s
       in-group g f =
           let kind : Verdict Kind = accepted (Group (record { number = g .number; restricted = g .group .restricted })) in
-          let p = passed-by 13 (not (g .group .whitelisted) && not (nsmFits t s)) place place (unless (confusable t s) 14 place kind)
+          let white : Bool = not (g .group .whitelisted) && not (nsmFits t s) in
+          let o = passed-by 16 (not (compoundsFit t (g .group .sequences) s)) place place (unless white 13 place (unless (confusable t s) 14 place kind))
           (λ h. omega arith) f in
-          (p .0, refused-14 t place s g (p .0) .0 f)
+          let p = passed-by 13 white place place (unless (confusable t s) 14 place kind) (λ h. omega arith) (o .1) in
+          (o .0, p .0, refused-14 t place s g (o .0) (p .0) .0 f)
 
       go : (o : Option Numbered) → groupOf (t .groups) s ≡ o → onSome o (judgeInGroup t place s) (refused 12 place) ≡ refused 14 place
-          → (g : Numbered) × (groupOf (t .groups) s ≡ some g) × (not (g .group .whitelisted) && not (nsmFits t s) ≡ false) × Respelled t s
+          → (g : Numbered) × (groupOf (t .groups) s ≡ some g) × (not (compoundsFit t (g .group .sequences) s) ≡ false) × (not (g .group .whitelisted) && not (nsmFits t s) ≡ false) × Respelled t s
       go none q f = absurd (apart (λ h. omega arith) f)
-      go (some g) q f = let p = in-group g f in (g, q, p .0, p .1)
+      go (some g) q f = let p = in-group g f in (g, q, p .0, p .1, p .2)
 
   ascii-not-14 : (s : List ℕ) → judgeAscii place s ≡ refused 14 place → ⊥
   unfolding judgeAscii
@@ -107,9 +111,10 @@ module _ (t : Table) (place : ℕ) where
           no-11 = c .0;
           group = g .0;
           no-12 = g .1;
-          no-13 = g .2;
+          no-16 = g .2;
+          no-13 = g .3;
         },
-        g .3,
+        g .4,
       )
 
   -- 14 among the rules on tokens
@@ -127,9 +132,9 @@ module _ (t : Table) (place : ℕ) where
       back : TokensReach t ts → Respelled t (joinedText ts) → judge t place ts ≡ refused 14 place
       back r s =
           rw (r .not-emoji, r .not-ascii, r .no-8, r .no-10, r .no-11, r .no-12)
-          (refused-14 t place (joinedText ts) (r .group) (r .no-13) .1 s)
+          (refused-14 t place (joinedText ts) (r .group) (r .no-16) (r .no-13) .1 s)
 
--- 14 exactly when 5 to 13 do not apply, a group is found and the joined normal text is respelled
+-- 14 exactly when 5 to 13 and 16 do not apply, a group is found and the joined normal text is respelled
 module _ (t : Table) (start done place : ℕ) (l : List ℕ) where
   label-14-there : labelVerdict t start done place l ≡ refused 14 place
       → Reaches t start done l × Respelled t (joinedText (normal t (tokensOf (steps t l))))

@@ -10,16 +10,16 @@ use lib.Dec.{eqb}
 use borrow.Author.Tests.{ne-eqb}
 use Rattle.answers.specs.Verdict.{Verdict, accepted, refused, next}
 use Rattle.answers.specs.Restriction.{isRestricted, barred}
-use Rattle.ending.specs.Numbers.{Between, Refuses}
+use Rattle.ending.specs.Numbers.{Refuses}
 use Rattle.table.specs.Table.{Table}
 use Rattle.name.specs.Label.{Label, permitted, labelVerdict, labelBy}
 use Rattle.name.specs.Name.{labelsOf, labelsVerdict, nameVerdict}
 use Rattle.name.specs.Permitted.{by-barred, by-off}
 use Rattle.joining.specs.Labels.{cons-accepts, accepts-cons}
 use Rattle.joining.specs.Joining.{NameAccepts, name-accepts, accepts-name}
-use Rattle.meaning.specs.Numbers.{label-refuses}
+use Rattle.meaning.specs.Numbers.{OfRules, label-refuses}
 
--- "Without" the setting: at 0 a label's verdict is that of 5 to 14.
+-- "Without" the setting: at 0 a label's verdict is that of 5 to 14 and 16.
 pub off : (t : Table) (start done place : ℕ) (l : List ℕ) → labelBy 0 t start done place l ≡ labelVerdict t start done place l
 off = by-off
 
@@ -33,7 +33,7 @@ on-alike on on′ h h′ t start done place l = go (labelVerdict t start done pl
     go (accepted x) = rw (ne-eqb on 0 h, ne-eqb on′ 0 h′)
     go (refused n p) = refl
 
--- 17 exactly where the setting is on, 5 to 14 do not apply and the label's group is restricted
+-- 17 exactly where the setting is on, 5 to 14 and 16 do not apply and the label's group is restricted
 pub record Rare (on : ℕ) (t : Table) (start done place : ℕ) (l : List ℕ) : Type 0 where
   pub label : Label
   pub passes : labelVerdict t start done place l ≡ accepted label
@@ -53,7 +53,7 @@ given-17 on t start done place l = (
     last x true eb ev f = record { label = x; passes = ev; barred-so = eb }
     last x false eb ev f = absurd (let z : _≡_ {A = ℕ} 0 1 = cc in omega arith)
 
-    there : (v : Verdict Label) → labelVerdict t start done place l ≡ v → Refuses (Between 5 14) v
+    there : (v : Verdict Label) → labelVerdict t start done place l ≡ v → Refuses (OfRules t) v
         → next v (permitted on place) ≡ refused 17 place
         → Rare on t start done place l
     there (accepted x) ev h f = last x (barred on (x .kind)) refl ev f

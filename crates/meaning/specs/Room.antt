@@ -15,6 +15,7 @@ use Rattle.answers.specs.Verdict.{Verdict, accepted, refused}
 use Rattle.ending.specs.Ending.{then15}
 use Rattle.ending.specs.Numbers.{next-accepted, never-number}
 use Rattle.table.specs.Table.{Table}
+use Rattle.table.specs.Layout.{theTable}
 use Rattle.tokens.specs.Scan.{steps, firstDisallowed}
 use Rattle.name.specs.Label.{Label, stop, answer, admitted, labelVerdict, labelBy, oneLabel, labelAnswering, labelBefore15, labelResult}
 use Rattle.name.specs.Label.{labelCallVerdict, labelCall}
@@ -36,7 +37,7 @@ one-accepted on t l x e =
     go (some at) place f = absurd (let z : _≡_ {A = ℕ} 0 1 = cc in omega arith)
 
 module _ (on : ℕ) (words input : List ℕ) (room work : ℕ) (enough : mostWorked ≤ room) where
-  -- the answer of a name that passes 1 to 14 fits
+  -- the answer of a name that passes 1 to 14, 16 and 17 fits
   name-fits : (ls : List Label) → nameBefore15 on words input work ≡ accepted ls → length (nameAnswer ls) ≤ mostWorked
   unfolding nameVerdict
   name-fits ls e =
@@ -72,11 +73,11 @@ module _ (on : ℕ) (words input : List ℕ) (room work : ℕ) (enough : mostWor
   pub name-never-15 : nameCall on words input room work .values .number ≡ 15 → ⊥
   unfolding nameCall nameResult
   name-never-15 e =
-      never-number (nameAnswering input) (λ v. v .number) (λ ls. refl) (λ n p. refl) room work Before15 15 (omega arith) (λ n h. h .2)
+      never-number (nameAnswering input) (λ v. v .number) (λ ls. refl) (λ n p. refl) room work (Before15 (theTable words)) 15 (omega arith) (λ n h. h .2)
       (nameBefore15 on words input work) (name-before-refuses on words input work) (rw name-whole at e)
 
   pub label-never-15 : labelCall on words input room work .values .number ≡ 15 → ⊥
   unfolding labelCall labelResult
   label-never-15 e =
-      never-number labelAnswering (λ v. v .number) (λ l. refl) (λ n p. refl) room work Before15 15 (omega arith) (λ n h. h .2)
+      never-number labelAnswering (λ v. v .number) (λ l. refl) (λ n p. refl) room work (Before15 (theTable words)) 15 (omega arith) (λ n h. h .2)
       (labelBefore15 on words input work) (label-before-refuses on words input work) (rw label-whole at e)

@@ -9,7 +9,7 @@ use ending::finish;
 use memo::MEMO;
 use name::admit::Admission;
 use name::admit::admit;
-use name::part::put_label;
+use name::labels::put_label;
 use refiling::Change;
 use refiling::refile;
 use sections::Sections;

@@ -1,4 +1,4 @@
--- One label, refusals 5 to 14 and 17, and the label call. 01, "Refusal numbers" and "The rules of one label". Assumes nothing.
+-- One label, refusals 5 to 14, 16 and 17, and the label call. 01, "Refusal numbers" and "The rules of one label". Assumes nothing.
 use Prim.Native.Nat.{ℕ, _+_}
 use mathlib.Core.Path.{refl}
 use mathlib.Core.Bool.{not, cond}
@@ -34,7 +34,7 @@ pub record Label : Type 0 where
 abbrev pub answer : Label → List ℕ
 answer l = joinedTokens (l .tokens)
 
--- 6 to 14 on the tokens, in order. `done` is the worked length of the labels before this one, with the stops behind them, and
+-- 6 to 14 on the tokens, in order, with 16 beside 13. `done` is the worked length of the labels before this one, with the stops behind them, and
 -- `place` the label's number.
 unfoldable pub judged : Table → ℕ → ℕ → List Token → Verdict Label
 unfolding worked normal judge
@@ -43,7 +43,7 @@ judged t done place ts =
     (cond (ltb mostWorked (done + worked t ts)) (refused 7 place)
     (next (judge t place (normal t ts)) (λ k. accepted (record { tokens = normal t ts; kind = k; worked = worked t ts }))))
 
--- refusals 5 to 14 of the label that starts at `start`: 5 is looked for in the whole label before 6 and 7 are judged
+-- refusals 5 to 14, and 16, of the label that starts at `start`: 5 is looked for in the whole label before 6 and 7 are judged
 unfoldable pub labelVerdict : Table → ℕ → ℕ → ℕ → List ℕ → Verdict Label
 unfolding steps firstDisallowed tokensOf judged
 labelVerdict t start done place l =
@@ -54,14 +54,14 @@ labelVerdict t start done place l =
 abbrev pub permitted : ℕ → ℕ → Label → Verdict Label
 permitted setting place x = cond (barred setting (x .kind)) (refused 17 place) (accepted x)
 
--- refusals 5 to 14 of a label, then 17
+-- refusals 5 to 14 and 16 of a label, then 17
 unfoldable pub labelBy : ℕ → Table → ℕ → ℕ → ℕ → List ℕ → Verdict Label
 unfolding labelVerdict
 labelBy setting t start done place l = next (labelVerdict t start done place l) (permitted setting place)
 
 -- The one label of the label call. "The label call gives 5 for a 2E, which no emoji match covers there": where there is a 2E, the part
 -- before the first one is scanned alone, and 5 is given in it or else at that 2E, before 6 and 7. "Its place for 6 to 14 is 0.", and for
--- 17.
+-- 16 and 17.
 unfoldable pub oneLabel : ℕ → Table → List ℕ → Verdict Label
 unfolding steps firstDisallowed labelBy
 oneLabel setting t l =
@@ -100,7 +100,7 @@ unfoldable pub labelResult : ℕ → ℕ → Verdict Label → LabelResult
 unfolding joinedTokens
 labelResult room work v = resultOf labelAnswering room work v
 
--- 1 to 4, then 5 to 14 and 17 of the one label
+-- 1 to 4, then 5 to 14, 16 and 17 of the one label
 unfoldable pub labelBefore15 : ℕ → List ℕ → List ℕ → ℕ → Verdict Label
 unfolding admitted oneLabel
 labelBefore15 setting words input work = next (admitted words work input) (λ t. oneLabel setting t input)

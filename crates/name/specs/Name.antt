@@ -18,8 +18,8 @@ unfolding split
 labelsOf [] = []
 labelsOf (c ∷ n) = split stop (c ∷ n)
 
--- "then 5 to 14 in order for each label from the left", and 17 "after 14 in each label": the labels from number `place` on, which start at
--- `start`; `done` is the worked length before them, "plus one for each stop between them"
+-- "then 5 to 14 in order for each label from the left", by 02's Item 12 with 16, and 17 "after 14 in each label": the labels from number `place` on,
+-- which start at `start`; `done` is the worked length before them, "plus one for each stop between them"
 unfoldable pub labelsVerdict : ℕ → Table → ℕ → ℕ → ℕ → List (List ℕ) → Verdict (List Label)
 unfolding labelBy
 labelsVerdict setting t start done place [] = accepted []
@@ -59,7 +59,7 @@ unfoldable pub nameResult : List ℕ → ℕ → ℕ → Verdict (List Label) �
 unfolding labelsOf nameAnswer
 nameResult name room work v = resultOf (nameAnswering name) room work v
 
--- 1 to 4, then 5 to 14 and 17 for each label
+-- 1 to 4, then 5 to 14, 16 and 17 for each label
 unfoldable pub nameBefore15 : ℕ → List ℕ → List ℕ → ℕ → Verdict (List Label)
 unfolding admitted labelsOf labelsVerdict
 nameBefore15 setting words name work = next (admitted words work name) (λ t. labelsVerdict setting t 0 0 0 (labelsOf name))

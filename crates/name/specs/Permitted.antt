@@ -1,4 +1,4 @@
--- Laws of refusal 17: what a label gives behind 5 to 14, by the setting and its kind. Assumes nothing.
+-- Laws of refusal 17: what a label gives behind 5 to 14 and 16, by the setting and its kind. Assumes nothing.
 use Prim.Native.Nat.{ℕ}
 use native.Mathlib.Omega.{arith}
 use mathlib.Core.Path.{_≡_, refl, _∙_}
@@ -22,7 +22,7 @@ module _ (g : ℕ) (t : Table) (s d p : ℕ) (l : List ℕ) where
   unfolding labelBy
   by-refused n q e = rw e
 
-  -- what is accepted passes 5 to 14, and is not barred
+  -- what is accepted passes 5 to 14 and 16, and is not barred
   pub accepted-by : (x : Label) → labelBy g t s d p l ≡ accepted x → (labelVerdict t s d p l ≡ accepted x) × (barred g (x .kind) ≡ false)
   unfolding labelBy
   accepted-by x e = go (labelVerdict t s d p l) refl e
@@ -37,7 +37,7 @@ module _ (g : ℕ) (t : Table) (s d p : ℕ) (l : List ℕ) where
       go (accepted y) ev f = let r = last y (barred g (y .kind)) refl f in (ev ∙ r .0, r .1)
       go (refused n q) ev f = absurd (let z : _≡_ {A = ℕ} 0 1 = cc in omega arith)
 
--- with the setting 0 nothing is put behind 5 to 14
+-- with the setting 0 nothing is put behind 5 to 14 and 16
 pub by-off : (t : Table) (s d p : ℕ) (l : List ℕ) → labelBy 0 t s d p l ≡ labelVerdict t s d p l
 unfolding labelBy
 by-off t s d p l = go (labelVerdict t s d p l)

@@ -12,8 +12,8 @@ use Rattle.table.proofs.Lookups.{drop-take, drop-next}
 use Rattle.text.specs.Decomposition.{classOf}
 use Rattle.text.specs.Ordering.{order}
 use Rattle.composition.specs.Work.{ComposedInto}
-use Rattle.ordering.proofs.Sorting.{length-sort, order-sort}
-use Rattle.laying.specs.Laying.{runMarks, PutAt}
+use Rattle.ordering.proofs.SortingLaws.{length-sort, order-sort}
+use Rattle.laying.specs.Laying.{runTags, PutAt}
 use Rattle.normal_cells.specs.Normal.{composedText, MovedDown, Kept, TextKept, EmojiKept}
 use Rattle.laying.proofs.Putting.{Putting, put-start, put-more, put-stop}
 
@@ -33,7 +33,7 @@ module _ (w₀ : List ℕ) (from n at first later : ℕ) (big : leastWork ≤ le
   pub move-start : Putting w₀ at part first later w₀ first 0
   move-start = put-start w₀ at part first later (omega (arith, part-length))
 
-  module _ (w : List ℕ) (mark i : ℕ) (p : Putting w₀ at part first later w mark i) where
+  module _ (w : List ℕ) (tag i : ℕ) (p : Putting w₀ at part first later w tag i) where
     -- the codepoint that moves stands where it stood
     word-here : i < n → getD w (from + i) 0 ≡ getD part i 0
     word-here h =
@@ -44,17 +44,17 @@ module _ (w₀ : List ℕ) (from n at first later : ℕ) (big : leastWork ≤ le
         let old : getD w (from + i) 0 ≡ getD w₀ (from + i) 0 = sym (there w) ∙ ap (λ (l : List ℕ). getD l k 0) (p .words-left) ∙ there w₀ in
         old ∙ sym (getD-take n (drop from w₀) i 0 h ∙ getD-drop from w₀ i 0)
 
-    pub move-more : i < n → Putting w₀ at part first later (set (set w (at + i) (getD w (from + i) 0)) (mostWorked + (at + i)) mark) later (i + 1)
-    move-more h = rw (word-here h) (put-more w₀ at part first later w mark i big (omega (arith, part-length)) p)
+    pub move-more : i < n → Putting w₀ at part first later (set (set w (at + i) (getD w (from + i) 0)) (mostWorked + (at + i)) tag) later (i + 1)
+    move-more h = rw (word-here h) (put-more w₀ at part first later w tag i big (omega (arith, part-length)) p)
 
     pub move-stop : n ≤ i → MovedDown w₀ w from n at first later (at + n)
-    move-stop h = record { put = rw part-length at (put-stop w₀ at part first later w mark i (omega (arith, part-length)) p) }
+    move-stop h = record { put = rw part-length at (put-stop w₀ at part first later w tag i (omega (arith, part-length)) p) }
 
--- What is put down in a work area w₁ that differs from w neither before `at`, nor from `to` on, nor in its marks, is put down in w.
+-- What is put down in a work area w₁ that differs from w neither before `at`, nor from `to` on, nor in its tags, is put down in w.
 module _ (w w₁ w′ : List ℕ) (to at r : ℕ) (s ms : List ℕ) (p : PutAt w₁ w′ at s ms r) (same : length w₁ ≡ length w)
     (before : take at w₁ ≡ take at w) (behind : drop to w₁ ≡ drop to w) (low : r ≤ to) (high : to ≤ mostWorked) where
-  marks-same : drop mostWorked w₁ ≡ drop mostWorked w
-  marks-same = drop-further w₁ w to mostWorked high behind
+  tags-same : drop mostWorked w₁ ≡ drop mostWorked w
+  tags-same = drop-further w₁ w to mostWorked high behind
 
   words-behind : drop to (take mostWorked w₁) ≡ drop to (take mostWorked w)
   words-behind = rw (drop-take to mostWorked w₁, drop-take to mostWorked w, behind)
@@ -68,9 +68,9 @@ module _ (w w₁ w′ : List ℕ) (to at r : ℕ) (s ms : List ℕ) (p : PutAt w
         end = p .end;
         same = p .same ∙ same;
         words = p .words few ∙ ap (λ (l : List ℕ). l ++ s) before;
-        beside = p .beside few ∙ ap (λ (l : List ℕ). take at l ++ ms) marks-same;
+        beside = p .beside few ∙ ap (λ (l : List ℕ). take at l ++ ms) tags-same;
         words-left = drop-further (take mostWorked w′) (take mostWorked w₁) r to low (p .words-left few) ∙ words-behind;
-        marks-left = drop-further (drop mostWorked w′) (drop mostWorked w₁) r to low (p .marks-left few) ∙ ap (drop to) marks-same;
+        tags-left = drop-further (drop mostWorked w′) (drop mostWorked w₁) r to low (p .tags-left few) ∙ ap (drop to) tags-same;
       }
 
 -- an emoji
@@ -130,11 +130,11 @@ module _ (w : List ℕ) (from to at : ℕ) (big : leastWork ≤ length w) (low :
     pub text-kept : (w′ : List ℕ) (end : ℕ) → MovedDown w₁ w′ from r at 1 2 end → TextKept t w w′ from to at end
     text-kept w′ end m =
         let s : List ℕ = composedText t d in
-        let p : PutAt w₁ w′ at s (runMarks 1 2 (length s)) end = rw long (rw front at (m .put)) in
+        let p : PutAt w₁ w′ at s (runTags 1 2 (length s)) end = rw long (rw front at (m .put)) in
         let before : take at w₁ ≡ take at w =
         sym (take-take at from w₁ low) ∙ ap (take at) (take-put from n w text (omega arith)) ∙ take-take at from w low in
         let behind : drop to w₁ ≡ drop to w = drop-put from to w text (omega arith) (omega arith) text-length in
         record {
           few = omega (arith, p .end, long, fewer);
-          put = kept w w₁ w′ to at end s (runMarks 1 2 (length s)) p same-w before behind (omega (arith, p .end, long, fewer)) inside;
+          put = kept w w₁ w′ to at end s (runTags 1 2 (length s)) p same-w before behind (omega (arith, p .end, long, fewer)) inside;
         }

@@ -21,25 +21,25 @@ module _ (w : List ℕ) (from n : ℕ) where
   ending-start h = record { low = omega arith; high = omega arith; so = refl }
 
   module _ (i : ℕ) (big : leastWork ≤ length w) (few : n ≤ mostWorked) (p : Ending w from n i) (h : i < n) where
-    abbrev marks : List ℕ
-    marks = take n (drop mostWorked w)
+    abbrev tags : List ℕ
+    tags = take n (drop mostWorked w)
 
-    here : drop i marks ≡ getD w (mostWorked + i) 0 ∷ drop (i + 1) marks
+    here : drop i tags ≡ getD w (mostWorked + i) 0 ∷ drop (i + 1) tags
     here =
-        let long : i < length marks = simp (length-take, length-drop) (omega arith) in
-        let m : getD marks i 0 ≡ getD w (mostWorked + i) 0 = getD-take n (drop mostWorked w) i 0 h ∙ getD-drop mostWorked w i 0 in
-        rw (add-one i, ← m) (drop-cons marks i 0 long)
+        let long : i < length tags = simp (length-take, length-drop) (omega arith) in
+        let m : getD tags i 0 ≡ getD w (mostWorked + i) 0 = getD-take n (drop mostWorked w) i 0 h ∙ getD-drop mostWorked w i 0 in
+        rw (add-one i, ← m) (drop-cons tags i 0 long)
 
     pub ending-more : getD w (mostWorked + i) 0 ≡ 2 → Ending w from n (i + 1)
     unfolding twos
     ending-more e =
-        let s : twos (drop i marks) ≡ suc (twos (drop (i + 1) marks)) = rw (here, eq-eqb (getD w (mostWorked + i) 0) 2 e) in
+        let s : twos (drop i tags) ≡ suc (twos (drop (i + 1) tags)) = rw (here, eq-eqb (getD w (mostWorked + i) 0) 2 e) in
         record { low = omega (arith, p .low); high = omega arith; so = omega (arith, p .so) }
 
     pub ending-here : (getD w (mostWorked + i) 0 ≡ 2 → ⊥) → i ≡ from + 1 + twos (drop (from + 1) (take n (drop mostWorked w)))
     unfolding twos
     ending-here e =
-        let s : twos (drop i marks) ≡ 0 = rw (here, ne-eqb (getD w (mostWorked + i) 0) 2 e) in
+        let s : twos (drop i tags) ≡ 0 = rw (here, ne-eqb (getD w (mostWorked + i) 0) 2 e) in
         omega (arith, p .so)
 
   pub ending-stop : (i : ℕ) → Ending w from n i → n ≤ i → i ≡ from + 1 + twos (drop (from + 1) (take n (drop mostWorked w)))

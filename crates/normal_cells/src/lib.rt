@@ -11,18 +11,18 @@ ghost use Rattle.table.specs.Layout.{theTable};
 ghost use Rattle.unpaired.specs.Unpaired.{Unpaired};
 ghost use Rattle.normal_cells.specs.Normal.{MovedDown, TextKept, EmojiKept, twos, NormalCells};
 
-// Moves the n codepoints from `from` on down behind the first `at`, with a mark for the first of them and one for each later one.
+// Moves the n codepoints from `from` on down behind the first `at`, with a tag for the first of them and one for each later one.
 fn move_down(w: &mut [u32], from: usize, n: usize, at: usize, first: u32, later: u32) -> usize
     requires { ⌜ (leastWork ≤ length (now w)) × (at ≤ from) × (from + n ≤ mostWorked) ⌝ }
     ensures { λ r. ⌜ MovedDown (now (w .entry)) (now (w .exit)) from n at first later r ⌝ }
 {
-    let mut mark = first;
+    let mut tag = first;
     let mut i: usize = 0;
     while i < n {
         let j = at + i;
         w[j] = w[from + i];
-        w[MOST_WORKED + j] = mark;
-        mark = later;
+        w[MOST_WORKED + j] = tag;
+        tag = later;
         i += 1;
     }
     at + n
@@ -59,7 +59,7 @@ fn keep_emoji(w: &mut [u32], from: usize, at: usize) -> usize
     move_down(w, from, 1, at, 0, 0)
 }
 
-// The end of the text token that starts at `from`: behind its later codepoints, which have the mark 2.
+// The end of the text token that starts at `from`: behind its later codepoints, which have the tag 2.
 fn token_end(w: &[u32], from: usize, n: usize) -> usize
     requires { ⌜ (leastWork ≤ length (now w)) × (from < n) × (n ≤ mostWorked) ⌝ }
     ensures { λ r. ⌜ r ≡ from + 1 + twos (drop (from + 1) (take n (drop mostWorked (now (w .entry))))) ⌝ }

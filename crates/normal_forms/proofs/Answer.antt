@@ -27,7 +27,7 @@ use Rattle.ordering.specs.Sorting.{sortBy}
 use Rattle.decomposition.specs.Rounds.{Appended}
 use Rattle.composition.specs.Work.{Ready, ComposedInto}
 use Rattle.sections.proofs.SectionLaws.{laid-parse}
-use Rattle.ordering.proofs.Sorting.{length-sort, map-sort, order-sort, sort-in-order}
+use Rattle.ordering.proofs.SortingLaws.{length-sort, map-sort, order-sort, sort-in-order}
 use Rattle.normal_forms.specs.declared.FormAnswer.{FormAnswer}
 use Rattle.normal_forms.specs.declared.FormAnswer.the-variants.{Formed, LayoutFault, WorkedTooLong, WorkAreaTooSmall, BufferTooSmall}
 use Rattle.normal_forms.proofs.FormAnswer.{the-type}

@@ -9,7 +9,7 @@ use Rattle.limits.specs.Limits.{mostWorked}
 use Rattle.table.specs.Table.{Table}
 use Rattle.text.specs.Decomposition.{fourRounds}
 use Rattle.decomposition.specs.Rounds.{mostFrom, rounds, Appended, Decomposed}
-use Rattle.decomposition.proofs.Rounds.{Expanding, expand-more, rounds-four, rounds-join}
+use Rattle.decomposition.proofs.RoundLaws.{Expanding, expand-more, rounds-four, rounds-join}
 use Rattle.normal_forms.specs.Promise.{Decomposes}
 
 module _ (t : Table) (text out out′ : List ℕ) (i to : ℕ) (o : Expanding t 4 text out out′ 0 i to) where

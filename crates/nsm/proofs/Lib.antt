@@ -1,7 +1,7 @@
 pub mod Fitting
 pub mod Cells
 pub mod Pouring
-pub mod Reading
+pub mod ReadingLaws
 pub mod Rounding
 pub mod Filing
 pub mod Answer

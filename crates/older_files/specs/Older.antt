@@ -1,5 +1,6 @@
--- Files of versions 1 and 2: the table that 01 or Item 9 alone reads from one, with the sections that it lacks empty, is the table that it unpacks
--- to. 02, Items 9 and 11. Assumes nothing.
+-- Files of versions 1 and 2: the table that the sections of 01, or those of Item 9, give, with the sections that they lack empty, is the table that
+-- the file unpacks to. A group's record is read as Item 12 has it, by every reading here: "layout still looks at the words alone". 02, Items 9, 11 and
+-- 12. Assumes nothing.
 use Prim.Native.Nat.{ℕ, zero, suc, _≤_}
 use native.Mathlib.Omega.{arith}
 use mathlib.Core.Path.{_≡_, refl, sym, ap, _∙_}
@@ -17,16 +18,17 @@ use Rattle.table.specs.Table.{Range, Table}
 use Rattle.table.specs.Layout.{onlyIf, inFront, mostItems, mostParts, mostGroups, sections, ranges, classRanges, headed, sequences, excluded, groups, wholes, tableOf, parse}
 use Rattle.unpack.specs.Unpack.{counted, fileWords}
 
--- A reading of words as n sections, at most `most` words in all. A section that is not there reads as an empty one.
+-- A reading of words as n sections, at most `most` words in all. A section that is not there reads as an empty one. Each section is read as today,
+-- groups with their lists (`groups`): flags 6 and 7, which 01 calls a fault, are read too.
 unfoldable pub reading : ℕ → ℕ → List ℕ → Option Table
 unfolding sections tableOf
 reading n most ws = onlyIf (leb (length ws) most) (andThen (sections n ws) tableOf)
 
--- 01's reading: "twelve sections, in this order", and "the whole at most 131,072 words"
+-- 01's reading, with groups as Item 12 has them: "twelve sections, in this order", and "the whole at most 131,072 words"
 abbrev pub parse01 : List ℕ → Option Table
 parse01 ws = reading 12 131072 ws
 
--- the reading of 02's Item 9: "Layout now asks thirteen and allows 131,073 words"
+-- the reading of 02's Item 9, with groups as Item 12 has them: "Layout now asks thirteen and allows 131,073 words"
 abbrev pub parse09 : List ℕ → Option Table
 parse09 ws = reading 13 131073 ws
 

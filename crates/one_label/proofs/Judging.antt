@@ -27,7 +27,7 @@ use Rattle.scanning.specs.declared.Scanned.{Scanned}
 use Rattle.scanning.specs.declared.Scanned.the-variants as scanned
 use Rattle.label.specs.declared.Judged.{Judged}
 use Rattle.label.specs.declared.Judged.the-variants as verdict
-use Rattle.spelling.specs.CellMarks.{codesIn, tagsIn}
+use Rattle.spelling.specs.CellTags.{codesIn, tagsIn}
 use Rattle.label.specs.Judging.{verdictOf, judgeAt, CellsJudged}
 use Rattle.label.specs.Judge.{judge}
 use Rattle.label.proofs.VerdictLaws.{Parted, anyText, judge-cells}
@@ -189,7 +189,7 @@ module _ (t : Table) (done place : ℕ) (k : Tally) (s : Standing) (w : List ℕ
     pub tokens-long : k .worked ≤ mostWorked → mostWorked < done + k .worked → TokensJudged t done place k s w w (Refused (WorkedTooLong place))
     tokens-long few h = over (λ ts a. omega (arith, a .worked few))
 
-    -- 8 to 14, on the tokens in normal form
+    -- 8 to 14 and 16, on the tokens in normal form
     module _ (h : done + k .worked ≤ mostWorked) (v x : List ℕ) (n : ℕ) (m : Normalised t s (k .worked) w v n) (r : Judged)
         (j : CellsJudged (judgeAt t place (codesIn v n) (tagsIn v n) (k .emoji) (k .text)) v x r) where
       cells : (ts : List Token) → Counted t ts w k s → Cells (normal t ts) v n

@@ -1,4 +1,4 @@
-// One label, refusals 5 to 14.
+// One label, refusals 5 to 14 and 16.
 use answers::Kind;
 use answers::Refusal;
 use bit_sets::has;
@@ -59,7 +59,7 @@ fn normalised(
     }
 }
 
-// 6 to 14 on the tokens that a scan has laid down.
+// 6 to 14 and 16 on the tokens that a scan has laid down.
 fn judge_tokens(
     words: &[u32],
     ix: Sections,

@@ -1,2 +1,2 @@
 pub mod Moving
-pub mod Sorting
+pub mod SortingLaws

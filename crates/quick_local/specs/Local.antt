@@ -26,7 +26,7 @@ isHead t c = mem c (heads t)
 abbrev pub Lifts : List Headed → (ℕ → Bool) → (ℕ → Bool) → Type 0
 Lifts rs from to = (r : Headed) → List·Memᴰ r rs → any from (r .items) ≡ true → to (r .head) ≡ true
 
--- Rule 6: "Four rounds decompose fully". Records over records are marked: `low` holds the heads of the records with a head among their items,
+-- Rule 6: "Four rounds decompose fully". Records over records are noted: `low` holds the heads of the records with a head among their items,
 -- `high` those of the records with an item in `low`, and no record has an item in `high`. Both may hold more. So heads stand at most three deep,
 -- and a syllable is the fourth round.
 pub record Levels (rs : List Headed) (head : ℕ → Bool) : Type 0 where

@@ -4,7 +4,7 @@ use answers::number_of;
 use book_slots::FORM;
 use name::admit::Place;
 use name::admit::first_not_scalar;
-use name::part::label_end;
+use name::labels::label_end;
 use one_label::Judgement;
 use one_label::judge_label;
 use sections::Sections;

@@ -1,4 +1,4 @@
--- The call. 02, Item 9: "Refusals are 1 to 14, then 32 for too little room; it answers the length"; Item 13 puts 17 after 14. Assumes nothing.
+-- The call. 02, Item 9: "Refusals are 1 to 14, then 32 for too little room; it answers the length"; Item 12 puts 16 in the place of 13, Item 13 puts 17 after 14. Assumes nothing.
 use Prim.Native.Nat.{ℕ}
 use mathlib.Core.Bool.{cond}
 use mathlib.Core.List.{List}
@@ -28,7 +28,7 @@ beside n p = record { number = n; place = p; length = 0 }
 abbrev pub fitting : ℕ → List ℕ → Verdict (List ℕ)
 fitting room s = cond (ltb room (length s)) (refused 32 0) (accepted s)
 
--- The refusals of the name call but for its 15, in its order: 1 to 4, then 5 to 14 and 17 for each label; then 32, which therefore stops no
+-- The refusals of the name call but for its 15, in its order: 1 to 4, then 5 to 14, 16 and 17 for each label; then 32, which therefore stops no
 -- judging.
 unfoldable pub reportVerdict : ℕ → List ℕ → List ℕ → ℕ → ℕ → Verdict (List ℕ)
 unfolding nameBefore15 report theTable

@@ -1,7 +1,7 @@
 // The lines of an accepted name, label by label and token by token.
 use byte_sink::Sink;
 use layout::layout;
-use name::part::label_end;
+use name::labels::label_end;
 use report_lines::put_line;
 use sections::Layout;
 use sections::Sections;

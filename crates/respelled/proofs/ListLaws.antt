@@ -177,7 +177,7 @@ module _ (t : Table) (l : List ℕ) (p : Passes t l) (w w₁ : List ℕ) (r : Sc
           record {
             same = a .same ∙ m .same ∙ s .same;
             few = omega (arith, a .few, cells .few);
-            text = a .put ∙ rw (cells .words, cells .marks) (text-tokens (normal t (tokensOf (steps t l))));
+            text = a .put ∙ rw (cells .words, cells .tags) (text-tokens (normal t (tokensOf (steps t l))));
           }
 
 -- the list of a label that passes

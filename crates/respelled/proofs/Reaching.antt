@@ -19,6 +19,7 @@ use Rattle.tokens.specs.Tokens.{Token, tokensOf, worked, normal, joinedTokens, 
 use Rattle.spelling.specs.Spelling.{lowLine, hyphens, fenced, leadingMark}
 use Rattle.groups.specs.Groups.{Numbered, groupOf}
 use Rattle.nsm.specs.Marks.{nsmFits}
+use Rattle.compounds.specs.Compounds.{compoundsFit}
 use Rattle.confusable.specs.Confusable.{isConfused, respells, confusable}
 use Rattle.label.specs.Judge.{unless, onlyEmoji, onlyAscii, judgeAscii, judgeInGroup, judgeText, judgeMixed, judge}
 use Rattle.name.specs.Label.{Label, stop, judged, labelVerdict, labelBy, oneLabel}
@@ -103,7 +104,7 @@ module _ (t : Table) (place : ℕ) (ts : List Token) where
   in-group : (s : List ℕ) (g : Numbered) → past (judgeInGroup t place s g) ≡ true
       → ((q : ℕ) → judgeInGroup t place s g ≡ refused 14 q → confusable t s ≡ true) × ((k : Kind) → judgeInGroup t place s g ≡ accepted k → confusable t s ≡ false)
   unfolding judgeInGroup
-  in-group s g h = last (not (g .group .whitelisted) && not (nsmFits t s)) h
+  in-group s g h = first (not (compoundsFit t (g .group .sequences) s)) h
     where
       kind : Verdict Kind
       kind = accepted (Group (record { number = g .number; restricted = g .group .restricted }))
@@ -117,6 +118,12 @@ module _ (t : Table) (place : ℕ) (ts : List Token) where
           × ((k : Kind) → unless b 13 place (unless (confusable t s) 14 place kind) ≡ accepted k → confusable t s ≡ false)
       last true f = absurd (false≢true f)
       last false f = inner (confusable t s)
+
+      first : (a : Bool) → past (unless a 16 place (unless (not (g .group .whitelisted) && not (nsmFits t s)) 13 place (unless (confusable t s) 14 place kind))) ≡ true
+          → ((q : ℕ) → unless a 16 place (unless (not (g .group .whitelisted) && not (nsmFits t s)) 13 place (unless (confusable t s) 14 place kind)) ≡ refused 14 q → confusable t s ≡ true)
+          × ((k : Kind) → unless a 16 place (unless (not (g .group .whitelisted) && not (nsmFits t s)) 13 place (unless (confusable t s) 14 place kind)) ≡ accepted k → confusable t s ≡ false)
+      first true f = absurd (false≢true f)
+      first false f = last (not (g .group .whitelisted) && not (nsmFits t s)) f
 
   -- the text alone
   in-text : (s : List ℕ) → past (judgeText t place s) ≡ true

@@ -10,7 +10,7 @@ use lookalike::respellings;
 use memo::MEMO;
 use name::admit::Admission;
 use name::admit::admit;
-use name::part::put_label;
+use name::labels::put_label;
 use normal_cells::normalise;
 use scanning::Scanned;
 use scanning::scan;
@@ -113,7 +113,7 @@ fn list_refused(
     list_text(words, ix, &w[MOST_WORKED..end], list)
 }
 
-// The label call's refusals from 5 to 13, then the groups: none where it accepts.
+// The label call's refusals from 5 to 13 and 16, then the groups: none where it accepts.
 fn list_label(
     words: &[u32],
     ix: Sections,
@@ -139,7 +139,7 @@ fn list_label(
     }
 }
 
-// The call as far as 13: the groups are listed as far as they fit.
+// The call before 33: the groups are listed as far as they fit.
 fn respelled_judged(
     input: &[u32],
     words: &[u32],

@@ -4,7 +4,7 @@ use native.Mathlib.Omega.{arith}
 use mathlib.Core.Path.{_≡_, refl, sym, _∙_, ap}
 use mathlib.Core.Bool.{Bool, true, false, not, _&&_, _||_}
 use mathlib.Core.List.{List, [], _∷_, _++_}
-use mathlib.Core.Option.{Option, none, some}
+use mathlib.Core.Option.{Option, none, some, Option·getD}
 use lib.ListN.{length, getD, take, drop}
 use lib.Bits.{bitOr}
 use lib.Dec.{leb, ltb}
@@ -14,7 +14,7 @@ use Rattle.lists.specs.Laws.{both, both-left, both-right}
 use Rattle.lists.specs.Tests.{agree, not-so, never, untrue, mem-both, all-both, all-members, member-passes}
 use Rattle.sections.specs.declared.Sections.{Sections}
 use Rattle.table.specs.Table.{Range, ClassRange, Group, Table}
-use Rattle.table.specs.Layout.{mostFlags, inFront, ranges, group, groups, theTable}
+use Rattle.table.specs.Layout.{inFront, ranges, hasList, flagsFit, group, GroupEnd, groupEnd, groups, theTable}
 use Rattle.table.specs.Lookup.{inRanges}
 use Rattle.sections.specs.Laid.{Laid}
 use Rattle.table.specs.Spans.{within}
@@ -23,10 +23,11 @@ use Rattle.sections.proofs.SectionLaws.{laid-reads}
 use Rattle.table.proofs.Lookups.{onlyIf-some, inFront-some, andThen-some, pairs-ranges}
 use Rattle.text.specs.Decomposition.{fourRounds}
 use Rattle.finder.specs.Emoji.{selector}
-use Rattle.soundness.specs.Scalars.{scalarsBetween, scalarRanges, rule1}
+use Rattle.scalar.specs.Scalar.{isScalar}
+use Rattle.soundness.specs.Scalars.{scalarsBetween, scalarRanges, scalarGroup, rule1}
 use Rattle.soundness.specs.Valid.{countedFrom, listed, groupCharacters, spellable, rule2}
 use Rattle.table.specs.Part.{recordsIn}
-use Rattle.sound_parts.specs.Parts.{isValid, rangesScalar, recordsScalar, othersScalar, scalarGroup, scalarWhole}
+use Rattle.sound_parts.specs.Parts.{isValid, rangesScalar, recordsScalar, othersScalar, scalarWhole}
 use Rattle.sound_parts.proofs.ScalarLaws.{rule1-first}
 use Rattle.sound_parts.proofs.SectionsHold.{groups-are}
 use Rattle.bit_sets.specs.Sets.{has}
@@ -70,16 +71,18 @@ mem-groups c zero (w ∷ ws) gs h = absurd (let z : _≡_ {A = ℕ} 0 1 = cc in 
 mem-groups c (suc k) [] gs h = let e : gs ≡ [] = cc in rw e
 mem-groups c (suc k) (f ∷ []) gs h = absurd (let z : _≡_ {A = ℕ} 0 1 = cc in omega arith)
 mem-groups c (suc k) (f ∷ n ∷ ws) gs h =
-    let then : List Range → Option (List Group) = λ rs. inFront (group f rs) (groups k (drop n ws)) in
-    let p = onlyIf-some (leb f mostFlags && leb n (length ws)) (andThen (ranges (take n ws)) then) gs h in
+    let last : List Range → GroupEnd → Option (List Group) = λ rs e. inFront (group f rs (e .sequences)) (groups k (e .rest)) in
+    let then : List Range → Option (List Group) = λ rs. andThen (groupEnd (hasList f) (drop n ws)) (last rs) in
+    let p = onlyIf-some (flagsFit f && leb n (length ws)) (andThen (ranges (take n ws)) then) gs h in
     let q = andThen-some (ranges (take n ws)) then gs (p .1) in
-    let r = inFront-some (group f (q .0)) (groups k (drop n ws)) gs (q .2) in
+    let u = andThen-some (groupEnd (hasList f) (drop n ws)) (last (q .0)) gs (q .2) in
+    let r = inFront-some (group f (q .0) (u .0 .sequences)) (groups k (u .0 .rest)) gs (u .2) in
     rw (
       r .2,
       mem-both c (listed (q .0)) (joinedMap (λ (g : Group). listed (g .ranges)) (r .0)),
       mem-listed c (take n ws) (q .0)
           (q .1),
-      mem-groups c k (drop n ws) (r .0) (r .1),
+      mem-groups c k (u .0 .rest) (r .0) (r .1),
     )
 
 -- the members of the lists of rule 2, on a table that was read from words
@@ -192,11 +195,12 @@ ranges-end (r ∷ rs) d e h =
     go true = refl
     go false = refl
 
-groups-over : (gs : List Group) (d : ℕ) → all (λ (g : Group). scalarRanges (g .ranges)) gs ≡ true → 0x110000 ≤ d → inGroups d gs ≡ false
+groups-over : (gs : List Group) (d : ℕ) → all scalarGroup gs ≡ true → 0x110000 ≤ d → inGroups d gs ≡ false
 groups-over [] d e h = refl
 groups-over (g ∷ gs) d e h =
-    rw (ranges-end (g .ranges) d (both-left (scalarRanges (g .ranges)) (all (λ (g : Group). scalarRanges (g .ranges)) gs) e) h)
-    (groups-over gs d (both-right (scalarRanges (g .ranges)) (all (λ (g : Group). scalarRanges (g .ranges)) gs) e) h)
+    let one : scalarGroup g ≡ true = both-left (scalarGroup g) (all scalarGroup gs) e in
+    let pairs : scalarRanges (g .ranges) ≡ true = both-left (scalarRanges (g .ranges)) (all (all isScalar) (Option·getD (g .sequences) [])) one in
+    rw (ranges-end (g .ranges) d pairs h) (groups-over gs d (both-right (scalarGroup g) (all scalarGroup gs) e) h)
 
 -- so it is covered
 module _ (t : Table) (e : rule1 t ≡ true) where

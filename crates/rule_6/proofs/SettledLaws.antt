@@ -12,7 +12,7 @@ use Rattle.lists.specs.Tests.{agree, all-both, all-members, member-passes}
 use Rattle.table.specs.Table.{Table}
 use Rattle.text.specs.Hangul.{isSyllable}
 use Rattle.text.specs.Decomposition.{single, fourRounds}
-use Rattle.decomposition.proofs.Rounds.{rounds-join, rounds-four}
+use Rattle.decomposition.proofs.RoundLaws.{rounds-join, rounds-four}
 use Rattle.soundness.specs.Pairs.{decomposesFully, heads}
 use Rattle.bit_sets.specs.Sets.{has, windowWords}
 use Rattle.sound_choices.specs.Rounds.{headsOf, after, startOf, Holding}

@@ -3,15 +3,16 @@ use scalar::is_scalar;
 use sections::Sections;
 use table::Span;
 use table::lookup::counted;
+use table::lookup::group_at;
 ghost use mathlib.Core.Path.{_≡_};
 ghost use Rattle.lists.specs.Lists.{all};
 ghost use Rattle.table.specs.Layout.{sequences, groups, wholes, theTable};
 ghost use Rattle.sections.specs.Laid.{Laid};
 ghost use Rattle.table.specs.Spans.{Fits, within};
 ghost use Rattle.scalar.specs.Scalar.{isScalar};
-ghost use Rattle.soundness.specs.Scalars.{scalarsBetween, scalarHeaded, rule1};
+ghost use Rattle.soundness.specs.Scalars.{scalarsBetween, scalarHeaded, scalarGroup, rule1};
 ghost use Rattle.table.specs.Part.{recordsIn};
-ghost use Rattle.sound_parts.specs.Parts.{allPairs, allTriples, Holds, asHeaded, scalarTriple, scalarGroup, scalarWhole, rangesScalar, recordsScalar, othersScalar, behindCount, ExcludedFits};
+ghost use Rattle.sound_parts.specs.Parts.{allPairs, allTriples, Holds, asHeaded, scalarTriple, scalarWhole, rangesScalar, recordsScalar, othersScalar, behindCount, ExcludedFits};
 
 // Whether every codepoint from first to last is a scalar value.
 fn scalars_between(first: u32, last: u32) -> bool
@@ -122,18 +123,21 @@ fn scalar_sequences(part: &[u32]) -> bool
     true
 }
 
-// Whether the pairs of groups are of scalar values.
+// Whether the pairs of groups and the items of their lists are scalar values.
 fn scalar_groups(part: &[u32]) -> bool
     requires { ⌜ Holds groups (now part) ⌝ }
     ensures { λ r. ⌜ r ≡ all scalarGroup (recordsIn groups (now (part .entry))) ⌝ }
 {
     let mut i: usize = 0;
     while i < part.len() {
-        let pairs = counted(part, i + 1);
-        if !scalar_pairs_of(part, pairs) {
+        let group = group_at(part, i);
+        if !scalar_pairs_of(part, group.pairs) {
             return false;
         }
-        i = pairs.to;
+        if !scalar_sequences_of(part, group.list) {
+            return false;
+        }
+        i = group.next;
     }
     true
 }
@@ -190,7 +194,7 @@ fn scalar_headed_of(words: &[u32], s: Span) -> bool
     scalar_heads(&words[from..to])
 }
 
-fn scalar_emoji(words: &[u32], s: Span) -> bool
+fn scalar_sequences_of(words: &[u32], s: Span) -> bool
     requires { ⌜ Fits (now words) s ⌝ }
     requires { ⌜ Holds sequences (within s (now words)) ⌝ }
     ensures { λ r. ⌜ r ≡ all (all isScalar) (recordsIn sequences (within s (now (words .entry)))) ⌝ }
@@ -223,7 +227,7 @@ fn scalar_records(words: &[u32], ix: Sections) -> bool
     if !scalar_headed_of(words, ix.decompositions) {
         return false;
     }
-    if !scalar_emoji(words, ix.emoji) {
+    if !scalar_sequences_of(words, ix.emoji) {
         return false;
     }
     scalar_excluded(words, ix.exclusions)

@@ -1,4 +1,4 @@
--- What the tokens of a label's steps are made of: the steps' codepoints and marks, one after another. Assumes nothing.
+-- What the tokens of a label's steps are made of: the steps' codepoints and tags, one after another. Assumes nothing.
 use Prim.Native.Nat.{ℕ, _≤_}
 use mathlib.Core.Path.{_≡_, refl, sym, _∙_, ap}
 use mathlib.Core.Bool.{Bool, not, _||_}
@@ -12,9 +12,9 @@ use Rattle.tokens.specs.Scan as scan
 use Rattle.tokens.specs.Scan.{Step}
 use Rattle.tokens.specs.Tokens.{Token, emoji, text, isEmoji, before, tokensOf, worked, workedToken, joinedTokens}
 use Rattle.limits.specs.Limits.{mostWorked}
-use Rattle.tokens.specs.Cells.{marksOf, decomposed, decomposedToken, Cells}
-use Rattle.laying.specs.Laying.{runMarks, nextMark, Put, Joins, stepText, stepMarks, stepMark, laid, marksFrom, stepEmoji, stepTexts, Laying}
-use Rattle.laying.proofs.Laying.{four-joins, marks-join}
+use Rattle.tokens.specs.Cells.{tagsOf, decomposed, decomposedToken, Cells}
+use Rattle.laying.specs.Laying.{runTags, nextTag, Put, Joins, stepText, stepTags, stepTag, laid, tagsFrom, stepEmoji, stepTexts, Laying}
+use Rattle.laying.proofs.LayingLaws.{four-joins, tags-join}
 
 -- the tokens, with what is put for each text
 abbrev tokenBy : Put → Token → Token
@@ -30,19 +30,19 @@ decomposed-by t [] = refl
 decomposed-by t (emoji s ∷ ts) = ap (λ (r : List Token). emoji s ∷ r) (decomposed-by t ts)
 decomposed-by t (text s ∷ ts) = ap (λ (r : List Token). text (fourRounds t s) ∷ r) (decomposed-by t ts)
 
--- the marks of tokens, where m is the mark of the first codepoint if it is text
-marksWith : ℕ → List Token → List ℕ
-unfolding marksOf
-marksWith m [] = []
-marksWith m (emoji s ∷ ts) = replicate (length s) 0 ++ marksOf ts
-marksWith m (text s ∷ ts) = runMarks m 2 (length s) ++ marksOf ts
+-- the tags of tokens, where m is the tag of the first codepoint if it is text
+tagsWith : ℕ → List Token → List ℕ
+unfolding tagsOf
+tagsWith m [] = []
+tagsWith m (emoji s ∷ ts) = replicate (length s) 0 ++ tagsOf ts
+tagsWith m (text s ∷ ts) = runTags m 2 (length s) ++ tagsOf ts
 
-marks-with : (ts : List Token) → marksWith 1 ts ≡ marksOf ts
-unfolding marksWith marksOf
-marks-with [] = refl
-marks-with (emoji s ∷ ts) = refl
-marks-with (text [] ∷ ts) = refl
-marks-with (text (c ∷ s) ∷ ts) = refl
+tags-with : (ts : List Token) → tagsWith 1 ts ≡ tagsOf ts
+unfolding tagsWith tagsOf
+tags-with [] = refl
+tags-with (emoji s ∷ ts) = refl
+tags-with (text [] ∷ ts) = refl
+tags-with (text (c ∷ s) ∷ ts) = refl
 
 module _ (put : Put) (joins : Joins put) where
   -- text in front of the tokens
@@ -61,30 +61,30 @@ module _ (put : Put) (joins : Joins put) where
   tokens-joined (scan.ignored ∷ ss) = tokens-joined ss
   tokens-joined (scan.disallowed ∷ ss) = tokens-joined ss
 
-  before-marks : (m : ℕ) (s : List ℕ) (ts : List Token)
-      → marksWith m (tokensBy put (before s ts)) ≡ runMarks m 2 (length (put s)) ++ marksWith (nextMark m (length (put s))) (tokensBy put ts)
-  unfolding marksWith
-  before-marks m [] ts = rw (joins .none)
-  before-marks m (c ∷ s) [] = refl
-  before-marks m (c ∷ s) (text r ∷ ts) =
+  before-tags : (m : ℕ) (s : List ℕ) (ts : List Token)
+      → tagsWith m (tokensBy put (before s ts)) ≡ runTags m 2 (length (put s)) ++ tagsWith (nextTag m (length (put s))) (tokensBy put ts)
+  unfolding tagsWith
+  before-tags m [] ts = rw (joins .none)
+  before-tags m (c ∷ s) [] = refl
+  before-tags m (c ∷ s) (text r ∷ ts) =
       let a : List ℕ = put (c ∷ s) in
       let b : List ℕ = put r in
-      rw (joins .join (c ∷ s) r, length-append a b, marks-join m (length a) (length b))
-      (append-assoc (runMarks m 2 (length a)) (runMarks (nextMark m (length a)) 2 (length b)) (marksOf (tokensBy put ts)))
-  before-marks m (c ∷ s) (emoji e ∷ ts) = refl
+      rw (joins .join (c ∷ s) r, length-append a b, tags-join m (length a) (length b))
+      (append-assoc (runTags m 2 (length a)) (runTags (nextTag m (length a)) 2 (length b)) (tagsOf (tokensBy put ts)))
+  before-tags m (c ∷ s) (emoji e ∷ ts) = refl
 
-  tokens-with : (m : ℕ) (ss : List Step) → marksWith m (tokensBy put (tokensOf ss)) ≡ marksFrom put m ss
-  unfolding marksWith marksFrom stepMarks stepMark tokensOf
+  tokens-with : (m : ℕ) (ss : List Step) → tagsWith m (tokensBy put (tokensOf ss)) ≡ tagsFrom put m ss
+  unfolding tagsWith tagsFrom stepTags stepTag tokensOf
   tokens-with m [] = refl
   tokens-with m (scan.emoji f ∷ ss) =
-      ap (λ (r : List ℕ). replicate (length (f .stripped)) 0 ++ r) (sym (marks-with (tokensBy put (tokensOf ss))) ∙ tokens-with 1 ss)
+      ap (λ (r : List ℕ). replicate (length (f .stripped)) 0 ++ r) (sym (tags-with (tokensBy put (tokensOf ss))) ∙ tokens-with 1 ss)
   tokens-with m (scan.text s ∷ ss) =
-      before-marks m s (tokensOf ss) ∙ ap (λ (r : List ℕ). runMarks m 2 (length (put s)) ++ r) (tokens-with (nextMark m (length (put s))) ss)
+      before-tags m s (tokensOf ss) ∙ ap (λ (r : List ℕ). runTags m 2 (length (put s)) ++ r) (tokens-with (nextTag m (length (put s))) ss)
   tokens-with m (scan.ignored ∷ ss) = tokens-with m ss
   tokens-with m (scan.disallowed ∷ ss) = tokens-with m ss
 
-  tokens-marks : (ss : List Step) → marksOf (tokensBy put (tokensOf ss)) ≡ marksFrom put 1 ss
-  tokens-marks ss = sym (marks-with (tokensBy put (tokensOf ss))) ∙ tokens-with 1 ss
+  tokens-tags : (ss : List Step) → tagsOf (tokensBy put (tokensOf ss)) ≡ tagsFrom put 1 ss
+  tokens-tags ss = sym (tags-with (tokensBy put (tokensOf ss))) ∙ tokens-with 1 ss
 
   -- where all steps are laid down, the tokens stand in the work area, with what is put for each text
   pub laying-cells : (ss : List Step) (run : Run) (w : List ℕ) → Laying put ss run w → run .worked ≤ mostWorked
@@ -94,7 +94,7 @@ module _ (put : Put) (joins : Joins put) where
         count = l .worked h ∙ ap length (sym (tokens-joined ss));
         few = h;
         words = l .words h ∙ sym (tokens-joined ss);
-        marks = l .marks h ∙ sym (tokens-marks ss);
+        tags = l .tags h ∙ sym (tokens-tags ss);
       }
 
 -- the worked length is the number of codepoints of the decomposed tokens

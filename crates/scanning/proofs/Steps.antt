@@ -27,7 +27,7 @@ use Rattle.tokens.specs.Single.{ItemsThere, SingleFound}
 use Rattle.tokens.specs.Tokens.{tokensOf, worked}
 use Rattle.laying.specs.Laying.{laid, Laying, EmojiPut, TextPut, ItemsPut}
 use Rattle.scanning.specs.Scanning.{firstStep, Went, StepPut, Scans}
-use Rattle.laying.proofs.Laying.{four-joins, laying-start, laying-empty, laying-ignored}
+use Rattle.laying.proofs.LayingLaws.{four-joins, laying-start, laying-empty, laying-ignored}
 use Rattle.scanning.proofs.Grouping.{tokens-worked, decomposed-by, tokens-emoji, tokens-text, laying-cells}
 use Rattle.scanning.proofs.Walking.{first-found, first-alone, rest-is, stepHere, Walked, walked-start, walked-left, walked-taken, walked-more, walked-disallowed, walked-stop}
 
@@ -126,7 +126,7 @@ pub record Scanning (t : Table) (l w₀ w : List ℕ) (run : Run) (at : ℕ) : T
   pub lays : Laying (fourRounds t) done run w
 
 module _ (t : Table) (l w₀ : List ℕ) where
-  pub scan-start : Scanning t l w₀ w₀ (record { worked = 0; emoji = false; text = false; mark = 1 }) 0
+  pub scan-start : Scanning t l w₀ w₀ (record { worked = 0; emoji = false; text = false; tag = 1 }) 0
   scan-start = record { done = []; walked = walked-start t l; same = refl; lays = laying-start (fourRounds t) w₀ }
 
   module _ (w : List ℕ) (run : Run) (at : ℕ) (p : Scanning t l w₀ w run at) (h : at < length l) where

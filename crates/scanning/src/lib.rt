@@ -105,7 +105,7 @@ pub fn scan(words: &[u32], ix: Sections, label: &[u32], w: &mut [u32]) -> Scanne
         worked: 0,
         emoji: false,
         text: false,
-        mark: 1,
+        tag: 1,
     };
     let mut at: usize = 0;
     while at < label.len() {

@@ -35,7 +35,7 @@ use Rattle.name.proofs.Parting.{label-length, parts-next, parts-all, parts-empt
 use Rattle.joining.specs.Places.{label-accepts}
 use Rattle.forms.specs.Forms.{Typed, sourcesOf, typed, isGreek, screenToken, screenForm, labelForm, nameForm}
 use Rattle.screen_label.specs.Showing.{screenLabel, ShowsLabel}
-use Rattle.screen_label.proofs.Showing.{put-then}
+use Rattle.screen_label.proofs.ShowingLaws.{put-then}
 use Rattle.screen.specs.Screen.{labelsTyped, ScreenJudged}
 
 -- the label x that was typed as l

@@ -2,7 +2,7 @@
 // forms/specs/Forms.antt states what is written, specs/Showing.antt what each function answers.
 use answers::Kind;
 use emoji_record::sequence;
-use name::part::put_label;
+use name::labels::put_label;
 use sections::Sections;
 use token_walk::Walked;
 use token_walk::next_token;

@@ -116,7 +116,7 @@ same-call : (on : ℕ) (words a b : List ℕ) (room work : ℕ) (ls : List Label
 unfolding nameCall nameResult
 same-call on words a b room work ls p q n = rw (p, q, n)
 
--- a name that passes 1 to 14 and 17 is accepted where there is room
+-- a name that passes 1 to 14, 16 and 17 is accepted where there is room
 pub fits-exactly : (on : ℕ) (words name : List ℕ) (work : ℕ) (ls : List Label) → nameBefore15 on words name work ≡ accepted ls
     → nameVerdict on words name (length (nameAnswer ls)) work ≡ accepted ls
 unfolding nameVerdict

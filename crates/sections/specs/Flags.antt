@@ -6,7 +6,7 @@
 --   emoji: `find`, the longest match, of equal ones the first (finder, find);
 --   exclusions: `mem` (is_excluded);
 --   classes: `tableClass`, the first entry (class_entry);
---   groups: `holds` of each group in turn (groups, group_of; group_flags, mark_holders and keep_outside);
+--   groups: `holds` of each group in turn (groups, group_of; group_flags, flag_holders and keep_outside);
 --   wholes: `wholeOf`, the first whole (whole_of);
 --   escape, quick check: `shouldEscape`, `inQuickCheck` (should_escape, in_quick_check).
 -- So it is left to show that the flags are free: what is laid out with some of them up is laid out with all of them down and no mark set, and

@@ -13,7 +13,9 @@ use Rattle.table.specs.declared.Span.{Span}
 use Rattle.table.specs.Table.{Headed, Group}
 use Rattle.table.specs.Layout.{mostItems, ranges, groups, group}
 use Rattle.table.specs.Spans.{within, Fits}
-use Rattle.table.specs.Part.{RecordsAt, HeadedHere, GroupHere, countedAt, inPairs}
+use Rattle.table.specs.declared.GroupRecord.{GroupRecord}
+use Rattle.table.specs.GroupPart.{groupAt}
+use Rattle.table.specs.Part.{RecordsAt, HeadedHere, countedAt, inPairs}
 use Rattle.table.proofs.Lookups.{pairs-ranges}
 use Rattle.table.proofs.Records.{headed-step, headed-end, groups-end}
 use Rattle.table.specs.Part.{recordsIn}
@@ -145,16 +147,16 @@ module _ (gs : List ℕ) (base : ℕ) (old : List ℕ) where
       }
 
   module _ (cur : List ℕ) (at : ℕ) (w : GroupsPut gs base old cur at) where
-    pub groups-put-on : (h : at < length gs) (s : Span) → s ≡ countedAt gs (at + 1) → (new : List ℕ)
-        → Put cur new (λ d. inPairs (base + d) (within s gs))
-        → GroupsPut gs base old new (s .to)
-    groups-put-on h s e new p =
+    pub groups-put-on : (h : at < length gs) (v : GroupRecord) → v ≡ groupAt gs at → (new : List ℕ)
+        → Put cur new (λ d. inPairs (base + d) (within (v .pairs) gs))
+        → GroupsPut gs base old new (v .next)
+    groups-put-on h v e new p =
         let x = group-here _ gs at (w .walk) h in
         record {
-          walk = record { left = x .rest; walk = group-behind _ gs at (w .walk) h s e; same = refl };
-          put = putting-on _ old _ cur (w .put) (λ d. inPairs (base + d) (within s gs)) (λ d. inGroups (base + d) (x .rest)) new
-              (λ d k. ap (inGroups (base + d)) (x .split) ∙ rw (pairs-ranges (base + d) (within s gs) (x .pairs)
-              (group-is _ gs at (w .walk) h s e))) p;
+          walk = record { left = x .rest; walk = group-behind _ gs at (w .walk) h v e; same = refl };
+          put = putting-on _ old _ cur (w .put) (λ d. inPairs (base + d) (within (v .pairs) gs)) (λ d. inGroups (base + d) (x .rest)) new
+              (λ d k. ap (inGroups (base + d)) (x .split) ∙ rw (pairs-ranges (base + d) (within (v .pairs) gs) (x .pairs)
+              (group-is _ gs at (w .walk) h v e))) p;
         }
 
     pub groups-put-done : length gs ≤ at → Put old cur (λ d. inGroups (base + d) (recordsIn groups gs))

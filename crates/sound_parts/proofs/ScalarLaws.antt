@@ -5,8 +5,8 @@ use Rattle.lists.specs.Lists.{all}
 use Rattle.lists.specs.Laws.{both-left}
 use Rattle.table.specs.Table.{ClassRange, Table}
 use Rattle.scalar.specs.Scalar.{isScalar}
-use Rattle.soundness.specs.Scalars.{scalarsBetween, scalarRanges, scalarHeaded, rule1}
-use Rattle.sound_parts.specs.Parts.{rangesScalar, recordsScalar, othersScalar, scalarGroup, scalarWhole}
+use Rattle.soundness.specs.Scalars.{scalarsBetween, scalarRanges, scalarHeaded, scalarGroup, rule1}
+use Rattle.sound_parts.specs.Parts.{rangesScalar, recordsScalar, othersScalar, scalarWhole}
 
 regroup : (r m d e x c g w : Bool) → r && m && d && e && x && c && g && w ≡ r && (m && d && e && x) && (c && g && w)
 regroup false m d e x c g w = refl

@@ -4,18 +4,20 @@ use native.Mathlib.Omega.{arith}
 use mathlib.Core.Path.{_≡_, refl, sym, _∙_, ap}
 use mathlib.Core.Bool.{Bool, true, false, _&&_}
 use mathlib.Core.List.{List, [], _∷_}
-use mathlib.Core.Option.{Option, none, some}
+use mathlib.Core.Option.{Option, none, some, Option·getD}
 use lib.ListN.{length, getD, take, drop, length-drop, drop-of-length-le}
 use lib.Seq.{take-all}
 use lib.Dec.{leb}
 use Rattle.lists.specs.Lists.{all, any, isSome}
 use Rattle.table.specs.declared.Span.{Span}
+use Rattle.table.specs.declared.GroupRecord.{GroupRecord}
 use Rattle.table.specs.Table.{Range, ClassRange, Headed, Group, Whole}
-use Rattle.table.specs.Layout.{inFront, countFits, headed, ranges, classRanges, sequences, group, groups, wholes, mostClass, mostItems}
+use Rattle.table.specs.Layout.{onlyIf, inFront, countFits, headed, ranges, classRanges, sequences, hasList, group, groups, wholes, mostClass, mostItems}
 use Rattle.table.specs.Spans.{within, Fits}
-use Rattle.table.specs.Part.{RecordsAt, HeadedAt, SequencesAt, GroupsAt, WholesAt, HeadedHere, SequenceHere, GroupHere, WholeHere, countedAt, confusedAt, recordsIn}
+use Rattle.table.specs.Part.{RecordsAt, HeadedAt, SequencesAt, GroupsAt, WholesAt, HeadedHere, SequenceHere, WholeHere, countedAt, confusedAt, recordsIn}
+use Rattle.table.specs.GroupPart.{listAt, groupAt, ListHere, GroupHere}
 use Rattle.table.proofs.Lookups.{onlyIf-some, inFront-some, drop-next, drop-two, drop-three, Walk, walk-on}
-use Rattle.table.proofs.Records.{records-start, headed-step, headed-end, sequences-step, sequences-end, groups-step, groups-end, wholes-step, wholes-end, within-count, sequence-fits, sequence-items, group-fits, group-reads, group-next}
+use Rattle.table.proofs.Records.{records-start, headed-step, headed-end, sequences-step, sequences-end, groups-step, groups-end, wholes-step, wholes-end, within-count, sequence-fits, sequence-items, group-fits, group-reads}
 use Rattle.sound_parts.specs.Parts.{allPairs, allTriples, Holds, asHeaded}
 
 -- What the words of pairs and of triples say, and what the entries say that they hold.
@@ -182,24 +184,37 @@ module _ {A : Type 0} (f : List Group → A) (part : List ℕ) (at : ℕ) (w : T
   pub group-here : GroupHere part at (w .left)
   group-here = groups-step part at (w .left) (w .walk) h
 
-  pub group-room : at + 1 + 1 + getD part (at + 1) 0 ≤ length part
-  group-room = omega (arith, group-here .fits)
+  pub group-room : at + 2 + getD part (at + 1) 0 ≤ length part
+  group-room = group-here .fits
 
-  pub group-first : Group
-  group-first = group (getD part at 0) (group-here .pairs)
-
-  module _ (s : Span) (e : s ≡ countedAt part (at + 1)) where
-    pub group-in : Fits part s
+  module _ (v : GroupRecord) (e : v ≡ groupAt part at) where
+    pub group-in : Fits part (v .pairs)
     group-in = rw e (group-fits part at (w .left) group-here)
 
-    pub group-is : ranges (within s part) ≡ some (group-here .pairs)
+    pub group-is : ranges (within (v .pairs) part) ≡ some (group-here .pairs)
     group-is = rw e (group-reads part at (w .left) group-here)
 
-    pub group-behind : GroupsAt part (s .to) (group-here .rest)
-    group-behind = rw e (group-next part at (w .left) group-here)
+    pub group-listed : ListHere part (v .listed) (v .list) (group-here .list)
+    group-listed = rw e (group-here .listed)
 
-    pub group-less : (at < s .to) × (s .to ≤ length part)
-    group-less = rw e (omega arith, group-room)
+    -- the records of its list; without a list there are none
+    pub group-items : Option·getD (group-here .list) [] ≡ recordsIn sequences (within (v .list) part)
+    unfolding recordsIn sequences
+    group-items = rw e (go (hasList (getD part at 0)) (group-here .listed .same))
+      where
+        go : (b : Bool) → group-here .list ≡ onlyIf b (some (recordsIn sequences (within (listAt part (countedAt part (at + 1) .to) b) part)))
+            → Option·getD (group-here .list) [] ≡ recordsIn sequences (within (listAt part (countedAt part (at + 1) .to) b) part)
+        go true k = rw k
+        go false k =
+            let n : ℕ = countedAt part (at + 1) .to in
+            let z : n + 0 - (n + 0) ≡ 0 = omega arith in
+            rw (k, z)
+
+    pub group-behind : GroupsAt part (v .next) (group-here .rest)
+    group-behind = rw e (group-here .next)
+
+    pub group-less : (at < v .next) × (v .next ≤ length part)
+    group-less = rw e (omega (arith, group-here .listed .fits .ordered), group-here .listed .fits .inside)
 
 module _ {A : Type 0} (f : List Whole → A) (part : List ℕ) (at : ℕ) (w : Through f wholes part at) (h : at < length part) where
   pub whole-here : WholeHere part at (w .left)
@@ -266,19 +281,24 @@ module _ (q : List ℕ → Bool) (part : List ℕ) (at : ℕ) (w : Through (all 
   pub sequences-done : length part ≤ at → true ≡ all q (recordsIn sequences part)
   sequences-done h = all-done _ sequences part at w (sequences-end part at (w .left) (w .walk) h)
 
-module _ (q : List Range → Bool) (part : List ℕ) (at : ℕ) (w : Through (all (λ (g : Group). q (g .ranges))) groups part at) where
-  module _ (h : at < length part) (s : Span) (e : s ≡ countedAt part (at + 1)) where
-    pub groups-broken : ((rs : List Range) → ranges (within s part) ≡ some rs → q rs ≡ false) → false ≡ all (λ (g : Group). q (g .ranges)) (recordsIn groups part)
+module _ (q : Group → Bool) (part : List ℕ) (at : ℕ) (w : Through (all q) groups part at) where
+  module _ (h : at < length part) (v : GroupRecord) (e : v ≡ groupAt part at) where
+    -- b speaks of what the words say of the pairs and of the list of the group that stands here
+    pub groups-broken : ((rs : List Range) (list : Option (List (List ℕ))) → ranges (within (v .pairs) part) ≡ some rs
+        → Option·getD list [] ≡ recordsIn sequences (within (v .list) part) → q (group (getD part at 0) rs list) ≡ false)
+        → false ≡ all q (recordsIn groups part)
     groups-broken b =
         let x = group-here _ part at w h in
-        all-broken _ groups part at w (group (getD part at 0) (x .pairs)) (x .rest) (x .split) (b (x .pairs) (group-is _ part at w h s e))
+        all-broken _ groups part at w (group (getD part at 0) (x .pairs) (x .list)) (x .rest) (x .split) (b (x .pairs) (x .list) (group-is _ part at w h v e) (group-items _ part at w h v e))
 
-    pub groups-on : ((rs : List Range) → ranges (within s part) ≡ some rs → q rs ≡ true) → Through (all (λ (g : Group). q (g .ranges))) groups part (s .to)
+    pub groups-on : ((rs : List Range) (list : Option (List (List ℕ))) → ranges (within (v .pairs) part) ≡ some rs
+        → Option·getD list [] ≡ recordsIn sequences (within (v .list) part) → q (group (getD part at 0) rs list) ≡ true)
+        → Through (all q) groups part (v .next)
     groups-on b =
         let x = group-here _ part at w h in
-        all-on _ groups part at w (s .to) (group (getD part at 0) (x .pairs)) (x .rest) (x .split) (b (x .pairs) (group-is _ part at w h s e)) (group-behind _ part at w h s e)
+        all-on _ groups part at w (v .next) (group (getD part at 0) (x .pairs) (x .list)) (x .rest) (x .split) (b (x .pairs) (x .list) (group-is _ part at w h v e) (group-items _ part at w h v e)) (group-behind _ part at w h v e)
 
-  pub groups-done : length part ≤ at → true ≡ all (λ (g : Group). q (g .ranges)) (recordsIn groups part)
+  pub groups-done : length part ≤ at → true ≡ all q (recordsIn groups part)
   groups-done h = all-done _ groups part at w (groups-end part at (w .left) (w .walk) h)
 
 module _ (q : List ℕ → List ℕ → Bool) (part : List ℕ) (at : ℕ) (w : Through (all (λ (x : Whole). q (x .valid) (x .confused))) wholes part at) where

@@ -7,13 +7,13 @@ use mathlib.Core.Option.{Option}
 use lib.ListN.{length}
 use Rattle.lists.specs.Lists.{all, isSome}
 use Rattle.table.specs.declared.Span.{Span}
-use Rattle.table.specs.Table.{Headed, ClassRange, Group, Whole, Table}
+use Rattle.table.specs.Table.{Headed, ClassRange, Whole, Table}
 use Rattle.table.specs.Layout.{mostItems, headed, sequences}
 use Rattle.table.specs.Part.{recordsIn}
 use Rattle.table.specs.Lookup.{inRanges}
 use Rattle.scalar.specs.Scalar.{isScalar}
 use Rattle.soundness.specs.Pairs.{sparesHangul}
-use Rattle.soundness.specs.Scalars.{scalarsBetween, scalarRanges, scalarHeaded}
+use Rattle.soundness.specs.Scalars.{scalarsBetween, scalarRanges, scalarHeaded, scalarGroup}
 
 -- every pair first, last passes the test
 unfoldable pub allPairs : (ℕ → ℕ → Bool) → List ℕ → Bool
@@ -45,12 +45,9 @@ recordOf h items = record { head = h; items = items }
 abbrev pub asHeaded : ℕ → List ℕ → Option (List Headed)
 asHeaded steps = headed steps mostItems
 
--- the codepoints of a class entry, of a group and of a whole are scalar values
+-- the codepoints of a class entry and of a whole are scalar values
 abbrev pub scalarTriple : ℕ → ℕ → ℕ → Bool
 scalarTriple a b k = scalarsBetween a b
-
-abbrev pub scalarGroup : Group → Bool
-scalarGroup g = scalarRanges (g .ranges)
 
 abbrev pub scalarWhole : Whole → Bool
 scalarWhole w = all isScalar (w .valid ++ w .confused)

@@ -4,6 +4,7 @@ use bit_sets::ranges::put_pairs;
 use buffers::clear;
 use table::Span;
 use table::lookup::counted;
+use table::lookup::group_at;
 ghost use mathlib.Core.Path.{_≡_};
 ghost use mathlib.Core.Bool.{cond};
 ghost use Prim.Native.Nat.{_+_};
@@ -49,9 +50,9 @@ pub fn put_groups(gs: &[u32], base: u32, set: &mut [u32])
 {
     let mut i: usize = 0;
     while i < gs.len() {
-        let s = counted(gs, i + 1);
-        put_pairs_of(gs, s, base, set);
-        i = s.to;
+        let group = group_at(gs, i);
+        put_pairs_of(gs, group.pairs, base, set);
+        i = group.next;
     }
 }
 

@@ -12,9 +12,9 @@ use Rattle.limits.specs.Limits.{leastWork, mostWorked}
 use Rattle.table.specs.Table.{Table}
 use Rattle.table.proofs.Lookups.{drop-next}
 use Rattle.tokens.specs.Tokens.{Token, emoji, text, codepoints, joinedTokens}
-use Rattle.tokens.specs.Cells.{markToken, marksOf}
+use Rattle.tokens.specs.Cells.{tokenTags, tagsOf}
 use Rattle.spelling.specs.Spelling.{isMark, startsWithMark, leadingMark}
-use Rattle.spelling.specs.CellMarks.{leadingAt, codesIn, tagsIn}
+use Rattle.spelling.specs.CellTags.{leadingAt, codesIn, tagsIn}
 
 -- two lists of one length, and what stands behind them
 module _ (t : Table) where
@@ -38,12 +38,12 @@ module _ (t : Table) (k : ℕ) (other : eqb k 1 ≡ false) where
   leading-run (c ∷ s) = rw (other, leading-run s)
 
 -- one token
-pub tag-length : (x : Token) → length (codepoints x) ≡ length (markToken x)
+pub tag-length : (x : Token) → length (codepoints x) ≡ length (tokenTags x)
 tag-length (emoji s) = simp length-replicate
 tag-length (text []) = refl
 tag-length (text (c ∷ s)) = simp length-replicate
 
-token-leading : (t : Table) (x : Token) → leadingAt t (codepoints x) (markToken x) ≡ startsWithMark t x
+token-leading : (t : Table) (x : Token) → leadingAt t (codepoints x) (tokenTags x) ≡ startsWithMark t x
 unfolding leadingAt
 token-leading t (emoji s) = leading-run t 0 refl s
 token-leading t (text []) = refl
@@ -54,11 +54,11 @@ token-leading t (text (c ∷ s)) = rw (leading-run t 2 refl s) (none (isMark t c
     none false = refl
 
 -- tokens
-pub leading-tokens : (t : Table) (ts : List Token) → leadingAt t (joinedTokens ts) (marksOf ts) ≡ leadingMark t ts
-unfolding leadingAt joinedTokens marksOf leadingMark
+pub leading-tokens : (t : Table) (ts : List Token) → leadingAt t (joinedTokens ts) (tagsOf ts) ≡ leadingMark t ts
+unfolding leadingAt joinedTokens tagsOf leadingMark
 leading-tokens t [] = refl
 leading-tokens t (x ∷ ts) =
-    leading-append t (codepoints x) (markToken x) (joinedTokens ts) (marksOf ts) (tag-length x) ∙ rw (token-leading t x, leading-tokens t ts)
+    leading-append t (codepoints x) (tokenTags x) (joinedTokens ts) (tagsOf ts) (tag-length x) ∙ rw (token-leading t x, leading-tokens t ts)
 
 -- the elements of a part from its start on
 part-next : (s : List ℕ) (n i : ℕ) → i < n → n ≤ length s → drop i (take n s) ≡ getD s i 0 ∷ drop (i + 1) (take n s)

@@ -11,7 +11,7 @@ ghost use Rattle.limits.specs.Limits.{leastWork, mostWorked};
 ghost use Rattle.sections.specs.Laid.{Laid};
 ghost use Rattle.table.specs.Layout.{theTable};
 ghost use Rattle.spelling.specs.Spelling as spelling;
-ghost use Rattle.spelling.specs.CellMarks.{leadingAt, codesIn, tagsIn};
+ghost use Rattle.spelling.specs.CellTags.{leadingAt, codesIn, tagsIn};
 
 // 8: a low line stands after a character that isn't one.
 pub fn low_line(s: &[u32]) -> bool

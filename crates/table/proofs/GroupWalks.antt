@@ -9,9 +9,9 @@ use Rattle.table.specs.Table.{Group}
 use Rattle.table.specs.Layout.{mostGroups, groups, group}
 use Rattle.table.specs.Spans.{Fits, within}
 use Rattle.table.specs.Lookup.{holds}
-use Rattle.table.specs.Part.{inPairs, GroupsAt, GroupHere}
-use Rattle.table.specs.GroupPart.{groupsIn, GroupsPart, groupAt}
-use Rattle.table.proofs.Records.{records-start, groups-end, groups-step, group-fits, group-holds, group-next}
+use Rattle.table.specs.Part.{inPairs, GroupsAt}
+use Rattle.table.specs.GroupPart.{groupsIn, GroupsPart, groupAt, ListHere, GroupHere}
+use Rattle.table.proofs.Records.{records-start, groups-end, groups-step, group-fits, group-holds}
 
 -- A walk over the groups of a part that has come to `at`, where group n stands: Q holds of the groups that are left.
 pub record GroupWalk (part : List ℕ) (n at : ℕ) (Q : List Group → Type 0) : Type 0 where
@@ -34,7 +34,7 @@ module _ (part : List ℕ) (n at : ℕ) (Q : List Group → Type 0) (w : GroupWa
 
     -- the group that stands here
     abbrev pub groupHere : Group
-    groupHere = group (getD part at 0) (group-here .pairs)
+    groupHere = group (getD part at 0) (group-here .pairs) (group-here .list)
 
     pub group-room : at + 2 + getD part (at + 1) 0 ≤ length part
     group-room = group-here .fits
@@ -47,10 +47,10 @@ module _ (part : List ℕ) (n at : ℕ) (Q : List Group → Type 0) (w : GroupWa
       pairs-fit = rw e (group-fits part at (w .left) group-here)
 
       pub next-more : at < v .next
-      next-more = rw e (omega arith)
+      next-more = rw e (omega (arith, group-here .listed .fits .ordered))
 
       pub next-inside : v .next ≤ length part
-      next-inside = rw e (group-fits part at (w .left) group-here .inside)
+      next-inside = rw e (group-here .listed .fits .inside)
 
       -- its flags, and what its pairs hold
       pub group-restricted : v .restricted ≡ groupHere .restricted
@@ -62,13 +62,17 @@ module _ (part : List ℕ) (n at : ℕ) (Q : List Group → Type 0) (w : GroupWa
       pub pairs-hold : (c : ℕ) → inPairs c (within (v .pairs) part) ≡ holds groupHere c
       pairs-hold c = rw e (group-holds part at (w .left) group-here c)
 
+      -- its list
+      pub list-here : ListHere part (v .listed) (v .list) (groupHere .sequences)
+      list-here = rw e (group-here .listed)
+
       -- the walk goes on behind it
       pub group-on : (P : List Group → Type 0) → ((rest : List Group) → Q (groupHere ∷ rest) → P rest)
           → GroupWalk part (n + 1) (v .next) P
       group-on P f =
           record {
             left = group-here .rest;
-            walk = rw e (group-next part at (w .left) group-here);
+            walk = rw e (group-here .next);
             few = omega (arith, w .few, ap (length {A = Group}) (group-here .split));
             so = f (group-here .rest) (rw (group-here .split) at (w .so));
           }

@@ -3,4 +3,5 @@ pub mod Lookups
 pub mod Fours
 pub mod Records
 pub mod Searches
+pub mod ListSizes
 pub mod GroupWalks

@@ -4,18 +4,44 @@ use native.Mathlib.Omega.{arith}
 use mathlib.Core.Path.{_≡_, refl, sym, _∙_, ap}
 use mathlib.Core.Bool.{Bool, true, false, _&&_}
 use mathlib.Core.List.{List, [], _∷_}
-use mathlib.Core.Option.{Option, none, some}
-use lib.ListN.{length, getD, take, drop, length-drop, drop-of-length-le}
-use lib.Seq.{drop-drop}
+use mathlib.Core.Option.{Option, none, some, Option·map}
+use lib.ListN.{length, getD, take, drop, length-take, length-drop, drop-of-length-le}
+use lib.Seq.{drop-drop, take-take}
 use lib.Dec.{leb}
-use borrow.Author.Tests.{leb-true, leb-false}
+use borrow.Author.Tests.{leb-true, leb-false, le-leb}
 use Rattle.lists.specs.Lists.{andThen}
 use Rattle.table.specs.Table.{Range, Headed, Group, Whole}
-use Rattle.table.specs.Layout.{mostItems, mostFlags, inFront, ranges, countFits, headed, sequences, group, groups, Tail, confusedPart, wholes}
+use Rattle.table.specs.Layout.{
+  mostItems,
+  mostSequences,
+  leastRun,
+  mostRun,
+  inFront,
+  ranges,
+  countFits,
+  headed,
+  sequences,
+  hasList,
+  flagsFit,
+  group,
+  Sequences,
+  behindOne,
+  runs,
+  listPart,
+  GroupEnd,
+  withList,
+  groupEnd,
+  groups,
+  Tail,
+  confusedPart,
+  wholes,
+}
 use Rattle.table.specs.Spans.{within, Fits}
 use Rattle.table.specs.Lookup.{holds}
-use Rattle.table.specs.Part.{RecordsAt, HeadedAt, SequencesAt, GroupsAt, WholesAt, HeadedHere, SequenceHere, GroupHere, confusedAt, WholeHere, inPairs, countedAt}
-use Rattle.table.proofs.Lookups.{none-some, pairs-ranges, both, onlyIf-some, inFront-some, andThen-some, drop-next, drop-two}
+use Rattle.table.specs.Part.{RecordsAt, HeadedAt, SequencesAt, GroupsAt, WholesAt, HeadedHere, SequenceHere, confusedAt, WholeHere, recordsIn, inPairs, countedAt}
+use Rattle.table.specs.GroupPart.{listSize, endSize, listAt, ListHere, GroupHere}
+use Rattle.table.proofs.Lookups.{none-some, pairs-ranges, both, onlyIf-some, inFront-some, andThen-some, drop-next, drop-two, drop-take}
+use Rattle.table.proofs.Fuels.{sequences-next}
 
 -- where the count of a record is in its range
 pub record CountFits (most n : ℕ) (ws : List ℕ) : Type 0 where
@@ -126,6 +152,105 @@ module _ (most : ℕ) (part : List ℕ) (at : ℕ) (xs : List Headed) where
             next = record { inside = omega arith; steps = k; parses = rw (← drop-drop n (at + 2) part) (q .1) };
           }
 
+-- So many sequences at the front of the words: as the records of a section, and what is behind them.
+record RunsRead (ws : List ℕ) (q : Sequences) : Type 0 where
+  short : length (q .rest) ≤ length ws
+  reads : sequences (length (take (length ws - length (q .rest)) ws)) (take (length ws - length (q .rest)) ws) ≡ some (q .list)
+  rest : drop (length ws - length (q .rest)) ws ≡ q .rest
+
+runs-front : (n : ℕ) (ws : List ℕ) (q : Sequences) → 1 ≤ n → n ≤ mostItems → n ≤ length ws → RunsRead (drop n ws) q → RunsRead (n ∷ ws) (behindOne (take n ws) q)
+runs-front n ws q low high room r =
+    let d : ℕ = length (drop n ws) - length (q .rest) in
+    let l : length (drop n ws) ≡ length ws - n = length-drop n ws in
+    let size : suc (length ws) - length (q .rest) ≡ suc (n + d) = omega (arith, r .short) in
+    let x : List ℕ = take (n + d) ws in
+    let first : take n x ≡ take n ws = take-take n (n + d) ws (omega arith) in
+    let less : n + d - n ≡ d = omega arith in
+    let later : drop n x ≡ take d (drop n ws) = rw (drop-take n (n + d) ws, less) in
+    let long : length x ≡ n + d = simp length-take (omega (arith, r .short)) in
+    let fits : countFits mostItems n x ≡ true = rw (le-leb 1 n low, le-leb n mostItems high, le-leb n (length x) (omega arith)) in
+    let reads : sequences (length (n ∷ x)) (n ∷ x) ≡ some (take n ws ∷ q .list) = sequences-next n x ∙ rw (fits, first, later, r .reads) in
+    let rest : drop (n + d) ws ≡ q .rest = sym (drop-drop d n ws) ∙ r .rest in
+    record { short = omega (arith, r .short); reads = rw size reads; rest = rw size rest }
+
+map-some : {A B : Type 0} (f : A → B) (o : Option A) (y : B) → Option·map f o ≡ some y → (a : A) × (o ≡ some a) × (y ≡ f a)
+map-some f none y e = absurd (none-some y e)
+map-some f (some a) y e = (a, refl, cc)
+
+runs-read : (k : ℕ) (ws : List ℕ) (q : Sequences) → runs k ws ≡ some q → RunsRead ws q
+unfolding runs sequences
+runs-read zero ws q e =
+    let r : q ≡ record { list = []; rest = ws } = cc in
+    let z : length ws - length ws ≡ 0 = omega arith in
+    rw r (start z)
+  where
+    start : length ws - length ws ≡ 0 → RunsRead ws (record { list = []; rest = ws })
+    start z = record { short = omega arith; reads = rw z; rest = rw z }
+runs-read (suc k) [] q e = absurd (none-some q e)
+runs-read (suc k) (n ∷ ws) q e =
+    let p = onlyIf-some (leb leastRun n && leb n mostRun && leb n (length ws)) (Option·map (behindOne (take n ws)) (runs k (drop n ws))) q e in
+    let m = map-some (behindOne (take n ws)) (runs k (drop n ws)) q (p .1) in
+    let b = both (leb leastRun n && leb n mostRun) (leb n (length ws)) (p .0) in
+    let c = both (leb leastRun n) (leb n mostRun) (b .0) in
+    let low : leastRun ≤ n = leb-true _ _ (c .0) in
+    let high : n ≤ mostRun = leb-true _ _ (c .1) in
+    rw (m .2) (runs-front n ws (m .0) (omega arith) (omega arith) (leb-true _ _ (b .1)) (runs-read k (drop n ws) (m .0) (m .1)))
+
+-- the list whose count stands at `at`, and what is behind it
+record ListRead (part : List ℕ) (at : ℕ) (q : Sequences) : Type 0 where
+  fits : Fits part (listAt part at true)
+  reads : sequences (length (within (listAt part at true) part)) (within (listAt part at true) part) ≡ some (q .list)
+  rest : drop (listAt part at true .to) part ≡ q .rest
+
+list-read : (part : List ℕ) (at : ℕ) (q : Sequences) → listPart (drop at part) ≡ some q → ListRead part at q
+unfolding listPart listSize
+list-read part at q e = go (leb (at + 1) (length part)) refl
+  where
+    go : (b : Bool) → leb (at + 1) (length part) ≡ b → ListRead part at q
+    go false f =
+        let i : length part < at + 1 = leb-false _ _ f in
+        let j : length part ≤ at = omega arith in
+        let l : listPart [] ≡ some q = rw (drop-of-length-le part j) at e in
+        absurd (none-some q l)
+    go true f =
+        let i : at + 1 ≤ length part = leb-true _ _ f in
+        let j : at < length part = omega arith in
+        let n : ℕ = getD part at 0 in
+        let ws : List ℕ = drop (at + 1) part in
+        let l : listPart (n ∷ ws) ≡ some q = rw (drop-next part at j) at e in
+        let r = runs-read n ws q (onlyIf-some (leb n mostSequences) (runs n ws) q l .1) in
+        let d : ℕ = length ws - length (q .rest) in
+        let long : length ws ≡ length part - (at + 1) = length-drop (at + 1) part in
+        let size : listSize (drop at part) ≡ suc d = rw (e, drop-next part at j) (omega (arith, r .short)) in
+        let wide : at + suc d - (at + 1) ≡ d = omega arith in
+        let to : at + suc d ≡ at + 1 + d = omega arith in
+        record {
+          fits = rw size (record { ordered = omega arith; inside = omega (arith, r .short) });
+          reads = rw (size, wide) (r .reads);
+          rest = rw (size, to) (sym (drop-drop d (at + 1) part) ∙ r .rest);
+        }
+
+-- what follows the pairs of a group
+record EndHere (part : List ℕ) (at : ℕ) (b : Bool) (e : GroupEnd) : Type 0 where
+  listed : ListHere part b (listAt part at b) (e .sequences)
+  rest : drop (listAt part at b .to) part ≡ e .rest
+
+end-here : (part : List ℕ) (at : ℕ) (b : Bool) (e : GroupEnd) → at ≤ length part → groupEnd b (drop at part) ≡ some e → EndHere part at b e
+unfolding groupEnd sequences recordsIn
+end-here part at false e i h =
+    let same : e ≡ record { sequences = none; rest = drop at part } = cc in
+    let z : at + 0 - (at + 0) ≡ 0 = omega arith in
+    let a : at + 0 ≡ at = omega arith in
+    rw same (record { listed = record { fits = record { ordered = omega arith; inside = omega arith }; holds = rw z; same = refl }; rest = rw a })
+end-here part at true e i h =
+    let m = map-some withList (listPart (drop at part)) e h in
+    let r = list-read part at (m .0) (m .1) in
+    rw (m .2) (record { listed = record { fits = r .fits; holds = rw (r .reads); same = rw (r .reads) }; rest = r .rest })
+
+-- the words behind a group
+pub end-rest : (b : Bool) (ws : List ℕ) (e : GroupEnd) → groupEnd b ws ≡ some e → drop (endSize b ws) ws ≡ e .rest
+end-rest b ws e h = let z : 0 + endSize b ws ≡ endSize b ws = omega arith in rw z at (end-here ws 0 b e (omega arith) h .rest)
+
 module _ (part : List ℕ) (at : ℕ) (xs : List Group) where
   pub groups-end : GroupsAt part at xs → length part ≤ at → xs ≡ []
   unfolding groups
@@ -151,20 +276,27 @@ module _ (part : List ℕ) (at : ℕ) (xs : List Group) where
           let f : ℕ = getD part at 0 in
           let n : ℕ = getD part (at + 1) 0 in
           let ws : List ℕ = drop (at + 2) part in
-          let then : List Range → Option (List Group) = λ rs. inFront (group f rs) (groups k (drop n ws)) in
-          let p = onlyIf-some (leb f mostFlags && leb n (length ws)) (andThen (ranges (take n ws)) then) xs e in
-          let t = both (leb f mostFlags) (leb n (length ws)) (p .0) in
+          let last : List Range → GroupEnd → Option (List Group) = λ rs g. inFront (group f rs (g .sequences)) (groups k (g .rest)) in
+          let then : List Range → Option (List Group) = λ rs. andThen (groupEnd (hasList f) (drop n ws)) (last rs) in
+          let p = onlyIf-some (flagsFit f && leb n (length ws)) (andThen (ranges (take n ws)) then) xs e in
+          let t = both (flagsFit f) (leb n (length ws)) (p .0) in
           let q = andThen-some (ranges (take n ws)) then xs (p .1) in
-          let r = inFront-some (group f (q .0)) (groups k (drop n ws)) xs (q .2) in
+          let u = andThen-some (groupEnd (hasList f) (drop n ws)) (last (q .0)) xs (q .2) in
+          let r = inFront-some (group f (q .0) (u .0 .sequences)) (groups k (u .0 .rest)) xs (u .2) in
           let room : n ≤ length part - (at + 2) = simp length-drop at (leb-true n (length ws) (t .1)) in
+          let to : at + 2 + n ≡ at + 1 + 1 + n = omega arith in
+          let behind : groupEnd (hasList f) (drop (at + 1 + 1 + n) part) ≡ some (u .0) = rw (← to, ← drop-drop n (at + 2) part) (u .1) in
+          let v = end-here part (at + 1 + 1 + n) (hasList f) (u .0) (omega arith) behind in
           record {
             pairs = q .0;
+            list = u .0 .sequences;
             rest = r .0;
             split = r .2;
-            flags = leb-true _ _ (t .0);
+            flags = t .0;
             parses = q .1;
             fits = omega arith;
-            next = record { inside = omega arith; steps = k; parses = rw (← drop-drop n (at + 2) part) (r .1) };
+            listed = v .listed;
+            next = record { inside = v .listed .fits .inside; steps = k; parses = rw (v .rest) (r .1) };
           }
 
 -- the confused items whose count stands at `at`, and what is behind them
@@ -254,10 +386,5 @@ module _ (part : List ℕ) (at : ℕ) (xs : List Group) (h : GroupHere part at x
       ap ranges same ∙ h .parses
 
   -- whether the group at `at` holds c is asked of its pairs
-  pub group-holds : (c : ℕ) → inPairs c (within (countedAt part (at + 1)) part) ≡ holds (group (getD part at 0) (h .pairs)) c
+  pub group-holds : (c : ℕ) → inPairs c (within (countedAt part (at + 1)) part) ≡ holds (group (getD part at 0) (h .pairs) (h .list)) c
   group-holds c = pairs-ranges c _ (h .pairs) group-reads
-
-  pub group-next : GroupsAt part (countedAt part (at + 1) .to) (h .rest)
-  group-next =
-      let two : at + 1 + 1 + getD part (at + 1) 0 ≡ at + 2 + getD part (at + 1) 0 = omega arith in
-      rw two (h .next)

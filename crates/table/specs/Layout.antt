@@ -1,8 +1,8 @@
--- From words to a table, or nothing where the words have a layout fault. 01, "The table", second paragraph; 02, Items 9 and 11. Assumes nothing.
+-- From words to a table, or nothing where the words have a layout fault. 01, "The table", second paragraph; 02, Items 9, 11 and 12. Assumes nothing.
 use Prim.Native.Nat.{ℕ, zero, suc, _/_, _%_}
-use mathlib.Core.Bool.{Bool, true, false, _&&_}
+use mathlib.Core.Bool.{Bool, true, false, not, _&&_, _||_}
 use mathlib.Core.List.{List, [], _∷_}
-use mathlib.Core.Option.{Option, none, some, Option·getD}
+use mathlib.Core.Option.{Option, none, some, Option·map, Option·getD}
 use lib.ListN.{length, getD, take, drop}
 use lib.Dec.{leb, eqb}
 use Rattle.lists.specs.Lists.{andThen}
@@ -25,12 +25,23 @@ sectionCount = 14
 abbrev pub mostWords : ℕ
 mostWords = 131074
 
--- "a class at most 255, flags at most 3"
+-- "a class at most 255"
 abbrev pub mostClass : ℕ
 mostClass = 255
 
+-- 01's flags 1 and 2, and 02's flag 4
 abbrev pub mostFlags : ℕ
-mostFlags = 3
+mostFlags = 7
+
+-- 02, Item 12: "a count of 0 to 64, then records (count 2 to 8, items)"
+abbrev pub mostSequences : ℕ
+mostSequences = 64
+
+abbrev pub leastRun : ℕ
+leastRun = 2
+
+abbrev pub mostRun : ℕ
+mostRun = 8
 
 module _ {A : Type 0} where
   -- x where the test passes
@@ -94,20 +105,67 @@ unfoldable pub excluded : List ℕ → Option (List ℕ)
 excluded [] = none
 excluded (n ∷ ws) = onlyIf (eqb n (length ws)) (some ws)
 
--- "flags, where 1 is restricted and 2 is CM whitelisted"
-abbrev pub group : ℕ → List Range → Group
-group flags rs = record { restricted = eqb (flags % 2) 1; whitelisted = eqb (flags / 2 % 2) 1; ranges = rs }
+-- "flags, where 1 is restricted and 2 is CM whitelisted", and 4 says that there is a list
+abbrev pub isRestricted : ℕ → Bool
+isRestricted flags = eqb (flags % 2) 1
 
--- records flags, word count, pairs
+abbrev pub isWhitelisted : ℕ → Bool
+isWhitelisted flags = eqb (flags / 2 % 2) 1
+
+abbrev pub hasList : ℕ → Bool
+hasList flags = eqb (flags / 4 % 2) 1
+
+-- no other flag, and "flag 4, allowed only beside flag 2"
+abbrev pub flagsFit : ℕ → Bool
+flagsFit flags = leb flags mostFlags && (isWhitelisted flags || not (hasList flags))
+
+abbrev pub group : ℕ → List Range → Option (List (List ℕ)) → Group
+group flags rs list = record { restricted = isRestricted flags; whitelisted = isWhitelisted flags; ranges = rs; sequences = list }
+
+-- so many sequences, then the rest of the words
+pub record Sequences : Type 0 where
+  pub list : List (List ℕ)
+  pub rest : List ℕ
+
+abbrev pub behindOne : List ℕ → Sequences → Sequences
+behindOne s q = record { list = s ∷ q .list; rest = q .rest }
+
+-- so many "records (count 2 to 8, items)"
+unfoldable pub runs : ℕ → List ℕ → Option Sequences
+runs zero ws = some (record { list = []; rest = ws })
+runs (suc k) [] = none
+runs (suc k) (n ∷ ws) =
+    let rest = runs k (drop n ws) in
+    onlyIf (leb leastRun n && leb n mostRun && leb n (length ws)) (Option·map (behindOne (take n ws)) rest)
+
+-- "a count of 0 to 64, then records"
+unfoldable pub listPart : List ℕ → Option Sequences
+unfolding runs
+listPart [] = none
+listPart (n ∷ ws) = onlyIf (leb n mostSequences) (runs n ws)
+
+-- what follows the pairs of a group, "outside its word count": its list, or none, then the rest of the words
+pub record GroupEnd : Type 0 where
+  pub sequences : Option (List (List ℕ))
+  pub rest : List ℕ
+
+abbrev pub withList : Sequences → GroupEnd
+withList q = record { sequences = some (q .list); rest = q .rest }
+
+unfoldable pub groupEnd : Bool → List ℕ → Option GroupEnd
+unfolding listPart
+groupEnd false ws = some (record { sequences = none; rest = ws })
+groupEnd true ws = Option·map withList (listPart ws)
+
+-- records flags, word count, pairs, and with flag 4 a list
 unfoldable pub groups : ℕ → List ℕ → Option (List Group)
-unfolding ranges
+unfolding ranges groupEnd
 groups zero [] = some []
 groups zero (w ∷ ws) = none
 groups (suc fuel) [] = some []
 groups (suc fuel) (f ∷ []) = none
 groups (suc fuel) (f ∷ n ∷ ws) =
-    let rest = groups fuel (drop n ws) in
-    onlyIf (leb f mostFlags && leb n (length ws)) (andThen (ranges (take n ws)) (λ rs. inFront (group f rs) rest))
+    onlyIf (flagsFit f && leb n (length ws)) (andThen (ranges (take n ws)) (λ rs. andThen (groupEnd (hasList f) (drop n ws)) (λ e. inFront (group f rs (e .sequences)) (groups fuel (e .rest)))))
 
 -- what follows the valid items of a whole: "confused count, items", then the rest of the words
 pub record Tail : Type 0 where
@@ -127,7 +185,7 @@ wholes (suc fuel) [] = some []
 wholes (suc fuel) (n ∷ ws) =
     onlyIf (leb n (length ws)) (andThen (confusedPart (drop n ws)) (λ c. inFront (record { valid = take n ws; confused = c .confused }) (wholes fuel (c .rest))))
 
-abbrev pub _>>=_ : {A B : Type 0} → Option A → (A → Option B) → Option B
+abbrev _>>=_ : {A B : Type 0} → Option A → (A → Option B) → Option B
 _>>=_ o f = andThen o f
 
 -- The table of the sections, in their order. `part k` is section k, counted from 0; `sections sectionCount` gives all of them.

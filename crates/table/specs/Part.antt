@@ -14,7 +14,7 @@ use Rattle.table.specs.declared.WholeAt.{WholeAt}
 use Rattle.table.specs.declared.WholeAt.the-variants.{Lists, Unconfused}
 use Rattle.table.specs.Spans.{within, Fits, itemsAt, ItemsFit}
 use Rattle.table.specs.Table.{Range, ClassRange, Headed, Group, Whole}
-use Rattle.table.specs.Layout.{mostItems, mostClass, mostFlags, ranges, headed, sequences, group, groups, wholes}
+use Rattle.table.specs.Layout.{mostItems, mostClass, headed, sequences, groups, wholes}
 use Rattle.table.specs.Lookup.{tableClass}
 
 -- c lies in one of the pairs
@@ -107,7 +107,7 @@ HeadedAt most = RecordsAt (λ steps. headed steps most)
 abbrev pub SequencesAt : List ℕ → ℕ → List (List ℕ) → Type 0
 SequencesAt = RecordsAt sequences
 
--- records flags, word count, pairs
+-- records flags, word count, pairs, and with flag 4 a list
 abbrev pub GroupsAt : List ℕ → ℕ → List Group → Type 0
 GroupsAt = RecordsAt groups
 
@@ -136,15 +136,6 @@ pub record SequenceHere (part : List ℕ) (at : ℕ) (xs : List (List ℕ)) : Ty
   pub high : getD part at 0 ≤ mostItems
   pub fits : at + 1 + getD part at 0 ≤ length part
   pub next : SequencesAt part (at + 1 + getD part at 0) rest
-
-pub record GroupHere (part : List ℕ) (at : ℕ) (xs : List Group) : Type 0 where
-  pub pairs : List Range
-  pub rest : List Group
-  pub split : xs ≡ group (getD part at 0) pairs ∷ rest
-  pub flags : getD part at 0 ≤ mostFlags
-  pub parses : ranges (take (getD part (at + 1) 0) (drop (at + 2) part)) ≡ some pairs
-  pub fits : at + 2 + getD part (at + 1) 0 ≤ length part
-  pub next : GroupsAt part (at + 2 + getD part (at + 1) 0) rest
 
 -- the place of the confused count of the whole at `at`
 abbrev pub confusedAt : List ℕ → ℕ → ℕ

@@ -1,7 +1,8 @@
--- A name table as a record of fourteen lists. 01, "The table", second paragraph; 02, Items 9 and 11. Assumes nothing.
+-- A name table as a record of fourteen lists. 01, "The table", second paragraph; 02, Items 9, 11 and 12. Assumes nothing.
 use Prim.Native.Nat.{ℕ}
 use mathlib.Core.Bool.{Bool}
 use mathlib.Core.List.{List}
+use mathlib.Core.Option.{Option}
 
 -- "pairs first, last"
 pub record Range : Type 0 where
@@ -19,11 +20,13 @@ pub record Headed : Type 0 where
   pub head : ℕ
   pub items : List ℕ
 
--- "records: flags, where 1 is restricted and 2 is CM whitelisted, then a word count, then pairs"
+-- "records: flags, where 1 is restricted and 2 is CM whitelisted, then a word count, then pairs"; 02, Item 12: with flag 4 a list of
+-- "compound sequences", which may be empty; none without it
 pub record Group : Type 0 where
   pub restricted : Bool
   pub whitelisted : Bool
   pub ranges : List Range
+  pub sequences : Option (List (List ℕ))
 
 -- "records: valid count, items, confused count, items"
 pub record Whole : Type 0 where

@@ -19,10 +19,13 @@ pub enum WholeAt {
     Unconfused,
 }
 
-// The record of a group: its flags, where its pairs stand among the words, and the place behind the record.
+// The record of a group: its flags, where its pairs stand among the words and where the records of its list do, and the place behind the
+// record. Without a list its place has no words.
 pub struct GroupRecord {
     pub restricted: bool,
     pub whitelisted: bool,
     pub pairs: Span,
+    pub listed: bool,
+    pub list: Span,
     pub next: usize,
 }

@@ -3,6 +3,14 @@ use crate::GroupRecord;
 use crate::Items;
 use crate::Span;
 use crate::WholeAt;
+
+// "a count of 0 to 64, then records (count 2 to 8, items)"
+const MOST_SEQUENCES: u32 = 64;
+
+const LEAST_RUN: u32 = 2;
+
+const MOST_RUN: u32 = 8;
+
 ghost use mathlib.Core.Path.{_≡_};
 ghost use Prim.Native.Nat.{_+_, _*_, _≤_};
 ghost use lib.ListN.{length, getD};
@@ -12,7 +20,7 @@ ghost use Rattle.lists.specs.Lists.{mem, isSome};
 ghost use Rattle.table.specs.Layout.{mostItems, headed, wholes};
 ghost use Rattle.table.specs.Lookup.{itemsOf, wholeOf};
 ghost use Rattle.table.specs.Spans.{Fits, within};
-ghost use Rattle.table.specs.GroupPart.{groupAt};
+ghost use Rattle.table.specs.GroupPart.{listSize, listAt, groupAt};
 ghost use Rattle.table.specs.Part.{inPairs, classAmong, inFour, Skipped, countedAt, headsIn, wholesIn, WholesPart, ItemsFound, WholeFound};
 
 // Whether c lies from first to last. Both tests are made, since where pairs stand in random order a branch at the first would be a guess.
@@ -167,6 +175,54 @@ pub fn counted(words: &[u32], at: usize) -> Span
     }
 }
 
+// The number of words of the list that `rest` begins with, or 0 where none does.
+pub fn list_size(rest: &[u32]) -> usize
+    ensures { λ r. ⌜ r ≡ listSize (now (rest .entry)) ⌝ }
+{
+    if rest.len() == 0 {
+        return 0;
+    }
+    let mut left = rest[0];
+    if left > MOST_SEQUENCES {
+        return 0;
+    }
+    let mut at: usize = 1;
+    while left > 0 {
+        if at == rest.len() {
+            return 0;
+        }
+        let n = rest[at];
+        if n < LEAST_RUN {
+            return 0;
+        }
+        if n > MOST_RUN {
+            return 0;
+        }
+        let items = n as usize;
+        if items >= rest.len() - at {
+            return 0;
+        }
+        at = at + 1 + items;
+        left -= 1;
+    }
+    at
+}
+
+// Where the records of a group's list stand behind its pairs.
+fn list_at(part: &[u32], at: usize, listed: bool) -> Span
+    requires { ⌜ at ≤ length (now part) ⌝ }
+    ensures { λ r. ⌜ r ≡ listAt (now (part .entry)) at listed ⌝ }
+{
+    if listed {
+        let size = list_size(&part[at..]);
+        return Span {
+            from: at + 1,
+            to: at + size,
+        };
+    }
+    Span { from: at, to: at }
+}
+
 // The group whose record stands at a place.
 pub fn group_at(part: &[u32], at: usize) -> GroupRecord
     requires { ⌜ at + 2 + getD (now part) (at + 1) 0 ≤ length (now part) ⌝ }
@@ -174,11 +230,15 @@ pub fn group_at(part: &[u32], at: usize) -> GroupRecord
 {
     let flags = part[at];
     let pairs = counted(part, at + 1);
+    let listed = flags / 4 % 2 == 1;
+    let list = list_at(part, pairs.to, listed);
     GroupRecord {
         restricted: flags % 2 == 1,
         whitelisted: flags / 2 % 2 == 1,
         pairs: pairs,
-        next: pairs.to,
+        listed: listed,
+        list: list,
+        next: list.to,
     }
 }
 

@@ -1,4 +1,4 @@
--- How tokens stand in the work area: their codepoints in its first mostWorked words, and beside them, in the next mostWorked, a mark for
+-- How tokens stand in the work area: their codepoints in its first mostWorked words, and beside them, in the next mostWorked, a tag for
 -- each: 0 for emoji, 1 for the first codepoint of a text token, 2 for a later one. Assumes nothing.
 use Prim.Native.Nat.{ℕ, _≤_}
 use mathlib.Core.Path.{_≡_}
@@ -10,14 +10,14 @@ use Rattle.table.specs.Table.{Table}
 use Rattle.text.specs.Decomposition.{fourRounds}
 use Rattle.tokens.specs.Tokens.{Token, emoji, text, joinedTokens}
 
--- the marks of a token
-abbrev pub markToken : Token → List ℕ
-markToken (emoji s) = replicate (length s) 0
-markToken (text []) = []
-markToken (text (c ∷ s)) = 1 ∷ replicate (length s) 2
+-- the tags of a token
+abbrev pub tokenTags : Token → List ℕ
+tokenTags (emoji s) = replicate (length s) 0
+tokenTags (text []) = []
+tokenTags (text (c ∷ s)) = 1 ∷ replicate (length s) 2
 
-unfoldable pub marksOf : List Token → List ℕ
-marksOf ts = joinedMap markToken ts
+unfoldable pub tagsOf : List Token → List ℕ
+tagsOf ts = joinedMap tokenTags ts
 
 -- the tokens with their text decomposed, not yet in order
 unfoldable pub decomposedToken : Table → Token → Token
@@ -34,4 +34,4 @@ pub record Cells (ts : List Token) (w : List ℕ) (n : ℕ) : Type 0 where
   pub count : n ≡ length (joinedTokens ts)
   pub few : n ≤ mostWorked
   pub words : take n w ≡ joinedTokens ts
-  pub marks : take n (drop mostWorked w) ≡ marksOf ts
+  pub tags : take n (drop mostWorked w) ≡ tagsOf ts

@@ -1,3 +1,4 @@
 pub mod Unpack
 pub mod Promise
 pub mod Differences
+pub mod Versions

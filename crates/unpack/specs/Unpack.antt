@@ -1,4 +1,4 @@
--- Unpacking a table file. 01, "The table", first paragraph; 02, Items 9 and 11. Assumes nothing.
+-- Unpacking a table file. 01, "The table", first paragraph; 02, Items 9, 11 and 12. Assumes nothing.
 use Prim.Native.Nat.{ℕ, _+_, _*_}
 use mathlib.Core.Bool.{cond}
 use mathlib.Core.List.{List, [], _∷_, _++_}
@@ -34,13 +34,14 @@ counted (a ∷ b ∷ c ∷ d ∷ r) = cond (eqb (length r) (4 * word a b c d)) (
 
 -- How many sections a file of version v lacks: one row for each version, and none for "versions not yet named". "Files with this thirteenth
 -- section have version 2"; those of version 1 have twelve. Item 11: "the quick-check set as pairs in a fourteenth section, version 3, added empty to
--- older files as Item 9 adds its own".
+-- older files as Item 9 adds its own". Item 12: "version 4 (unpacked like 3)".
 abbrev pub lacks : ℕ → Option ℕ
 lacks v =
     cond (eqb v 1) (some 2)
     (cond (eqb v 2) (some 1)
     (cond (eqb v 3) (some 0)
-    none))
+    (cond (eqb v 4) (some 0)
+    none)))
 
 -- "a version 1 file unpacks with an empty one added (one word more, 0 ..)": an empty section is its count alone
 abbrev pub withEmpty : ℕ → Verdict (List ℕ) → Verdict (List ℕ)

@@ -27,6 +27,7 @@ fn lack_of(version: u8) -> Lacking
         1 => Lacking::Sections(2),
         2 => Lacking::Sections(1),
         3 => Lacking::Sections(0),
+        4 => Lacking::Sections(0),
         _ => Lacking::NotNamed,
     }
 }

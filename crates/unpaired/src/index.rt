@@ -60,6 +60,8 @@ fn enter(part: &[u32], unpaired: &mut [u32], n: usize, i: usize)
 
 // Puts the records of n items from `from` on into the index, up to the first of another count. Such records make runs in a table: the place of
 // the next one is then known before the count of this one is read.
+// The promise only limits the result: every record before the place that is answered is in the index. How far it came is a matter of time alone:
+// `enter_all` goes on from that place, and no answer depends on it.
 fn enter_run(part: &[u32], unpaired: &mut [u32], n: usize, from: usize) -> usize
     requires { ⌜ Entering (now part) (now unpaired) from × (length (now part) ≤ 65535) ⌝ }
     ensures { λ r. ⌜ Entering (now (part .entry)) (now (unpaired .exit)) r × (from ≤ r) ⌝ }

@@ -35,7 +35,7 @@ impl Refusal {
     pub const fn place_is(&self) -> Place {
         match self.number {
             4 | 5 => Place::Codepoint,
-            6..=14 | 17 => Place::Label,
+            6..=14 | 16 | 17 => Place::Label,
             30 => Place::Byte,
             _ => Place::Nothing,
         }
@@ -59,6 +59,7 @@ impl Refusal {
             13 => "too many or equal nonspacing marks together",
             14 => "the label looks like another one",
             15 => "the answer buffer is too small",
+            16 => "a character with marks that its script group does not list",
             17 => "the label is of a restricted script group",
             20 => "the table file has another version",
             21 => "the table file has a wrong length",
@@ -109,6 +110,7 @@ mod tests {
         assert_eq!(text(5, 2), "refusal 5 at codepoint 2: a codepoint that names may not have");
         assert_eq!(text(6, 1), "refusal 6 in label 1: an empty label");
         assert_eq!(text(15, 0), "refusal 15: the answer buffer is too small");
+        assert_eq!(text(16, 1), "refusal 16 in label 1: a character with marks that its script group does not list");
         assert_eq!(text(30, 3), "refusal 30 at byte 3: bytes that are no UTF-8");
     }
 }

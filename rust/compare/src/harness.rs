@@ -96,7 +96,7 @@ impl fmt::Display for CallCounts {
 }
 
 /// What the calls can refuse, and the rules that the check can name.
-const REFUSALS: std::ops::RangeInclusive<u32> = 1..=15;
+const REFUSALS: std::ops::RangeInclusive<u32> = 1..=16;
 const UNPACK_REFUSALS: std::ops::RangeInclusive<u32> = 20..=22;
 const RULES: std::ops::RangeInclusive<u32> = 0..=plain::soundness::LAST_RULE;
 

@@ -4,6 +4,7 @@
 pub mod again;
 pub mod engine;
 pub mod harness;
+pub mod lists;
 pub mod older;
 pub mod plain_engine;
 pub mod screens;
@@ -13,6 +14,7 @@ pub mod tiny;
 pub use again::{check_again, check_joining};
 pub use engine::Engine;
 pub use harness::{compare, compare_all, compare_over, say, Counts, Report, Settings};
+pub use lists::check_lists;
 pub use older::check_older;
 pub use plain_engine::{Indexed, Passed, Plain, Slow};
 pub use tally::Tally;

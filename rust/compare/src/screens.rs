@@ -72,7 +72,7 @@ impl Met {
     /// What was reached too seldom.
     pub fn missing(&self) -> Vec<String> {
         let mut asked: Vec<(String, u64, u64)> =
-            (1..=15).chain([17]).map(|n| (format!("refusal {n}"), self.refused.of(n), 500)).collect();
+            (1..=17).map(|n| (format!("refusal {n}"), self.refused.of(n), 500)).collect();
         let counts = [
             ("accepted", self.accepted, 25_000),
             ("39E", self.capital, 2_000),

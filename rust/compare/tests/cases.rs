@@ -394,8 +394,23 @@ fn layout_cases() {
     assert!(!holds(&|b| b.classes.push((2, 1, 0))));
     assert!(holds(&|b| b.classes.push((2, 0xFFFF_FFFF, 255))));
     assert!(!holds(&|b| b.classes.push((2, 3, 256))));
-    assert!(holds(&|b| b.groups.push((3, vec![]))));
-    assert!(!holds(&|b| b.groups.push((4, vec![]))));
+    for (flags, passes) in [(3, true), (4, false), (5, false), (6, true), (7, true), (8, false), (10, false)] {
+        assert_eq!(holds(&|b| b.groups.push((flags, vec![]))), passes, "flags {flags}");
+    }
+    // 02, Item 12: lists.
+    let list = |list: &[Vec<u32>]| {
+        holds(&|b| {
+            b.lists.insert(b.groups.len(), list.to_vec());
+            b.groups.push((6, vec![(0x61, 0x61)]));
+            b.groups.push((0, vec![]));
+        })
+    };
+    for (count, passes) in [(0, true), (1, true), (64, true), (65, false)] {
+        assert_eq!(list(&vec![vec![0x61, 0x300]; count]), passes, "{count} records");
+    }
+    for (count, passes) in [(0, false), (1, false), (2, true), (8, true), (9, false)] {
+        assert_eq!(list(&[vec![0x61, 0x300], vec![0x61; count]]), passes, "{count} items");
+    }
     assert!(holds(&|b| b.groups.resize(256, (0, vec![]))));
     assert!(!holds(&|b| b.groups.resize(257, (0, vec![]))));
     assert!(holds(&|b| b.wholes.push((vec![], vec![]))));
@@ -467,16 +482,18 @@ fn unpack_cases() {
     assert_eq!(run(&[], 3), no(21));
     assert_eq!(run(&[1], 3), no(21));
     assert_eq!(run(&[0], 3), no(20));
-    assert_eq!(run(&[4, 9, 9], 3), no(20), "a wrong version with a wrong length");
+    assert_eq!(run(&[5, 9, 9], 3), no(20), "a wrong version with a wrong length");
     assert_eq!(run(&[2], 3), no(21));
     assert_eq!(run(&[3], 3), no(21));
+    assert_eq!(run(&[4], 3), no(21));
     assert_eq!(run(&[1, 0, 0, 0], 3), no(21));
     assert_eq!(run(&[1, 0, 0, 0, 0], 3), (Ok(2), vec![0, 0]));
     assert_eq!(run(&[1, 0, 0, 0, 0], 1), no(22), "room for one of the words that are added");
     assert_eq!(run(&[2, 0, 0, 0, 0], 3), (Ok(1), vec![0]));
     assert_eq!(run(&[2, 0, 0, 0, 0], 0), no(22), "no room for the word that is added");
     assert_eq!(run(&[3, 0, 0, 0, 0], 0), (Ok(0), vec![]));
-    for version in [0, 4, 5, 255] {
+    assert_eq!(run(&[4, 0, 0, 0, 0], 0), (Ok(0), vec![]));
+    for version in [0, 5, 6, 255] {
         assert_eq!(run(&[version, 0, 0, 0, 0], 3), no(20));
     }
     assert_eq!(run(&[1, 0, 0, 0, 0, 7], 3), no(21));
@@ -560,6 +577,12 @@ fn each_soundness_rule_alone() {
     alone(1, &|b| b.mapped.push((0xD800, vec![0x61])));
     alone(1, &|b| b.classes.push((0xE000, 0x110000, 0)));
     alone(1, &|b| b.emoji.push(vec![0xFFFF_FFFF]));
+    for sequence in [vec![0xD800, 0x300], vec![0x561, 0x300, 0x11_0000]] {
+        alone(1, &|b| {
+            b.groups[WHITELISTED].0 = 6;
+            b.lists.insert(WHITELISTED, vec![vec![0x561, 0x300], sequence.clone()]);
+        });
+    }
     alone(1, &|b| b.decompositions.push((0x1234, vec![0xD800])));
     // 2, in both directions
     alone(2, &|b| b.valid.push((0x12345, 0x12345)));

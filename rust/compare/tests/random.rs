@@ -1,7 +1,8 @@
 //! The random comparison and demand 3, on the plain engine.
 
 use compare::screens::{check_coming_back, check_screens, indexed, plain_normal, plainly};
-use compare::{check_again, check_joining, check_older, check_tiny, compare, compare_all, compare_over, say};
+use compare::{check_again, check_joining, check_lists, check_older, check_tiny};
+use compare::{compare, compare_all, compare_over, say};
 use compare::{Indexed, Passed, Plain, Settings, Slow};
 use gen::Rng;
 use plain::{parse, Index, Lookup, Pass, Table};
@@ -32,6 +33,12 @@ fn disturbed_sections() {
     let report = compare_over(&Slow, &[&Plain, &Passed], &settings, gen::disturbed::disturbed_table);
     report.show();
     assert!(report.counts.differences == 0 && 4 * report.counts.with_rules > report.counts.lengthened_names);
+}
+
+/// Groups with lists (02, Item 12), with a second check.
+#[test]
+fn lists_of_sequences() {
+    check_lists(&Slow, &[&Plain, &Passed, &Indexed], 12_000_000, 400);
 }
 
 /// Small tables: what the pass finds of rules 6 to 8 is so, and nothing differs.
@@ -139,7 +146,18 @@ fn looks_up_alike(table: &Table, other: &impl Lookup, words: &[u32], rng: &mut R
         assert_eq!(table.whole_of(c), other.whole_of(c), "seed {seed}, {c:X}");
         assert_eq!(table.should_escape(c), other.should_escape(c), "seed {seed}, {c:X}");
         for group in 0..table.group_count().min(20) {
+            assert_eq!(table.group_flags(group), other.group_flags(group), "seed {seed}");
             assert_eq!(table.group_holds(group, c), other.group_holds(group, c), "seed {seed}, {c:X}");
+        }
+    }
+    for (number, group) in table.groups.iter().enumerate() {
+        for sequence in group.list.iter().flatten().copied() {
+            let shorter = &sequence[..sequence.len() - 1];
+            let longer = [sequence, &sequence[1..]].concat();
+            for asked in [sequence, shorter, &longer] {
+                let lists = table.group_lists(number, asked);
+                assert_eq!(lists, other.group_lists(number, asked), "seed {seed}, group {number}, {asked:X?}");
+            }
         }
     }
     for r in &table.decompositions {

@@ -163,7 +163,7 @@ fn matching_takes_the_most_and_the_first() {
     assert_eq!(found(&[0x1F468, 0x62, FE0F]), Some((2, 2)));
     assert_eq!(found(&[0x61, 0x63]), None);
     assert_eq!(found(&[]), None);
-    // Emoji come before valid, plain ASCII sequences too, and skip 8 to 14.
+    // Emoji come before valid, plain ASCII sequences too, and skip 8 to 14 and 16.
     assert_eq!(run(&b, &[0x61, 0x62]), Ok((vec![0x61, 0x62], Kind::Emoji)));
 }
 

@@ -1,7 +1,7 @@
 //! Wrong engines: the comparison finds each of them different.
 
 use compare::screens::{both, compare_screens, plainly, Asked};
-use compare::{compare, say, Engine, Plain, Settings};
+use compare::{compare, compare_over, say, Engine, Plain, Report, Settings};
 use plain::label::{self, Finished};
 use plain::limits::{INPUT, WORKED, WORK_WORDS};
 use plain::soundness::LAST_RULE;
@@ -51,11 +51,38 @@ wrongs! {
     FirstMatch,
     FiveRounds,
     EightOverText,
+    // Of a group's list.
+    ShorterForLonger,
+    ListOfDecomposed,
+    SixteenBeforeTwelve,
+    SixteenAfterFourteen,
+    OneMarkNotAsked,
+    EmptyListNotAsked,
+    LastRecordNotAsked,
+    TriesLaterGroups,
+    ThirteenBesideSixteen,
+    ListOfNsm,
+    ListItemsHeld,
     RefusesEverything,
     CopiesItsInput,
     DoesNothing,
 }
 use Wrong::*;
+
+/// Those of a group's list, which few tables have.
+const OF_LISTS: [Wrong; 11] = [
+    ShorterForLonger,
+    ListOfDecomposed,
+    SixteenBeforeTwelve,
+    SixteenAfterFourteen,
+    OneMarkNotAsked,
+    EmptyListNotAsked,
+    LastRecordNotAsked,
+    TriesLaterGroups,
+    ThirteenBesideSixteen,
+    ListOfNsm,
+    ListItemsHeld,
+];
 
 /// The rules of one label put together anew from the parts of the plain
 /// version, with one thing wrong.
@@ -181,14 +208,28 @@ impl Assembled {
         if tokens.iter().any(|token| label::starts_with_mark(t, token)) {
             return Err(11);
         }
-        let holds = |g: &usize| text.iter().all(|&c| t.group_holds(*g, c));
+        let listed = |g: usize, c: u32| t.groups[g].list.iter().flatten().any(|s| s.contains(&c));
+        let held = |g: usize, c: u32| t.group_holds(g, c) || self.is(ListItemsHeld) && listed(g, c);
+        let holds = |g: &usize| text.iter().all(|&c| held(*g, c));
+        if self.is(SixteenBeforeTwelve) && (0..t.group_count()).any(|g| held(g, text[0]) && self.unlisted(t, g, &text))
+        {
+            return Err(16);
+        }
         let group = match self.0 {
             LastGroup => (0..t.group_count()).rev().find(holds),
+            TriesLaterGroups => {
+                let passes = |&g: &usize| holds(&g) && !self.unlisted(t, g, &text);
+                (0..t.group_count()).find(passes).or((0..t.group_count()).find(holds))
+            }
             _ => (0..t.group_count()).find(holds),
         };
         let group = group.ok_or(12u32)?;
         let flags = t.group_flags(group);
-        if flags & 2 == 0 {
+        let sixteen = self.unlisted(t, group, &text);
+        if sixteen && !self.is(SixteenAfterFourteen) {
+            return Err(16);
+        }
+        if flags & 2 == 0 || self.is(ThirteenBesideSixteen) && flags & 4 != 0 {
             let broken = match self.0 {
                 NsmPerToken => tokens.iter().any(|token| match token {
                     Finished::Text(c) => label::nsm_run_broken(t, &plain::nfd(t, c)),
@@ -208,7 +249,33 @@ impl Assembled {
         if self.confusable(t, &text) {
             return Err(14);
         }
+        if sixteen {
+            return Err(16);
+        }
         Ok(Kind::Group { number: group, restricted: flags & 1 != 0 })
+    }
+
+    /// 16: a run of marks with the character before it that the group's list lacks.
+    fn unlisted(&self, t: &Table, group: usize, text: &[u32]) -> bool {
+        let Some(list) = &t.groups[group].list else {
+            return false;
+        };
+        let list = match self.0 {
+            EmptyListNotAsked if list.is_empty() => return false,
+            LastRecordNotAsked if !list.is_empty() => &list[..list.len() - 1],
+            _ => &list[..],
+        };
+        let decomposed = plain::nfd(t, text);
+        let text = if self.is(ListOfDecomposed) { &decomposed[..] } else { text };
+        let is_mark = |c: u32| if self.is(ListOfNsm) { t.is_nsm(c) } else { t.is_mark(c) };
+        compare::lists::runs(is_mark, text).into_iter().any(|(start, end)| {
+            let run = &text[start - 1..end];
+            match self.0 {
+                OneMarkNotAsked if run.len() == 2 => false,
+                ShorterForLonger => !list.iter().any(|s| run.starts_with(s)),
+                _ => !list.contains(&run),
+            }
+        })
     }
 
     fn confusable(&self, t: &Table, text: &[u32]) -> bool {
@@ -406,6 +473,11 @@ fn settings() -> Settings {
     }
 }
 
+/// The same over tables that all have lists.
+fn over_lists(engine: Wrong) -> Report {
+    compare_over(&Plain, &[&Assembled(engine)], &settings(), gen::lists::made)
+}
+
 /// With nothing wrong the assembled engine is the plain one; and the source's
 /// early exit at a Unique character changes no answer.
 #[test]
@@ -415,6 +487,7 @@ fn nothing_wrong_is_found_equal() {
         let report = compare(&Plain, &Assembled(engine), &settings);
         assert_eq!(report.counts.differences, 0, "{:?}", report.differences);
     }
+    assert_eq!(over_lists(Nothing).counts.differences, 0);
 }
 
 wrongs! {
@@ -436,6 +509,9 @@ wrongs! {
     OneAddedToVersion1,
     EscapeNotScalar,
     QuickCheckNotScalar,
+    ListNotScalar,
+    FourNotKnown,
+    FiveKnown,
     LeavesWords,
 }
 
@@ -458,10 +534,11 @@ impl Engine for Checks {
         let hangul_pair = |r: &Record| matches!(*r.items, [a, b] if plain::text::hangul_composite(a, b).is_some());
         let judged = |rule: u32| match (self.0, rule) {
             (WrongCheck::EverySound, _) => false,
-            (WrongCheck::EscapeNotScalar | WrongCheck::QuickCheckNotScalar, 1) => {
+            (WrongCheck::EscapeNotScalar | WrongCheck::QuickCheckNotScalar | WrongCheck::ListNotScalar, 1) => {
                 let mut rest = table.to_builder();
                 match self.0 {
                     WrongCheck::EscapeNotScalar => rest.escape.clear(),
+                    WrongCheck::ListNotScalar => rest.lists.clear(),
                     _ => rest.quick_check.clear(),
                 }
                 let words = rest.to_words();
@@ -527,6 +604,14 @@ impl Engine for Checks {
                 Some(&version @ (1 | 2)) => right.map(|n| n + usize::from(version) - 3),
                 _ => right,
             },
+            WrongCheck::FourNotKnown if file.first() == Some(&4) => {
+                answer.fill(0);
+                refuse(20, 0)
+            }
+            WrongCheck::FiveKnown if file.first() == Some(&5) => {
+                let four = [&[4u8][..], &file[1..]].concat();
+                Plain.unpack(&four, answer)
+            }
             WrongCheck::OneAddedToVersion1 if file.first() == Some(&1) => right.map(|n| n - 1),
             WrongCheck::LeavesWords => {
                 let due = right.unwrap_or(0);
@@ -541,7 +626,7 @@ impl Engine for Checks {
 #[test]
 fn wrong_checks_are_found() {
     let settings =
-        Settings { tables: 300, names_per_table: 0, files_per_table: 4, more_soundness: 2_400, ..settings() };
+        Settings { tables: 300, names_per_table: 0, files_per_table: 4, more_soundness: 6_000, ..settings() };
     for &wrong in WRONG_CHECKS {
         let report = compare(&Plain, &Checks(wrong), &settings);
         say(format!("{wrong:?}: {} differences", report.counts.differences));
@@ -552,7 +637,10 @@ fn wrong_checks_are_found() {
 #[test]
 fn wrong_engines_are_found() {
     for &wrong in WRONGS {
-        let report = compare(&Plain, &Assembled(wrong), &settings());
+        let report = match OF_LISTS.contains(&wrong) {
+            true => over_lists(wrong),
+            false => compare(&Plain, &Assembled(wrong), &settings()),
+        };
         say(format!("{wrong:?}: {} differences", report.counts.differences));
         assert!(report.counts.differences >= 3, "{wrong:?} is hardly found");
         // A difference is printed with its seed, codepoints and words.

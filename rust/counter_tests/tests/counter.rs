@@ -179,7 +179,7 @@ fn table_files() {
     // Files that do not unpack.
     assert_eq!(run(Some(&[]), input), "bad\n");
     let mut version = small();
-    version[0] = 4;
+    version[0] = 5;
     assert_eq!(run(Some(&version), input), "bad\n");
     // A file of an older version, with the sections that it lacks added: in all of its bytes too.
     for version in [1, 2] {

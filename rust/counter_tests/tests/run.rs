@@ -95,7 +95,7 @@ fn run_lines(folder: &Path) -> (Option<i32>, String, String) {
 fn a_table_that_is_missing_or_no_table() {
     let folder = Folder::new();
     for (file, why) in
-        [(None, "No such file"), (Some(vec![4]), "another version"), (Some(vec![1; 40_000]), "40000 bytes")]
+        [(None, "No such file"), (Some(vec![5]), "another version"), (Some(vec![1; 40_000]), "40000 bytes")]
     {
         if let Some(file) = file {
             fs::write(folder.path().join("names.tab"), file).expect("a file");

@@ -169,7 +169,7 @@ mod tests {
         assert_eq!(said(plain::pack_as(1, &[])), "");
         assert_eq!(said(plain::pack_as(2, &[])), "");
         assert!(said(vec![0; FILE + 1]).contains("32769 bytes"));
-        assert!(said(vec![4]).contains("another version"));
+        assert!(said(vec![5]).contains("another version"));
         assert!(said(vec![1]).contains("wrong length"));
         assert!(table_fault(std::fs::read("/no/such/file")).is_some());
     }

@@ -95,7 +95,7 @@ fn at_codepoint(codepoints: &[u32], place: usize) -> Vec<String> {
     lines
 }
 
-/// The label of 6 to 14 and 17.
+/// The label of 6 to 14, 16 and 17.
 fn at_label(codepoints: &[u32], place: usize) -> Vec<String> {
     let mut labels = codepoints.split(|&c| c == STOP);
     let before: usize = labels.by_ref().take(place).map(|label| label.len() + 1).sum();

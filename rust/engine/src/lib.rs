@@ -45,7 +45,7 @@ impl Unpacked {
     }
 }
 
-/// Unpacks a table file, of version 1, 2 or 3. To one of version 1 two words are
+/// Unpacks a table file, of version 1 to 4. To one of version 1 two words are
 /// added and to one of version 2 one, the 0 of each section that it lacks: they
 /// are counted and need their room. Words past the table are zero; after a
 /// refusal all are.

@@ -244,7 +244,7 @@ fn half(seed: u64) {
         "{} calls, by number: {:?}; {} books filled, {} emptied",
         seen.calls, seen.numbers, seen.full, seen.emptied
     );
-    for number in (0..=15).chain([17]).chain(40..=45) {
+    for number in (0..=17).chain(40..=45) {
         assert!(seen.numbers[number] >= 500, "{number}: {} times", seen.numbers[number]);
     }
     assert!(seen.full >= 100 && seen.emptied >= 100, "{} filled, {} emptied", seen.full, seen.emptied);

@@ -2,7 +2,8 @@
 
 mod proved;
 
-use compare::{check_again, check_joining, check_older, compare, compare_over, Engine, Plain, Settings, Slow};
+use compare::{check_again, check_joining, check_lists, check_older};
+use compare::{compare, compare_over, Engine, Plain, Settings, Slow};
 use engine::{Refusal, Soundness};
 use gen::worst::DEEP;
 use plain::limits::{INPUT, WORKED, WORK_WORDS};
@@ -32,6 +33,13 @@ fn disturbed_sections() {
     let report = compare_over(&Plain, &[&Proved, &Slow], &settings, gen::disturbed::disturbed_table);
     report.show();
     assert!(report.counts.differences == 0 && report.counts.kept_labels > settings.tables / 2);
+}
+
+/// Groups with lists (02, Item 12): as the plain version, its slow ways and a
+/// second check.
+#[test]
+fn lists_of_sequences() {
+    check_lists(&Proved, &[&Plain, &Slow], 12_100_000, 400);
 }
 
 /// Demand 3, first half, run.

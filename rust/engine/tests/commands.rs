@@ -285,7 +285,7 @@ fn which_table() {
     std::fs::write(&table, plain::pack(&unsound.to_words())).expect("a file");
     let (status, told) = normalise(&["--table", path, "a/b"]);
     assert!(status == Some(0) && told.contains("commands.tab is not sound: rule 3"), "{told}");
-    std::fs::write(&table, [4]).expect("a file");
+    std::fs::write(&table, [5]).expect("a file");
     let (status, told) = normalise(&["--table", path, "a"]);
     assert!(status == Some(3) && told.contains("the table file has another version"), "{told}");
     assert_eq!(normalise(&["--table", "/no/such/file", "a"]).0, Some(3));

@@ -283,6 +283,8 @@ int main(void) {
     if (differs(wanlopheng_unpack(file, sizeof file, answer, 3), 22, 0)) return 104;
     if (differs(wanlopheng_unpack(file, sizeof file, answer, 4), 0, 4)) return 105;
     file[0] = 4;
+    if (differs(wanlopheng_unpack(file, sizeof file, answer, 2), 0, 2)) return 106;
+    file[0] = 5;
     if (differs(wanlopheng_unpack(file, sizeof file, answer, 4), 20, 0)) return 103;
     const uint32_t table[] = {0, 0, 0, 0, 0, 0, 0, 0, 1, 0, 0, 0, 0, 0, 0};
     const size_t words = sizeof table / sizeof table[0];

@@ -120,7 +120,7 @@ fn the_unit_refuses_a_table_at_boot() {
     let cases: [(Vec<u8>, &str); 3] = [
         (plain::pack(&unsound.to_words()), "not sound, rule 3"),
         (long, "the table file has a wrong length"),
-        (vec![4], "the table file has another version"),
+        (vec![5], "the table file has another version"),
     ];
     for (file, fault) in cases {
         std::fs::write(&table, file).expect("a file");

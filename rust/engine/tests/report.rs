@@ -117,7 +117,7 @@ fn random_names() {
         "report: calls {}, accepted {}, lines {}, of emoji {}, side by side {}, empty {}, with braces {}; refused{}",
         met.calls, met.accepted, met.lines, met.emoji, met.side_by_side, met.empty, met.braces, met.refused
     ));
-    for number in (1..=14).chain([17, 32]) {
+    for number in (1..=14).chain([16, 17, 32]) {
         assert!(met.refused.of(number) >= 500, "refusal {number}: {}", met.refused.of(number));
     }
     assert_eq!(met.refused.of(15), 0);

@@ -43,7 +43,7 @@ fn random_names_as_the_plain_version() {
     assert_eq!(seen[0][17], 0, "off");
     for on in &seen[1..] {
         assert_eq!(on, &seen[1], "0 is off, and all others are on alike");
-        assert!(on[17] >= 500 && on[0] >= 500 && on[16] == 0, "{on:?}");
+        assert!(on[17] >= 500 && on[0] >= 500 && on[16] >= 500, "{on:?}");
     }
 }
 

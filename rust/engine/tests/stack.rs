@@ -508,6 +508,31 @@ fn refusals_of_later_calls() {
     });
 }
 
+/// 16, which the full-size table never gives: a list that has the first sequence
+/// of a long text and lacks its last one.
+#[test]
+fn marks_that_a_list_lacks() {
+    let all = vec![(0x4E00, 0x9FFF), (0x300, 0x36F)];
+    let table = TableBuilder {
+        valid: all.clone(),
+        marks: vec![(0x300, 0x36F)],
+        groups: vec![(6, all)],
+        lists: [(0, vec![vec![0x4E00, 0x301, 0x302, 0x303]])].into(),
+        ..TableBuilder::default()
+    };
+    let words = table.to_words();
+    let name = [&[0x4E00, 0x301, 0x302, 0x303][..], &row(0x4E01, 200), &[0x9000, 0x30A, 0x30B]].concat();
+    let case = Case { what: "16", name, setting: 0, room: WORKED, number: 16 };
+    for call in [NAME, LABEL, NAMEHASH, SCREEN, REPORT, MOVED, RESPELLED, BYTES].iter().chain(&BOOK) {
+        let mut area = area_for(call, &case.name);
+        let (number, used, Traces { words, in_order }) = left_by(call, &case, &words, &mut area);
+        println!("{}, 16 ({number}): {words} words, {in_order} in order, {used} bytes", call.what);
+        assert_eq!(number, if call.what == MOVED.what { 0 } else { 16 }, "{}", call.what);
+        let limits = call.limits;
+        assert!(words <= limits.words && in_order <= limits.in_order && used <= limits.stack, "{}", call.what);
+    }
+}
+
 /// Where a text has the first item of a composition pair just before the
 /// codepoint that the pair becomes, as 438 439, composing has both in hand, and
 /// they do not stay side by side.

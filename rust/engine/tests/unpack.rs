@@ -44,7 +44,8 @@ fn one_byte() {
     refused(21, &[1]);
     refused(21, &[2]);
     refused(21, &[3]);
-    for version in (0..=255).filter(|v| ![1, 2, 3].contains(v)) {
+    refused(21, &[4]);
+    for version in (0..=255).filter(|v| ![1, 2, 3, 4].contains(v)) {
         refused(20, &[version]);
     }
 }
@@ -55,12 +56,13 @@ fn a_part_of_the_head_has_a_wrong_length() {
         refused(21, &file(1, 0, &[])[..length]);
         refused(21, &file(2, 0, &[])[..length]);
         refused(21, &file(3, 0, &[])[..length]);
+        refused(21, &file(4, 0, &[])[..length]);
     }
 }
 
 #[test]
 fn a_wrong_version_comes_before_a_wrong_length() {
-    for version in [0, 4, 5, 255] {
+    for version in [0, 5, 6, 255] {
         refused(20, &file(version, 0, &[]));
         refused(20, &file(version, 7, &[1, 2]));
     }
@@ -90,6 +92,7 @@ fn the_count_is_not_cut_to_32_bits() {
 fn no_words() {
     for room in [0, 1, 9] {
         given(&[], &file(3, 0, &[]), room);
+        given(&[], &file(4, 0, &[]), room);
     }
     for room in [2, 9] {
         given(&[0], &file(2, 0, &[]), room - 1);
@@ -103,6 +106,7 @@ fn no_words() {
 fn the_first_byte_of_a_word_is_the_highest() {
     let bytes = [0x12, 0x34, 0x56, 0x78, 0xFF, 0, 0, 1];
     given(&[0x1234_5678, 0xFF00_0001], &file(3, 2, &bytes), 2);
+    given(&[0x1234_5678, 0xFF00_0001], &file(4, 2, &bytes), 2);
     given(&[0x1234_5678, 0xFF00_0001, 0], &file(2, 2, &bytes), 3);
     given(&[0x1234_5678, 0xFF00_0001, 0, 0], &file(1, 2, &bytes), 4);
 }

@@ -261,7 +261,7 @@ fn the_byte_form_is_the_name_call_on_what_was_read() {
     }
     println!("by the refusal number: {seen:?}");
     assert!(seen[0] > 1_000 && seen[30] > 500 && seen[15] > 500 && seen[2] > 500 && seen[17] > 500, "{seen:?}");
-    assert_eq!((seen[4], seen[16]), (0, 0));
+    assert!(seen[4] == 0 && seen[16] > 100, "{seen:?}");
 }
 
 /// 3 is by the number of codepoints, however many there are; 1 and 2 come

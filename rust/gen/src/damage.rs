@@ -18,6 +18,9 @@ pub(crate) fn damage_values(rng: &mut Rng, b: &mut TableBuilder) {
             _ => a_list(rng, b.wholes.iter_mut().map(|w| &mut w.1)),
         }
     }
+    if !b.lists.is_empty() && rng.percent(30) {
+        a_list(rng, b.lists.values_mut().flatten().collect::<Vec<_>>().into_iter());
+    }
 }
 
 fn a_list<'a>(rng: &mut Rng, lists: impl ExactSizeIterator<Item = &'a mut Vec<u32>>) {
@@ -62,8 +65,12 @@ fn another(rng: &mut Rng, c: u32) -> u32 {
 /// An entry that layout refuses, and what it is called.
 type Entry = (&'static str, fn(&mut Rng, &mut TableBuilder));
 
-const ENTRIES: [Entry; 10] = [
+const ENTRIES: [Entry; 14] = [
     ("groups: flags 4", |_, b| b.groups.push((4, vec![]))),
+    ("groups: flags 5", |_, b| b.groups.push((5, vec![]))),
+    ("groups: flags 8", |rng, b| b.groups.push((rng.code(8, 15), vec![]))),
+    ("groups: 65 sequences", |_, b| put_list(b, vec![vec![0x61, 0x300]; 65])),
+    ("groups: sequences of 1 or 9", |rng, b| put_list(b, vec![vec![0x61; 2], vec![0x61; *rng.pick(&[1, 9])]])),
     ("groups: 257", |_, b| b.groups.resize(257, (0, vec![(0x61, 0x61)]))),
     ("classes: 256", |_, b| b.classes.push((0x300, 0x301, 256))),
     ("classes: first over last", |_, b| b.classes.push((0x301, 0x300, 230))),
@@ -75,15 +82,28 @@ const ENTRIES: [Entry; 10] = [
     ("decompositions: 0 or 5 items", |rng, b| b.decompositions.push((0x1EFC, vec![0x61; *rng.pick(&[0, 5])]))),
 ];
 
+/// One more group, with this list.
+fn put_list(b: &mut TableBuilder, list: Vec<Vec<u32>>) {
+    b.lists.insert(b.groups.len(), list);
+    b.groups.push((6, vec![(0x61, 0x61)]));
+}
+
+/// Groups at the end of their section whose list is cut.
+const CUT_LISTS: [&[u32]; 4] = [&[6, 0], &[6, 0, 1], &[7, 0, 2, 2, 0x61, 0x300], &[6, 0, 1, 3, 0x61, 0x300]];
+
 /// The words of this table with their layout broken, mostly, and how.
 pub(crate) fn damaged_words(rng: &mut Rng, b: &TableBuilder) -> (&'static str, Vec<u32>) {
     const WORDS: usize = 5;
-    let way = rng.below(WORDS + ENTRIES.len() + 1);
+    let way = rng.below(WORDS + ENTRIES.len() + 2);
     if way < WORDS {
         return damaged_word(rng, b.to_words(), way);
     }
     let Some((what, put)) = ENTRIES.get(way - WORDS) else {
         let mut sections = b.sections();
+        if way > WORDS + ENTRIES.len() {
+            sections[10].extend(*rng.pick(&CUT_LISTS));
+            return ("groups: a list past the section", join_sections(&sections));
+        }
         rng.pick_mut(&mut sections).push(0);
         return ("a section: one word more", join_sections(&sections));
     };

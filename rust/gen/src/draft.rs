@@ -1,5 +1,6 @@
 //! Drafts of sound tables, section by section.
 
+use crate::lists::put_lists;
 use crate::pools::*;
 use crate::rng::Rng;
 use plain::lookup::is_composition_pair;
@@ -43,6 +44,10 @@ pub(crate) fn draft(rng: &mut Rng) -> TableBuilder {
     wholes(rng, &mut d);
     escape(rng, &mut d);
     quick_check(&mut d);
+    let rng = &mut Rng::new(mixed(&d.b));
+    if rng.percent(25) {
+        put_lists(rng, &mut d.b);
+    }
     // Most tables as the maker writes them: every section sorted.
     if mixed(&d.b) % 5 < 3 {
         sort_sections(&mut d.b);

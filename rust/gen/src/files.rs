@@ -7,10 +7,11 @@ pub fn file(rng: &mut Rng, words: &[u32]) -> (Vec<u8>, usize) {
     let words = if rng.percent(60) { &words[..rng.below(words.len().min(12) + 1)] } else { words };
     let mut file = plain::pack(words);
     file[0] = match rng.below(20) {
-        0..=3 => *rng.pick(&[0, 4, 5, 255, 128]),
+        0..=3 => *rng.pick(&[0, 6, 5, 255, 128]),
         4..=8 => 1,
         9..=13 => 2,
-        _ => 3,
+        14..=16 => 3,
+        _ => 4,
     };
     match rng.below(10) {
         0 => file.truncate(rng.below(file.len() + 1)),

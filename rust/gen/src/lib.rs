@@ -5,6 +5,7 @@ mod damage;
 pub mod disturbed;
 mod draft;
 pub mod files;
+pub mod lists;
 pub mod names;
 mod pools;
 pub mod rng;

@@ -1,5 +1,6 @@
 //! Random names that use what a table has.
 
+use crate::lists::{listed, Listed};
 use crate::rng::Rng;
 use plain::limits::{INPUT, WORKED};
 use plain::{TableBuilder, FE0F, STOP};
@@ -18,6 +19,8 @@ pub struct Vocabulary {
     marks: Vec<u32>,
     emoji: Vec<Vec<u32>>,
     confused: Vec<u32>,
+    /// Groups with lists.
+    listed: Vec<Listed>,
     /// Everything that the table names.
     any: Vec<u32>,
 }
@@ -78,6 +81,7 @@ impl Vocabulary {
             marks,
             emoji: b.emoji.clone(),
             confused: b.wholes.iter().flat_map(|w| w.1.iter().copied()).collect(),
+            listed: listed(b),
             any,
         }
     }
@@ -92,7 +96,7 @@ impl Vocabulary {
 
     /// Appends a spelling of `c`: itself, a mapping that gives it, or what it
     /// decomposes to.
-    fn spell(&self, rng: &mut Rng, c: u32, deep: u32, out: &mut Vec<u32>) {
+    pub(crate) fn spell(&self, rng: &mut Rng, c: u32, deep: u32, out: &mut Vec<u32>) {
         match rng.below(10) {
             0..=3 => out.push(c),
             4..=6 => match self.mapped.iter().find(|m| m.1 == [c]) {
@@ -111,7 +115,7 @@ impl Vocabulary {
     }
 
     /// Appends an emoji with each FE0F there or not.
-    fn an_emoji(&self, rng: &mut Rng, out: &mut Vec<u32>) {
+    pub(crate) fn an_emoji(&self, rng: &mut Rng, out: &mut Vec<u32>) {
         if self.emoji.is_empty() {
             out.push(0x1F4A9);
             return;
@@ -185,6 +189,10 @@ impl Vocabulary {
 
     /// One label, now and then empty.
     pub fn label(&self, rng: &mut Rng) -> Vec<u32> {
+        if !self.listed.is_empty() && rng.percent(30) {
+            let of = rng.pick(&self.listed);
+            return self.compound_label(rng, of);
+        }
         let mut out = Vec::new();
         if rng.percent(1) {
             return out;

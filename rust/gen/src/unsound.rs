@@ -4,6 +4,7 @@
 use crate::draft::needs_quick_check;
 use crate::pools::*;
 use crate::rng::Rng;
+use plain::limits::SEQUENCES;
 use plain::tokens::strip;
 use plain::{TableBuilder, FE0F, STOP};
 use std::collections::HashSet;
@@ -49,7 +50,7 @@ fn put_in<T>(rng: &mut Rng, list: &mut Vec<T>, entry: T) {
     list.insert(at, entry);
 }
 
-const RULE_1: [Way; 14] = [
+const RULE_1: [Way; 15] = [
     ("ignored: no scalar value", |_, b, s| b.ignored.push((s.no_scalar, s.no_scalar))),
     ("classes: no scalar value", |_, b, s| b.classes.push((s.no_scalar, s.no_scalar.max(0xE000), 230))),
     ("mapped: head no scalar value", |_, b, s| b.mapped.push((s.no_scalar, vec![s.valid]))),
@@ -65,6 +66,12 @@ const RULE_1: [Way; 14] = [
     ("should-escape: no scalar value", |_, b, s| b.escape.push((s.no_scalar, s.no_scalar))),
     ("quick-check: no scalar value", |_, b, s| b.quick_check.push((s.no_scalar, s.no_scalar))),
     ("groups: no scalar value", |_, b, s| b.groups[0].1.push((s.no_scalar, s.no_scalar))),
+    ("groups: an item of a list no scalar value", |rng, b, s| {
+        b.groups[0].0 |= 6;
+        let list = b.lists.entry(0).or_default();
+        list.truncate(SEQUENCES as usize - 1);
+        put_in(rng, list, vec![s.valid, s.no_scalar]);
+    }),
     ("NSM: surrogates within a pair", |_, b, _| b.nsm.push((0xD000, 0xE000))),
     ("mapped: a valid item that is no scalar value", |rng, b, s| {
         b.mapped.push((s.valid.wrapping_add(0x20), vec![s.no_scalar, s.valid]));

@@ -127,6 +127,7 @@ pub fn in_random_order(table: TableBuilder) -> TableBuilder {
         exclusions: shuffled(table.exclusions),
         classes: shuffled(table.classes),
         groups: table.groups.into_iter().map(|(flags, pairs)| (flags, shuffled(pairs))).collect(),
+        lists: table.lists,
         wholes: shuffled(table.wholes),
         escape: shuffled(table.escape),
         quick_check: shuffled(table.quick_check),

@@ -95,6 +95,27 @@ fn ascending<T: Ord + Clone>(entries: &[T]) -> Vec<T> {
     out
 }
 
+/// 02, Item 12: the compound sequences are in NFC, by these files.
+pub fn check_lists(spec: &Spec, nf: &Nf) -> Result<(), String> {
+    let words = make_nf(nf).to_words();
+    let table = plain::layout(&words).map_err(|fault| format!("{}: {}", fault.section, fault.what))?;
+    let index = plain::Index::new(&table);
+    let hex = |text: &[u32]| text.iter().map(|c| format!("{c:X}")).collect::<Vec<_>>().join(" ");
+    for group in &spec.groups {
+        for sequence in group.list.iter().flatten() {
+            let form = plain::nfc(&index, sequence);
+            if form != *sequence {
+                let (given, due) = (hex(sequence), hex(&form));
+                return Err(format!(
+                    "group {}: the compound sequence {given} is not in NFC, which is {due}",
+                    group.name
+                ));
+            }
+        }
+    }
+    Ok(())
+}
+
 /// The table of these two files, with every section sorted, so that it can be
 /// searched by halves.
 pub fn make(spec: &Spec, nf: &Nf) -> TableBuilder {
@@ -110,6 +131,7 @@ pub fn make(spec: &Spec, nf: &Nf) -> TableBuilder {
         exclusions: ascending(&nf.exclusions),
         classes: classes(&nf.ranks),
         groups: spec.groups.iter().map(|g| (g.flags(), pairs(g.characters.iter().copied()))).collect(),
+        lists: spec.groups.iter().enumerate().filter_map(|(i, g)| Some((i, g.list.clone()?))).collect(),
         wholes: spec.wholes.iter().map(|w| (w.valid.clone(), w.confused.clone())).collect(),
         escape: pairs(spec.escape.iter().copied()),
         quick_check: pairs(nf.qc.iter().copied()),

@@ -1,6 +1,7 @@
 //! The published shapes of `spec.json` and `nf.json`.
 
 use crate::json::{self, Value};
+use plain::limits::{LEAST_RUN, MOST_RUN, SEQUENCES};
 use std::collections::HashMap;
 
 #[derive(Clone, Debug, PartialEq, Eq)]
@@ -10,12 +11,14 @@ pub struct Group {
     pub whitelisted: bool,
     /// Primary and secondary.
     pub characters: Vec<u32>,
+    /// The compound sequences, where there are some.
+    pub list: Option<Vec<Vec<u32>>>,
 }
 
 impl Group {
-    /// 1 is restricted, 2 is CM whitelisted.
+    /// 1 is restricted, 2 is CM whitelisted, 4 has a list.
     pub fn flags(&self) -> u32 {
-        u32::from(self.restricted) + 2 * u32::from(self.whitelisted)
+        u32::from(self.restricted) + 2 * u32::from(self.whitelisted) + 4 * u32::from(self.list.is_some())
     }
 }
 
@@ -120,16 +123,32 @@ fn group(v: &Value) -> Result<Group, String> {
         None | Some(Value::Null) => false,
         Some(flag) => flag.boolean().ok_or("restricted is no boolean")?,
     };
-    // ENSIP-15: CM whitelisted is effectively true where "cm" is []. A list with
-    // compound sequences is more than a table can say.
-    let whitelisted = match v.get("cm") {
-        None | Some(Value::Null) => false,
-        Some(cm) if list(cm, "cm")?.is_empty() => true,
-        Some(_) => return Err(format!("group {name} has compound sequences, which a table cannot hold")),
+    // ENSIP-15: CM whitelisted is effectively true where "cm" is []. As a list that
+    // would refuse every mark, so it is none.
+    let cm = match v.get("cm") {
+        None | Some(Value::Null) => None,
+        Some(cm) => Some(compounds(cm).map_err(|fault| format!("group {name}: {fault}"))?),
     };
     let mut characters = codepoints(key(v, "primary")?, "primary")?;
     characters.extend(codepoints(key(v, "secondary")?, "secondary")?);
-    Ok(Group { name, restricted, whitelisted, characters })
+    let whitelisted = cm.is_some();
+    let list = cm.filter(|list| !list.is_empty());
+    Ok(Group { name, restricted, whitelisted, characters, list })
+}
+
+/// The compound sequences of a group, as many and as long as a table takes them.
+fn compounds(v: &Value) -> Result<Vec<Vec<u32>>, String> {
+    let list = rows(v, "cm", |r| {
+        let items = codepoints(r, "compound sequence")?;
+        if (LEAST_RUN..=MOST_RUN).contains(&(items.len() as u32)) {
+            return Ok(items);
+        }
+        Err(format!("a compound sequence of {} codepoints; a table takes {LEAST_RUN} to {MOST_RUN}", items.len()))
+    })?;
+    if list.len() > SEQUENCES as usize {
+        return Err(format!("cm: {} compound sequences; a table takes {SEQUENCES}", list.len()));
+    }
+    Ok(list)
 }
 
 fn whole(v: &Value) -> Result<Whole, String> {
@@ -218,11 +237,33 @@ mod tests {
         assert_eq!(spec.escape, [173, 8204]);
     }
 
+    /// 02, Item 12: with a list flags 2 and 4, with an empty one 2 alone.
+    #[test]
+    fn reads_compound_sequences() {
+        let groups = |cm: &str| Spec::read(&SPEC.replace("\"cm\":[]", cm)).unwrap().groups;
+        let flags_and_list = |cm: &str| (groups(cm)[0].flags(), groups(cm)[0].list.clone());
+        assert_eq!(flags_and_list("\"cm\":[]"), (2, None));
+        assert_eq!(flags_and_list("\"cm\":null"), (0, None));
+        assert_eq!(flags_and_list("\"other\":1"), (0, None));
+        let longest = [&[98][..], &[768; 7]].concat();
+        let listed = format!("\"cm\":[[98,768],[98{}]]", ",768".repeat(7));
+        assert_eq!(flags_and_list(&listed), (6, Some(vec![vec![98, 768], longest])));
+        assert_eq!(flags_and_list("\"restricted\":true,\"cm\":[[98,768]]").0, 7);
+        let most = format!("\"cm\":[{}]", vec!["[98,768]"; 64].join(","));
+        assert_eq!(flags_and_list(&most).1.map(|list| list.len()), Some(64));
+    }
+
     #[test]
     fn refuses_what_a_table_cannot_hold() {
         let with = |old: &str, new: &str| Spec::read(&SPEC.replace(old, new)).unwrap_err();
         assert!(with("\"nsm_max\":4", "\"nsm_max\":5").contains("nsm_max"));
-        assert!(with("\"cm\":[]", "\"cm\":[[97,768]]").contains("compound"));
+        assert!(with("\"cm\":[]", "\"cm\":[[97,768],[97]]")
+            .contains("group A: cm, row 1: a compound sequence of 1 codepoints; a table takes 2 to 8"));
+        let nine = format!("\"cm\":[[97{}]]", ",768".repeat(8));
+        assert!(with("\"cm\":[]", &nine).contains("cm, row 0: a compound sequence of 9 codepoints"));
+        let many = format!("\"cm\":[{}]", vec!["[97,768]"; 65].join(","));
+        assert!(with("\"cm\":[]", &many).contains("group A: cm: 65 compound sequences; a table takes 64"));
+        assert!(with("\"cm\":[]", "\"cm\":[97]").contains("compound sequence: a list is expected"));
         assert!(with("[[65,[97]]]", "[[65,[]]]").contains("row 0"));
         assert!(with("\"ignored\":[173],", "").contains("ignored"));
         assert!(with("[173]", "[-1]").contains("codepoint"));

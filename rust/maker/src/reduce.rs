@@ -106,6 +106,9 @@ impl Reduction {
         }
         for group in &mut out.groups {
             group.characters.retain(|&c| !holds(&self.drop, c));
+            // No text of the group has the others; a list of none still refuses all marks.
+            let kept: BTreeSet<u32> = group.characters.iter().copied().collect();
+            group.list.iter_mut().for_each(|list| list.retain(|s| s.iter().all(|c| kept.contains(c))));
         }
 
         // Valid follows from the groups; every character of a text is valid, so

@@ -97,6 +97,41 @@ fn a_small_table_word_by_word() {
     assert_eq!(std::fs::read_to_string(out.with_extension("groups")).unwrap(), "Latin\nOther\n");
 }
 
+/// 02, Item 12: a list of compound sequences makes flags 6 and a file of version 4; the same with an empty list, or
+/// none, makes one of version 3.
+#[test]
+fn compound_sequences() {
+    let good = small_spec("[65, [97]]");
+    let groups = |name: &str, cm: &str| {
+        let (run, out) = run_small(name, &good.replace("\"cm\": []", cm));
+        assert_eq!(run.status.code(), Some(0), "{}", String::from_utf8_lossy(&run.stderr));
+        let file = std::fs::read(&out).unwrap();
+        let words: Vec<u32> = file[5..].chunks(4).map(|b| u32::from_be_bytes([b[0], b[1], b[2], b[3]])).collect();
+        let builder = plain::parse(&words).unwrap().to_builder();
+        (file[0], builder.sections()[10].clone())
+    };
+    let latin = [6, 0x61, 0x63, 0xE0, 0xE0, 0x2019, 0x2019];
+    let other = [1, 2, 0x430, 0x430];
+    let list = [2, 2, 0x62, 0x300, 3, 0xE0, 0x300, 0x300];
+    assert_eq!(groups("no-cm", "\"x\": 0"), (3, [&[0][..], &latin, &other].concat()));
+    assert_eq!(groups("cm", "\"cm\": []"), (3, [&[2][..], &latin, &other].concat()));
+    let listed = "\"cm\": [[98, 768], [224, 768, 768]]";
+    assert_eq!(groups("list", listed), (4, [&[6][..], &latin, &list, &other].concat()));
+    let restricted = format!("\"restricted\": true, {listed}");
+    assert_eq!(groups("restricted", &restricted), (4, [&[7][..], &latin, &list, &other].concat()));
+    // A cut keeps what the group still holds, and its list, though it has none left.
+    let cut = |name: &str, drop: &str| {
+        let files = [temporary("list-spec.json"), temporary("list-nf.json"), temporary(name)];
+        let run = maketable(&["--drop", drop, path(&files[0]), path(&files[1]), path(&files[2])]);
+        assert_eq!(run.status.code(), Some(0), "{}", String::from_utf8_lossy(&run.stderr));
+        let file = std::fs::read(&files[2]).unwrap();
+        let words: Vec<u32> = file[5..].chunks(4).map(|b| u32::from_be_bytes([b[0], b[1], b[2], b[3]])).collect();
+        (file[0], plain::parse(&words).unwrap().to_builder().lists)
+    };
+    assert_eq!(cut("cut-list.tab", "E0").0, 4);
+    assert_eq!(cut("cut-list.tab", "E0").1, [(0, vec![])].into());
+}
+
 #[test]
 fn names_the_rule_and_the_entry() {
     let (run, _) = run_small("unsound", &small_spec("[65, [97]], [66, [33]]"));
@@ -118,6 +153,7 @@ fn refuses_what_it_cannot_read() {
 #[test]
 fn faults_have_their_place() {
     let good = small_spec("[65, [97]]");
+    let cm = |list: &str| good.replace("\"cm\": []", &format!("\"cm\": [{list}]"));
     let many: Vec<String> = (0..50_000).map(|i| format!("[{}, [97]]", 0x20000 + i)).collect();
     let specs = [
         (format!("\u{FEFF}{good}"), "spec.json: line 1: a byte order mark"),
@@ -127,6 +163,10 @@ fn faults_have_their_place() {
         (small_spec(&many.join(",")), "more than a table may have; the largest section is mapped, with 150000"),
         (good.replace("\"ignored\": [173],", ""), "spec.json: ignored is missing"),
         (good.replace("[173]", "[173, -1]"), "spec.json: ignored: a codepoint is expected"),
+        (cm("[98]"), "spec.json: groups, row 0: group Latin: cm, row 0: a compound sequence of 1 codepoints; a table takes 2 to 8"),
+        (cm(&format!("[98{}]", ", 768".repeat(8))), "cm, row 0: a compound sequence of 9 codepoints; a table takes 2 to 8"),
+        (cm(&["[98, 768]"; 65].join(",")), "group Latin: cm: 65 compound sequences; a table takes 64"),
+        (cm("[98, 768], [97, 768]"), "spec.json: group Latin: the compound sequence 61 300 is not in NFC, which is E0"),
     ];
     for (i, (spec, place)) in specs.iter().enumerate() {
         let (run, out) = run_small(&format!("fault-{i}"), spec);

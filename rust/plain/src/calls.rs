@@ -72,7 +72,7 @@ pub fn judge_name(t: &impl Lookup, name: &[u32]) -> Result<Vec<LabelForm>, Refus
 }
 
 /// A name over a table that is already read: its labels in order, or the
-/// first of 3 to 14 and 17 that applies.
+/// first of 3 to 14, 16 and 17 that applies.
 pub fn judge_name_with(t: &impl Lookup, setting: u32, name: &[u32]) -> Result<Vec<LabelForm>, Refusal> {
     check_input(name)?;
     if name.is_empty() {
@@ -101,7 +101,7 @@ pub fn judge_label(t: &impl Lookup, label: &[u32]) -> Result<LabelForm, Refusal>
 }
 
 /// One label over a table that is already read: its form, or the first of 3
-/// to 14 and 17 that applies. 01: "The label call gives 5 for a 2E, which no emoji
+/// to 14, 16 and 17 that applies. 01: "The label call gives 5 for a 2E, which no emoji
 /// match covers there": the part before the first 2E is walked, and its
 /// leftmost 5 is given, else 5 at that 2E.
 pub fn judge_label_with(t: &impl Lookup, setting: u32, label: &[u32]) -> Result<LabelForm, Refusal> {

@@ -1,6 +1,7 @@
 //! 01, "The table": a version byte, a count of words, the words, all
-//! big-endian, and nothing after. 02, Items 9 and 11: the versions.
+//! big-endian, and nothing after. 02, Items 9, 11 and 12: the versions.
 
+use crate::table::{parse, Table};
 use answers::Refusal;
 
 /// How many sections a file of this version lacks; none for versions not yet
@@ -9,7 +10,7 @@ fn lacking(version: u8) -> Option<usize> {
     match version {
         1 => Some(2),
         2 => Some(1),
-        3 => Some(0),
+        3 | 4 => Some(0),
         _ => None,
     }
 }
@@ -50,9 +51,20 @@ pub fn unpack(file: &[u8], answer: &mut [u32]) -> Result<usize, Refusal> {
     Ok(words.len())
 }
 
-/// The file of these words, of the last version.
+/// The version of a file of these words: 4 where a group has a list, which an
+/// engine of version 3 would not know, else 3.
+pub fn version(words: &[u32]) -> u8 {
+    let lists = |t: Table| t.groups.iter().any(|g| g.list.is_some());
+    if parse(words).is_some_and(lists) {
+        4
+    } else {
+        3
+    }
+}
+
+/// The file of these words, of their version.
 pub fn pack(words: &[u32]) -> Vec<u8> {
-    pack_as(3, words)
+    pack_as(version(words), words)
 }
 
 /// The same with another version byte.

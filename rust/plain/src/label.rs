@@ -1,4 +1,4 @@
-//! 01, "The rules of one label", with the refusals 5 to 14.
+//! 01, "The rules of one label", with the refusals 5 to 14 and 16.
 
 use crate::limits;
 use crate::lookup::Lookup;
@@ -43,7 +43,7 @@ pub struct LabelForm {
 pub enum LabelFault {
     /// 5, with the index in the label.
     Disallowed(usize),
-    /// 6 to 14.
+    /// 6 to 14 and 16.
     Number(u32),
 }
 
@@ -117,7 +117,7 @@ pub fn joined_text(tokens: &[Finished]) -> Vec<u32> {
     text
 }
 
-/// The kind of a label with these tokens, or a refusal from 8 to 14.
+/// The kind of a label with these tokens, or a refusal from 8 to 14 or 16.
 pub fn kind_of(t: &impl Lookup, tokens: &[Finished]) -> Result<Kind, u32> {
     if tokens.iter().all(|token| matches!(token, Finished::Emoji(_))) {
         return Ok(Kind::Emoji);
@@ -150,6 +150,9 @@ pub fn kind_of(t: &impl Lookup, tokens: &[Finished]) -> Result<Kind, u32> {
     let flags = t.group_flags(group);
     if flags & 2 == 0 && nsm_run_broken(t, &nfd(t, &text)) {
         return Err(13);
+    }
+    if flags & 4 != 0 && compounds(t, &text).iter().any(|compound| !t.group_lists(group, compound)) {
+        return Err(16);
     }
     if confusable(t, &text) {
         return Err(14);
@@ -200,6 +203,22 @@ pub fn nsm_run_broken(t: &impl Lookup, decomposed: &[u32]) -> bool {
         }
     }
     false
+}
+
+/// 16 asks for each of these in the group's list. 02, Item 12: "a character of the
+/// composed text that is no mark and is followed by marks", "together with all
+/// marks up to the next character that isn't one".
+pub fn compounds<'a>(t: &impl Lookup, text: &'a [u32]) -> Vec<&'a [u32]> {
+    let mut compounds = Vec::new();
+    let mut rest = text;
+    while let Some((&c, behind)) = rest.split_first() {
+        let marks = behind.iter().take_while(|&&m| t.is_mark(m)).count();
+        if marks > 0 && !t.is_mark(c) {
+            compounds.push(&rest[..1 + marks]);
+        }
+        rest = &behind[marks..];
+    }
+    compounds
 }
 
 /// The extent of the confused character `c` in its whole. 02, Item 6:

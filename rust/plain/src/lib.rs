@@ -55,7 +55,7 @@ pub mod utf8;
 pub use answers::{Kind, Label, Name, Refusal, Soundness};
 pub use calls::{judge_label, judge_label_with, judge_name, judge_name_with};
 pub use calls::{label, label_with, name, name_with};
-pub use file::{pack, pack_as, unpack};
+pub use file::{pack, pack_as, unpack, version};
 pub use keccak::keccak256;
 pub use label::LabelForm;
 pub use lookup::{Index, Lookup};
@@ -99,6 +99,11 @@ pub mod limits {
     pub const SCREEN_ANY: usize = SEQUENCE * INPUT + WORKED;
     /// Non-spacing marks in one run.
     pub const NSM_RUN: usize = 4;
+    /// Compound sequences of a group.
+    pub const SEQUENCES: u32 = 64;
+    /// Codepoints of a compound sequence, at least and at most.
+    pub const LEAST_RUN: u32 = 2;
+    pub const MOST_RUN: u32 = 8;
 }
 
 /// FULL STOP, which parts labels.

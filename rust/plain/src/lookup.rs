@@ -6,7 +6,7 @@ use crate::table::{Record, Table, Whole};
 use crate::text::{is_jamo, is_syllable};
 use crate::tokens::match_emoji;
 use crate::FE0F;
-use std::collections::HashMap;
+use std::collections::{HashMap, HashSet};
 
 pub trait Lookup {
     fn is_valid(&self, c: u32) -> bool;
@@ -32,6 +32,9 @@ pub trait Lookup {
     fn group_count(&self) -> usize;
     fn group_flags(&self, group: usize) -> u32;
     fn group_holds(&self, group: usize, c: u32) -> bool;
+    /// Is this one of the compound sequences of the group? Without a list it
+    /// isn't.
+    fn group_lists(&self, group: usize, sequence: &[u32]) -> bool;
     /// The first whole whose confused list holds `c`.
     fn whole_of(&self, c: u32) -> Option<Whole<'_>>;
     /// Is it shown in braces?
@@ -116,6 +119,9 @@ impl Lookup for Table<'_> {
     fn group_holds(&self, group: usize, c: u32) -> bool {
         self.groups[group].pairs.holds(c)
     }
+    fn group_lists(&self, group: usize, sequence: &[u32]) -> bool {
+        self.groups[group].list.iter().flatten().any(|&listed| listed == sequence)
+    }
     fn whole_of(&self, c: u32) -> Option<Whole<'_>> {
         self.wholes.iter().find(|w| w.confused.contains(&c)).copied()
     }
@@ -139,6 +145,7 @@ pub struct Index<'t> {
     /// Records by each codepoint that their match may begin with, ascending.
     emoji: HashMap<u32, Vec<usize>>,
     groups: Vec<Ranges>,
+    lists: Vec<HashSet<&'t [u32]>>,
     wholes: HashMap<u32, usize>,
     escape: Ranges,
 }
@@ -154,7 +161,7 @@ impl<'t> Index<'t> {
         }
         let classes = FirstCovering::new(table.classes.iter());
         let class = |c: u32| if is_jamo(c) || is_syllable(c) { 0 } else { classes.find(c).unwrap_or(0) };
-        let excluded: std::collections::HashSet<u32> = table.exclusions.iter().copied().collect();
+        let excluded: HashSet<u32> = table.exclusions.iter().copied().collect();
         let mut pairs = HashMap::new();
         for r in &table.decompositions {
             if let [a, b] = *r.items {
@@ -191,6 +198,7 @@ impl<'t> Index<'t> {
             pairs,
             emoji,
             groups: table.groups.iter().map(|g| Ranges::new(g.pairs.iter())).collect(),
+            lists: table.groups.iter().map(|g| g.list.iter().flatten().copied().collect()).collect(),
             wholes,
             escape: Ranges::new(table.escape.iter()),
         }
@@ -254,6 +262,9 @@ impl Lookup for Index<'_> {
     }
     fn group_holds(&self, group: usize, c: u32) -> bool {
         self.groups[group].holds(c)
+    }
+    fn group_lists(&self, group: usize, sequence: &[u32]) -> bool {
+        self.lists[group].contains(sequence)
     }
     fn whole_of(&self, c: u32) -> Option<Whole<'_>> {
         self.wholes.get(&c).map(|&i| self.table.wholes[i])

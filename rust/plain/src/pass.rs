@@ -11,7 +11,7 @@ use crate::lookup::Lookup;
 use crate::pairs::PairIndex;
 use crate::quick::rules_found;
 use crate::records::{Entries, Records};
-use crate::table::Whole;
+use crate::table::{flags_fit, Whole};
 use crate::text::{is_jamo, is_syllable};
 use std::cell::OnceCell;
 
@@ -29,7 +29,7 @@ pub struct Pass<'t> {
     pub(crate) exclusions: &'t [u32],
     pub(crate) exclusions_sorted: bool,
     pub(crate) classes: Entries<'t, 3>,
-    groups: Vec<(u32, Entries<'t, 2>)>,
+    groups: Vec<OfGroup<'t>>,
     wholes: &'t [u32],
     escape: Entries<'t, 2>,
     pub(crate) quick_check: Entries<'t, 2>,
@@ -39,6 +39,15 @@ pub struct Pass<'t> {
     pairs: OnceCell<Option<PairIndex<'t>>>,
     /// Rules 6 to 8 were looked for, and found to hold.
     rules: bool,
+}
+
+/// A group as the pass finds it.
+#[derive(Debug)]
+struct OfGroup<'t> {
+    flags: u32,
+    pairs: Entries<'t, 2>,
+    /// With flag 4 the words of its list, behind their count.
+    list: Option<&'t [u32]>,
 }
 
 /// What a pass found of a table: where its searches are the fast ones.
@@ -104,18 +113,37 @@ fn sections(words: &[u32]) -> Option<[&[u32]; 14]> {
     rest.is_empty().then_some(parts)
 }
 
-fn groups(words: &[u32]) -> Option<Vec<(u32, Entries<'_, 2>)>> {
+fn groups(words: &[u32]) -> Option<Vec<OfGroup<'_>>> {
     let mut groups = Vec::new();
     let mut rest = words;
     while let [flags, count, behind @ ..] = rest {
         let (pairs, next) = behind.split_at_checked(*count as usize)?;
-        if *flags > 3 || groups.len() == limits::GROUPS {
+        if !flags_fit(*flags) || groups.len() == limits::GROUPS {
             return None;
         }
-        groups.push((*flags, Entries::read(pairs)?));
+        let (list, next) = if flags & 4 == 0 { (None, next) } else { list(next)? };
+        groups.push(OfGroup { flags: *flags, pairs: Entries::read(pairs)?, list });
         rest = next;
     }
     rest.is_empty().then_some(groups)
+}
+
+/// The records of a list that starts here with its count, and what follows them.
+fn list(words: &[u32]) -> Option<(Option<&[u32]>, &[u32])> {
+    let (&count, records) = words.split_first()?;
+    if count > limits::SEQUENCES {
+        return None;
+    }
+    let mut length = 0;
+    for _ in 0..count {
+        let items = *records.get(length)?;
+        if !(limits::LEAST_RUN..=limits::MOST_RUN).contains(&items) {
+            return None;
+        }
+        length += 1 + items as usize;
+    }
+    let (list, next) = records.split_at_checked(length)?;
+    Some((Some(list), next))
 }
 
 /// The next whole and what follows it.
@@ -211,7 +239,7 @@ impl<'t> Pass<'t> {
             emoji: self.emoji.sorted,
             exclusions: self.exclusions_sorted,
             classes: self.classes.sorted,
-            groups: self.groups.iter().all(|(_, pairs)| pairs.sorted),
+            groups: self.groups.iter().all(|group| group.pairs.sorted),
             escape: self.escape.sorted,
             quick_check: self.quick_check.sorted,
             seconds: self.seconds(),
@@ -329,10 +357,21 @@ impl Lookup for Pass<'_> {
         self.groups.len()
     }
     fn group_flags(&self, group: usize) -> u32 {
-        self.groups[group].0
+        self.groups[group].flags
     }
     fn group_holds(&self, group: usize, c: u32) -> bool {
-        self.groups[group].1.holds(c)
+        self.groups[group].pairs.holds(c)
+    }
+    fn group_lists(&self, group: usize, sequence: &[u32]) -> bool {
+        let mut rest = self.groups[group].list.unwrap_or_default();
+        while let Some((&count, behind)) = rest.split_first() {
+            let (items, next) = behind.split_at(count as usize);
+            if items == sequence {
+                return true;
+            }
+            rest = next;
+        }
+        false
     }
     fn whole_of(&self, c: u32) -> Option<Whole<'_>> {
         let mut rest = self.wholes;

@@ -56,7 +56,7 @@ fn line(t: &impl Lookup, token: &Finished, start: usize, end: usize) -> String {
     line + "\n"
 }
 
-/// The report over a table that is already read, or the first of 3 to 14 and 17
+/// The report over a table that is already read, or the first of 3 to 14, 16 and 17
 /// that applies.
 pub fn report_by(t: &impl Lookup, setting: u32, name: &[u32]) -> Result<String, Refusal> {
     let forms = judge_name_with(t, setting, name)?;

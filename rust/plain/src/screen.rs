@@ -37,7 +37,7 @@ pub fn screen_label(t: &impl Lookup, greek: u32, label: &[u32], form: &LabelForm
 }
 
 /// The screen form over a table that is already read, and the number of labels;
-/// or the first of 3 to 14 and 17 that applies.
+/// or the first of 3 to 14, 16 and 17 that applies.
 pub fn screen_by(t: &impl Lookup, greek: u32, setting: u32, name: &[u32]) -> Result<(Vec<u32>, usize), Refusal> {
     let forms = judge_name_with(t, setting, name)?;
     let labels: Vec<Vec<u32>> =

@@ -89,6 +89,9 @@ fn scalar_values(table: &Table) -> Option<String> {
     if let Some(sequence) = table.emoji.iter().find(|s| bad(s)) {
         return Some(format!("emoji sequences: {}", hex(sequence)));
     }
+    if let Some(sequence) = table.groups.iter().flat_map(|g| g.list.iter().flatten()).find(|s| bad(s)) {
+        return Some(format!("groups: the list has {}", hex(sequence)));
+    }
     if let Some(&c) = table.exclusions.iter().find(|&&c| !is_scalar(c)) {
         return Some(format!("exclusions: {c:X}"));
     }

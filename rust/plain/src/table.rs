@@ -1,6 +1,7 @@
-//! 01, "The table", and 02, Items 9 and 11: fourteen sections of words.
+//! 01, "The table", and 02, Items 9, 11 and 12: fourteen sections of words.
 
 use crate::limits;
+use std::collections::BTreeMap;
 
 /// Words read two by two: first, last.
 #[derive(Clone, Copy, Debug, PartialEq, Eq)]
@@ -42,10 +43,17 @@ pub struct Record<'a> {
     pub items: &'a [u32],
 }
 
-#[derive(Clone, Copy, Debug, PartialEq, Eq)]
+#[derive(Clone, Debug, PartialEq, Eq)]
 pub struct Group<'a> {
     pub flags: u32,
     pub pairs: Pairs<'a>,
+    /// With flag 4 the compound sequences, which may be none.
+    pub list: Option<Vec<&'a [u32]>>,
+}
+
+/// 02, Item 12: flags 1, 2 and 4, of which "flag 4, allowed only beside flag 2".
+pub fn flags_fit(flags: u32) -> bool {
+    flags <= 7 && (flags & 4 == 0 || flags & 2 != 0)
 }
 
 impl Group<'_> {
@@ -168,13 +176,17 @@ impl<'a> Cursor<'a> {
         }
         Ok(triples)
     }
-    /// A count from 1 to `most`, then that many items.
-    fn items(&mut self, most: u32) -> Result<&'a [u32], LayoutFault> {
+    /// A count from `least` to `most`, then that many items.
+    fn items_of(&mut self, least: u32, most: u32) -> Result<&'a [u32], LayoutFault> {
         let count = self.word()?;
-        if count < 1 || count > most {
+        if count < least || count > most {
             return Err(self.fault("the number of items is out of range"));
         }
         self.take(count)
+    }
+    /// A count from 1 to `most`, then that many items.
+    fn items(&mut self, most: u32) -> Result<&'a [u32], LayoutFault> {
+        self.items_of(1, most)
     }
     fn records(mut self, most: u32) -> Result<Vec<Record<'a>>, LayoutFault> {
         let mut records = Vec::new();
@@ -206,13 +218,23 @@ impl<'a> Cursor<'a> {
                 return Err(self.fault("too many groups"));
             }
             let flags = self.word()?;
-            if flags > 3 {
-                return Err(self.fault("flags over 3"));
+            if !flags_fit(flags) {
+                return Err(self.fault("flags other than 0 to 3, 6 and 7"));
             }
             let count = self.word()?;
-            groups.push(Group { flags, pairs: self.pairs(count)? });
+            let pairs = self.pairs(count)?;
+            let list = if flags & 4 == 0 { None } else { Some(self.list()?) };
+            groups.push(Group { flags, pairs, list });
         }
         Ok(groups)
+    }
+    /// 02, Item 12: "a count of 0 to 64, then records (count 2 to 8, items)".
+    fn list(&mut self) -> Result<Vec<&'a [u32]>, LayoutFault> {
+        let count = self.word()?;
+        if count > limits::SEQUENCES {
+            return Err(self.fault("too many compound sequences"));
+        }
+        (0..count).map(|_| self.items_of(limits::LEAST_RUN, limits::MOST_RUN)).collect()
     }
     fn wholes(mut self) -> Result<Vec<Whole<'a>>, LayoutFault> {
         let mut wholes = Vec::new();
@@ -263,6 +285,10 @@ pub fn parse(words: &[u32]) -> Option<Table<'_>> {
 impl Table<'_> {
     pub fn to_builder(&self) -> TableBuilder {
         let record = |r: &Record| (r.head, r.items.to_vec());
+        let list = |(number, g): (usize, &Group)| {
+            let of_group = g.list.as_ref()?;
+            Some((number, of_group.iter().map(|s| s.to_vec()).collect()))
+        };
         TableBuilder {
             valid: self.valid.iter().collect(),
             ignored: self.ignored.iter().collect(),
@@ -275,6 +301,7 @@ impl Table<'_> {
             exclusions: self.exclusions.to_vec(),
             classes: self.classes.iter().collect(),
             groups: self.groups.iter().map(|g| (g.flags, g.pairs.iter().collect())).collect(),
+            lists: self.groups.iter().enumerate().filter_map(list).collect(),
             wholes: self.wholes.iter().map(|w| (w.valid.to_vec(), w.confused.to_vec())).collect(),
             escape: self.escape.iter().collect(),
             quick_check: self.quick_check.iter().collect(),
@@ -304,6 +331,9 @@ pub struct TableBuilder {
     pub classes: Vec<(u32, u32, u32)>,
     /// Flags and pairs.
     pub groups: Vec<(u32, Vec<(u32, u32)>)>,
+    /// The compound sequences of the groups with flag 4, by the number of the
+    /// group: one that isn't here has a list of none.
+    pub lists: BTreeMap<usize, Vec<Vec<u32>>>,
     /// Valid and confused members.
     pub wholes: Vec<(Vec<u32>, Vec<u32>)>,
     /// Should-escape.
@@ -331,9 +361,14 @@ impl TableBuilder {
             words
         }
         let mut groups = Vec::new();
-        for (flags, of_group) in &self.groups {
+        for (number, (flags, of_group)) in self.groups.iter().enumerate() {
             groups.push(*flags);
             groups.extend(counted(&pairs(of_group)));
+            if flags & 4 != 0 {
+                let list = self.lists.get(&number).map_or(&[][..], |list| list);
+                groups.push(list.len() as u32);
+                groups.extend(list.iter().flat_map(|s| counted(s)));
+            }
         }
         let mut wholes = Vec::new();
         for (valid, confused) in &self.wholes {

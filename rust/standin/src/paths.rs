@@ -83,6 +83,9 @@ impl Lookup for Counted<'_> {
     fn group_holds(&self, group: usize, c: u32) -> bool {
         self.count("groups", self.found.groups).group_holds(group, c)
     }
+    fn group_lists(&self, group: usize, sequence: &[u32]) -> bool {
+        self.pass.group_lists(group, sequence)
+    }
     fn whole_of(&self, c: u32) -> Option<Whole<'_>> {
         self.pass.whole_of(c)
     }

@@ -39,7 +39,7 @@ impl<'w> Table<'w> {
 
     /// The name call on codepoints. After success `answer` holds the normal
     /// form and then zeros, after a refusal zeros; `work`, of at least
-    /// `limits::WORK_WORDS` words, holds zeros either way. Refusals: 1 to 15.
+    /// `limits::WORK_WORDS` words, holds zeros either way. Refusals: 1 to 16.
     pub fn name(&self, input: &[u32], answer: &mut [u32], work: &mut [u32]) -> Result<Name, Refusal> {
         self.name_with(0, input, answer, work)
     }

@@ -1,5 +1,5 @@
--- `components::join_sorted` meets its contract: marks are set for the groups, and their owners joined. Assumes nothing.
-use Rattle.components.proofs.JoinLaws.{marks-none, sorted-joins}
+-- `components::join_sorted` meets its contract: claims are set for the groups, and their owners joined. Assumes nothing.
+use Rattle.components.proofs.JoinLaws.{claims-none, sorted-joins}
 use borrow.Author.Needs.{needs}
 use Rattle.components.proofs.join_sorted.Statement.{statement}
 use Rattle.components.proofs.join_sorted.Tie as tie
@@ -7,7 +7,7 @@ use Rattle.components.proofs.join_sorted.Tie as tie
 take-groups-requires : tie.Need-take-groups-requires
 take-groups-requires c κs =
     let p = c .before .before .before .before .before .before .pre in
-    (p .0, (p .1 .1 .0, (p .1 .1 .1, marks-none _ (p .1 .0))))
+    (p .0, (p .1 .1 .0, (p .1 .1 .1, claims-none _ (p .1 .0))))
 
 sweep-requires : tie.Need-sweep-requires
 sweep-requires c κs = search needs

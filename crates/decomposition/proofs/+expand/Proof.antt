@@ -5,7 +5,7 @@ use borrow.Author.Needs.{needs}
 use denote.Ref.{now}
 use Rattle.table.specs.Layout.{theTable}
 use Rattle.decomposition.specs.Rounds.{itemsBy}
-use Rattle.decomposition.proofs.Rounds.{Expanding, expand-start, expand-next, expanded-more, expanded-none, expanded-same, most-fits, most-pos}
+use Rattle.decomposition.proofs.RoundLaws.{Expanding, expand-start, expand-next, expanded-more, expanded-none, expanded-same, most-fits, most-pos}
 use Rattle.decomposition.proofs.Replacing.{by-none, by-all}
 use Prim.Native.Nat.{ℕ, _-_, _^_, _≤_, _<_}
 use borrow.Fn.Kinds.{In}

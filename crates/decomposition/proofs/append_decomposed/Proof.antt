@@ -2,7 +2,7 @@
 use denote.Ref.{now}
 use Rattle.table.specs.Layout.{theTable}
 use Rattle.decomposition.specs.Rounds.{mostFrom}
-use Rattle.decomposition.proofs.Rounds.{expanded-four}
+use Rattle.decomposition.proofs.RoundLaws.{expanded-four}
 use borrow.Author.Needs.{needs}
 use Rattle.decomposition.proofs.append_decomposed.Statement.{statement}
 use Rattle.decomposition.proofs.append_decomposed.Tie as tie

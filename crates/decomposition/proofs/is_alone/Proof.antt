@@ -1,7 +1,7 @@
 -- `decomposition::is_alone` meets its contract. Assumes nothing.
 use native.Mathlib.Omega.{arith}
 use borrow.Author.Needs.{needs}
-use Rattle.decomposition.proofs.Rounds.{alone-other, alone-one}
+use Rattle.decomposition.proofs.RoundLaws.{alone-other, alone-one}
 use Rattle.decomposition.proofs.is_alone.Statement.{statement}
 use Rattle.decomposition.proofs.is_alone.Tie as tie
 

@@ -1,6 +1,6 @@
 -- `put` meets its contract. Assumes nothing.
 use denote.Ref.{now}
-use Rattle.decomposition.proofs.Rounds.{append-none}
+use Rattle.decomposition.proofs.RoundLaws.{append-none}
 use borrow.Author.Needs.{needs}
 use Rattle.decomposition.proofs.put.Statement.{statement}
 use Rattle.decomposition.proofs.put.Tie as tie

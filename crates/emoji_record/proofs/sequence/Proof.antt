@@ -1,7 +1,7 @@
 -- `sequence`: what stands in the emoji section stands among the words of the table. Assumes nothing.
 use native.Mathlib.Omega.{arith}
 use Rattle.sections.proofs.SectionLaws.{laid-fits}
-use Rattle.finder.proofs.Finding.{emoji-sequences}
+use Rattle.finder.proofs.FindingLaws.{emoji-sequences}
 use Rattle.emoji_record.proofs.Seeking.{section-sequence}
 use Rattle.emoji_record.proofs.sequence.Statement.{statement}
 use Rattle.emoji_record.proofs.sequence.Tie as tie

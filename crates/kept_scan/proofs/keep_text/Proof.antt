@@ -1,9 +1,9 @@
--- `keep_text` meets its contract: the codepoint is written to its place, and marked. Assumes nothing.
+-- `keep_text` meets its contract: the codepoint is written to its place, and tagged. Assumes nothing.
 use native.Mathlib.Omega.{arith}
 use mathlib.Core.Path.{refl}
 use borrow.Author.Needs.{needs}
 use borrow.Author.Tests.{not-false}
-use Rattle.kept_scan.proofs.Holding.{text-given, write-room, mark-room, text-kept}
+use Rattle.kept_scan.proofs.Holding.{text-given, write-room, tag-room, text-kept}
 use Rattle.kept_scan.proofs.keep_text.Statement.{statement}
 use Rattle.kept_scan.proofs.keep_text.Tie as tie
 
@@ -38,7 +38,7 @@ mul-w-2 : tie.Need-mul-w-2
 mul-w-2 c = omega (arith, (c .before .before .before .before .before .may-keep .ensures (not-false _ (c .before .before .before .before .if1 .left))) .room)
 
 slice-write-w-2 : tie.Need-slice-write-w-2
-slice-write-w-2 c = mark-room _ _ _ _ _ _ (c .before .before .before .before .before .before .before .before .before .before .pre .1) (c .before .before .before .before .before .may-keep .ensures (not-false _ (c .before .before .before .before .if1 .left))) _ (c .before .before .append-decomposed .ensures)
+slice-write-w-2 c = tag-room _ _ _ _ _ _ (c .before .before .before .before .before .before .before .before .before .before .pre .1) (c .before .before .before .before .before .may-keep .ensures (not-false _ (c .before .before .before .before .if1 .left))) _ (c .before .before .append-decomposed .ensures)
 
 add-t14 : tie.Need-add-t14
 add-t14 c = omega (arith, (c .before .before .before .before .before .may-keep .ensures (not-false _ (c .before .before .before .before .if1 .left))) .room)

@@ -1,4 +1,4 @@
--- `laying::put_emoji` meets its contract: the stripped sequence is written to its place, and marked with 0. Assumes nothing.
+-- `laying::put_emoji` meets its contract: the stripped sequence is written to its place, and tagged with 0. Assumes nothing.
 use native.Mathlib.Omega.{arith}
 use lib.ListN.{length-take}
 use Rattle.laying.proofs.Stripping.{emoji-over, emoji-put}
@@ -30,14 +30,14 @@ slice-aggregate-strip-into c = simp length-take (omega (arith, c .before .before
 strip-into-requires : tie.Need-strip-into-requires
 strip-into-requires c κs = search needs
 
-put-marks-requires : tie.Need-put-marks-requires
-put-marks-requires c κs = search needs
+put-tags-requires : tie.Need-put-tags-requires
+put-tags-requires c κs = search needs
 
 same-length : tie.Need-same-length
 same-length c = search needs
 
 returns-2 : tie.Need-returns-2
-returns-2 c = emoji-put _ _ _ _ _ _ _ (c .before .before .before .before .before .before .before .before .before .before .before .before .pre .0) (c .before .before .before .before .before .before .before .before .before .if1 .left) (c .before .before .before .before .before .before .strip-into .ensures) (c .before .before .put-marks .ensures)
+returns-2 c = emoji-put _ _ _ _ _ _ _ (c .before .before .before .before .before .before .before .before .before .before .before .before .pre .0) (c .before .before .before .before .before .before .before .before .before .if1 .left) (c .before .before .before .before .before .before .strip-into .ensures) (c .before .before .put-tags .ensures)
 
 pub put-emoji-spec : {M : Type 1} → statement M
 put-emoji-spec =
@@ -51,6 +51,6 @@ put-emoji-spec =
     slice-relend-prefix-strip-into
     slice-aggregate-strip-into
     strip-into-requires
-    put-marks-requires
+    put-tags-requires
     same-length
     returns-2)

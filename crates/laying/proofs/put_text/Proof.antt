@@ -1,4 +1,4 @@
--- `laying::put_text` meets its contract: the decomposition is written to its place, and marked. Assumes nothing.
+-- `laying::put_text` meets its contract: the decomposition is written to its place, and tagged. Assumes nothing.
 use native.Mathlib.Omega.{arith}
 use lib.ListN.{length-take}
 use Rattle.laying.proofs.Texts.{text-over, text-put}
@@ -18,17 +18,17 @@ slice-aggregate-append-decomposed c = simp length-take (omega (arith, c .before 
 append-decomposed-requires : tie.Need-append-decomposed-requires
 append-decomposed-requires c κs = search needs
 
-put-marks-requires : tie.Need-put-marks-requires
-put-marks-requires c κs = search needs
+put-tags-requires : tie.Need-put-tags-requires
+put-tags-requires c κs = search needs
 
-next-mark-requires : tie.Need-next-mark-requires
-next-mark-requires c κs = search needs
+next-tag-requires : tie.Need-next-tag-requires
+next-tag-requires c κs = search needs
 
 same-length : tie.Need-same-length
 same-length c = search needs
 
 returns-2 : tie.Need-returns-2
-returns-2 c = text-put _ _ _ _ _ _ _ _ (c .before .before .before .before .before .before .before .before .before .before .before .before .pre .1) (c .before .before .before .before .before .before .before .before .before .if1 .left) (c .before .before .before .before .before .before .before .append-decomposed .ensures) (c .before .before .before .put-marks .ensures) (c .next-mark .ensures)
+returns-2 c = text-put _ _ _ _ _ _ _ _ (c .before .before .before .before .before .before .before .before .before .before .before .before .pre .1) (c .before .before .before .before .before .before .before .before .before .if1 .left) (c .before .before .before .before .before .before .before .append-decomposed .ensures) (c .before .before .before .put-tags .ensures) (c .next-tag .ensures)
 
 pub put-text-spec : {M : Type 1} → statement M
 put-text-spec =
@@ -38,7 +38,7 @@ put-text-spec =
     slice-relend-prefix-append-decomposed
     slice-aggregate-append-decomposed
     append-decomposed-requires
-    put-marks-requires
-    next-mark-requires
+    put-tags-requires
+    next-tag-requires
     same-length
     returns-2)

@@ -1,31 +1,35 @@
 -- `layout::group_size` meets its contract. Each test is one of the definition's; the pairs are walked as a part of their own. Assumes nothing.
 use Prim.Native.Nat.{_+_, _-_}
 use native.Mathlib.Omega.{arith}
-use mathlib.Core.Path.{_≡_}
+use mathlib.Core.Path.{_≡_, sym, _∙_}
 use lib.ListN.{getD}
-use Rattle.layout.proofs.WalkLaws.{group-short, group-over}
+use Rattle.layout.proofs.WalkLaws.{group-short, group-flags}
 use Rattle.layout.specs.Walk.{groupPairs}
 use Rattle.layout.specs.Seeing.{SeesPairs}
 use Rattle.layout.proofs.SeeingLaws.{sees-order, no-group, some-group, broken-group}
+use borrow.Author.Tests.{not-true, not-false}
 use borrow.Author.Needs.{needs}
 use Rattle.layout.proofs.group_size.Statement.{statement}
 use Rattle.layout.proofs.group_size.Tie as tie
 
 -- the pairs of the group, once they are walked
-seen : (c : tie.After-told) → SeesPairs (groupPairs (c .before .before .before .before .before .before .before .before .before .args .rest .now)) (c .told .result)
+seen : (c : tie.After-told) → SeesPairs (groupPairs (c .before .before .before .before .before .before .before .before .before .before .args .rest .now)) (c .told .result)
 seen c =
-    let ws = c .before .before .before .before .before .before .before .before .before .args .rest .now in
+    let ws = c .before .before .before .before .before .before .before .before .before .before .args .rest .now in
     let n : getD ws 1 0 + 2 - 2 ≡ getD ws 1 0 = omega arith in
     rw n at (sees-order _ _ (c .before .pairs-order .result) _ (c .before .pairs-order .ensures) (c .told .ensures))
 
 returns : tie.Need-returns
 returns c = no-group _ (group-short _ (omega arith))
 
-shared-slice-read-if2 : tie.Need-shared-slice-read-if2
-shared-slice-read-if2 c = search needs
+shared-slice-read-flags : tie.Need-shared-slice-read-flags
+shared-slice-read-flags c = search needs
+
+flags-fit-requires : tie.Need-flags-fit-requires
+flags-fit-requires c κs = search needs
 
 returns-2 : tie.Need-returns-2
-returns-2 c = no-group _ (group-over _ (omega arith))
+returns-2 c = no-group _ (group-flags _ (sym (c .before .flags-fit .ensures) ∙ not-true _ (c .if2 .taken)))
 
 shared-slice-read-n : tie.Need-shared-slice-read-n
 shared-slice-read-n c = search needs
@@ -57,8 +61,11 @@ pairs-order-requires c κs = search needs
 told-requires : tie.Need-told-requires
 told-requires c κs = search needs
 
+group-end-requires : tie.Need-group-end-requires
+group-end-requires c κs = omega arith
+
 returns-4 : tie.Need-returns-4
-returns-4 c = some-group _ _ (seen (c .before)) (omega arith) (omega arith) (c .if4 .taken)
+returns-4 c = some-group _ _ (seen (c .before .before)) _ (sym (c .before .before .before .before .before .before .before .before .flags-fit .ensures) ∙ not-false _ (c .before .before .before .before .before .before .before .if2 .left)) (omega arith) (c .before .if4 .taken) (c .group-end .ensures)
 
 returns-5 : tie.Need-returns-5
 returns-5 c = broken-group _ _ (seen (c .before)) (c .if4 .left)
@@ -68,7 +75,8 @@ group-size-spec =
     tie.close
     (tie.spec
     returns
-    shared-slice-read-if2
+    shared-slice-read-flags
+    flags-fit-requires
     returns-2
     shared-slice-read-n
     cast-n
@@ -80,5 +88,6 @@ group-size-spec =
     part-pairs-order-end
     pairs-order-requires
     told-requires
+    group-end-requires
     returns-4
     returns-5)

@@ -9,10 +9,10 @@ use Rattle.normal_cells.proofs.move_down.Statement.{statement}
 use Rattle.normal_cells.proofs.move_down.Tie as tie
 
 abbrev Inv-loop : tie.InvT-loop
-Inv-loop w₀ from n at first later mark₀ i₀ w mark i = Putting w₀ at (take n (drop from w₀)) first later w mark i
+Inv-loop w₀ from n at first later tag₀ i₀ w tag i = Putting w₀ at (take n (drop from w₀)) first later w tag i
 
 abbrev μ-loop : tie.MeasureT-loop
-μ-loop w₀ from n at first later mark₀ i₀ w mark i = n - i
+μ-loop w₀ from n at first later tag₀ i₀ w tag i = n - i
 
 loop-holds : tie.Need-loop-holds Inv-loop μ-loop
 loop-holds c =

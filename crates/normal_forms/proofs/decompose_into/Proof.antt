@@ -6,7 +6,7 @@ use lib.ListN.{length}
 use borrow.Author.Needs.{needs}
 use Rattle.limits.specs.Limits.{mostWorked}
 use Rattle.table.specs.Layout.{theTable}
-use Rattle.decomposition.proofs.Rounds.{Expanding, expand-start}
+use Rattle.decomposition.proofs.RoundLaws.{Expanding, expand-start}
 use Rattle.normal_forms.proofs.Loops.{reads-more, reads-all, reads-over}
 use Rattle.normal_forms.proofs.decompose_into.Statement.{statement}
 use Rattle.normal_forms.proofs.decompose_into.Tie as tie

@@ -5,7 +5,7 @@ use mathlib.Core.Logic.{⊎-elim}
 use lib.Seq.{length-take-le}
 use borrow.Author.Needs.{needs}
 use borrow.Author.Tests.{not-true, not-false}
-use Rattle.screen_label.proofs.Showing.{ShownSo, so-shown, so-kept, sequence-short, token-emoji, token-text}
+use Rattle.screen_label.proofs.ShowingLaws.{ShownSo, so-shown, so-kept, sequence-short, token-emoji, token-text}
 use Rattle.screen_label.proofs.put_token.Statement.{statement}
 use Rattle.screen_label.proofs.put_token.Tie as tie
 

@@ -6,7 +6,7 @@ use lib.ListN.{length}
 use borrow.Author.Needs.{needs}
 use Rattle.table.specs.Layout.{theTable}
 use Rattle.unpaired.specs.Unpaired.{Unpaired}
-use Rattle.screen_label.proofs.Showing.{Showing, showing-start, showing-walks, showing-short, showing-place, showing-more, showing-end}
+use Rattle.screen_label.proofs.ShowingLaws.{Showing, showing-start, showing-walks, showing-short, showing-place, showing-more, showing-end}
 use Rattle.screen_label.proofs.show_label.Statement.{statement}
 use Rattle.screen_label.proofs.show_label.Tie as tie
 

@@ -3,7 +3,7 @@ use Prim.Native.Nat.{_-_}
 use native.Mathlib.Omega.{arith}
 use mathlib.Core.Logic.{⊎-elim}
 use borrow.Author.Needs.{needs}
-use Rattle.screen_label.proofs.Showing.{Texting, texting-start, texting-shown, texting-kept, texting-end}
+use Rattle.screen_label.proofs.ShowingLaws.{Texting, texting-start, texting-shown, texting-kept, texting-end}
 use Rattle.screen_label.proofs.show_text.Statement.{statement}
 use Rattle.screen_label.proofs.show_text.Tie as tie
 

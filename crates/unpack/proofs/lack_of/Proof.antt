@@ -14,7 +14,10 @@ returns-3 : tie.Need-returns-3
 returns-3 c = search needs
 
 returns-4 : tie.Need-returns-4
-returns-4 c = not-named _ (c .match .rest .0 .0 .1) (c .match .rest .0 .1) (c .match .rest .1)
+returns-4 c = search needs
+
+returns-5 : tie.Need-returns-5
+returns-5 c = not-named _ (c .match .rest .0 .0 .0 .1) (c .match .rest .0 .0 .1) (c .match .rest .0 .1) (c .match .rest .1)
 
 pub lack-of-spec : {M : Type 1} → statement M
-lack-of-spec = tie.close (tie.spec returns returns-2 returns-3 returns-4)
+lack-of-spec = tie.close (tie.spec returns returns-2 returns-3 returns-4 returns-5)

@@ -56,7 +56,7 @@ const fn long(
 }
 
 /// Where a row says "in random order", each comparison's branch is a guess.
-pub const TEXTS: [Long; 59] = [
+pub const TEXTS: [Long; 61] = [
     long("scan: emoji of one codepoint", Call::Name, emoji_beside, letter_a, [16, INPUT], 0),
     long("scan: long emoji that start alike", Call::Name, emoji_alike, letter_a, [16, INPUT], 0),
     long("scan: emoji that start with FE0F", Call::Name, emoji_of_selectors, letter_a, [16, INPUT], 0),
@@ -82,6 +82,8 @@ pub const TEXTS: [Long; 59] = [
     long("13: NSM in random order", Call::Name, nsm_13, deep, [1, DEEP], 0),
     long("13: the same, 256 different codepoints", Call::Name, nsm_13_different, deep, [1, DEEP], 0),
     long("13: classes in random order", Call::Name, classes_13, deep, [1, DEEP], 0),
+    long("16: marks in random order", Call::Name, marks_16, marked, [16, WORKED], 0),
+    long("16: a list that has every sequence last", Call::Name, list_16, marked, [16, WORKED], 0),
     long("14: many wholes", Call::Name, wholes_14, own, [16, WORKED], 0),
     long("14: a whole of 65,536 in random order", Call::Name, whole_14, own, [1, WORKED], 0),
     long("14: the same, pairs in order", Call::Name, whole_14_in_order, own, [1, WORKED], 0),
@@ -184,6 +186,13 @@ const EMOJI: u32 = 0x1F4A9;
 /// The same, each behind an emoji.
 fn own_parted(count: usize) -> Vec<u32> {
     [EMOJI, OWN].into_iter().cycle().take(count).collect()
+}
+
+const MARK: u32 = 0x3099;
+
+/// The character of the group and a mark, again and again.
+fn marked(count: usize) -> Vec<u32> {
+    [OWN, MARK].into_iter().cycle().take(count).collect()
 }
 
 /// Marks of the classes 254 down to 1, again and again: each passes all that
@@ -388,6 +397,33 @@ fn escape_random() -> TableBuilder {
 
 fn marks_random() -> TableBuilder {
     TableBuilder { marks: pairs_around(OWN, fit(2, 20)), emoji: vec![vec![EMOJI]], ..own_group() }
+}
+
+/// A whitelisted group of OWN and a mark, and a list that has both together last.
+fn listed_group() -> TableBuilder {
+    let all = vec![one(OWN), one(MARK)];
+    let others = (0..63).map(|i| [&[OWN; 1][..], &[MARK; 6], &[FIRST + i]].concat());
+    TableBuilder {
+        valid: all.clone(),
+        groups: vec![(6, all)],
+        lists: [(0, others.chain([vec![OWN, MARK]]).collect())].into(),
+        ..TableBuilder::default()
+    }
+}
+
+fn marks_16() -> TableBuilder {
+    let marks = [pairs_around(MARK, fit(2, 620)), vec![one(MARK)]].concat();
+    TableBuilder { marks: marks.into_iter().filter(|&p| p != one(OWN)).collect(), ..listed_group() }
+}
+
+/// The other groups have long lists too; what is asked for is the last one's.
+fn list_16() -> TableBuilder {
+    let mut table = TableBuilder { marks: vec![one(MARK)], ..listed_group() };
+    let list = table.lists[&0].clone();
+    let (own, other) = (table.groups[0].clone(), (6, vec![one(FIRST)]));
+    table.groups = [vec![other; 200], vec![own]].concat();
+    table.lists = (0..=200).map(|number| (number, list.clone())).collect();
+    table
 }
 
 fn group_random() -> TableBuilder {

@@ -13,10 +13,11 @@ const HELP: &str = "\
 usage: maketable [OPTIONS] SPEC NF OUT
        maketable --nf NF OUT
 
-Makes the table file OUT, of version 3, from files of the published shapes of
-spec.json and nf.json, and beside it, as OUT.groups without .tab, the names of
-the groups, one a line. With --nf it makes one for NFC and NFD alone. OUT is
-replaced only by a whole table that is sound.
+Makes the table file OUT, of version 3, or 4 where a group has compound
+sequences, from files of the published shapes of spec.json and nf.json, and
+beside it, as OUT.groups without .tab, the names of the groups, one a line. With
+--nf it makes one for NFC and NFD alone. OUT is replaced only by a whole table
+that is sound.
 
   --groups NAMES     keep these groups alone: Latin,Greek
   --emoji N          keep the first N emoji sequences
@@ -100,7 +101,9 @@ fn made(wanted: &Wanted) -> Result<Made<'_>, String> {
         }
         [spec, nf, out] if !wanted.nf_alone => {
             let nf = read_nf(nf)?;
-            let spec = Spec::read(&text(spec)?).map_err(|e| format!("{spec}: {e}"))?;
+            let path = spec;
+            let spec = Spec::read(&text(path)?).map_err(|e| format!("{path}: {e}"))?;
+            maker::check_lists(&spec, &nf).map_err(|e| format!("{path}: {e}"))?;
             let told = spec.unicode.iter().map(|version| format!("Unicode {version}\n")).collect();
             let (spec, nf) = cut.apply(&spec, &nf)?;
             let names = spec.groups.iter().map(|group| format!("{}\n", group.name)).collect();

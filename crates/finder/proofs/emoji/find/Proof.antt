@@ -2,7 +2,7 @@
 use native.Mathlib.Omega.{arith}
 use borrow.Author.Needs.{needs}
 use Rattle.sections.proofs.SectionLaws.{laid-fits}
-use Rattle.finder.proofs.Finding.{found-at, found-nothing}
+use Rattle.finder.proofs.FindingLaws.{found-at, found-nothing}
 use Rattle.finder.proofs.emoji.find.Statement.{statement}
 use Rattle.finder.proofs.emoji.find.Tie as tie
 

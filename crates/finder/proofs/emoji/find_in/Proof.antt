@@ -7,7 +7,7 @@ use lib.Dec.{ltb}
 use borrow.Author.Needs.{needs}
 use borrow.Author.Tests.{ltb-true}
 use Rattle.table.proofs.Lookups.{both}
-use Rattle.finder.proofs.Finding.{Finder, finder-start, finder-here, finder-past, finder-more, finder-end, finder-above, finder-empty}
+use Rattle.finder.proofs.FindingLaws.{Finder, finder-start, finder-here, finder-past, finder-more, finder-end, finder-above, finder-empty}
 use Rattle.finder.proofs.emoji.find_in.Statement.{statement}
 use Rattle.finder.proofs.emoji.find_in.Tie as tie
 

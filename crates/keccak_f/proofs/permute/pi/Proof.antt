@@ -3,7 +3,7 @@ use Prim.Native.Nat.{ℕ, _≤_, _-_}
 use native.Mathlib.Omega.{arith}
 use mathlib.Core.Path.{ap, refl}
 use lib.ListN.{getD}
-use Rattle.keccak_f.proofs.Tables.{sources, source, source-within}
+use Rattle.keccak_f.proofs.TableLaws.{sources, source, source-within}
 use Rattle.keccak_f.specs.Permutation.{lanes, pi}
 use Rattle.keccak_f.specs.Tabulate.{Filling, fill-start, fill-more, fill-stop}
 use Rattle.keccak_f.proofs.Lanes.{piAt}

@@ -2,7 +2,7 @@
 use Prim.Native.Nat.{_≤_, _-_}
 use native.Mathlib.Omega.{arith}
 use mathlib.Core.Path.{refl, sym, _∙_}
-use Rattle.keccak_f.proofs.Tables.{offset-low}
+use Rattle.keccak_f.proofs.TableLaws.{offset-low}
 use Rattle.keccak_f.specs.Permutation.{lanes, offsets, rho}
 use Rattle.keccak_f.specs.Tabulate.{Filling, fill-start, fill-more, fill-stop}
 use Rattle.keccak_f.proofs.Lanes.{rhoAt, rho-at}

@@ -2,6 +2,7 @@
 use mathlib.Core.Path.{ap}
 use Rattle.groups.specs.declared.GroupSearch.{GroupSearch}
 use Rattle.label.proofs.JudgingLaws.{judged-none, judged-in-group}
+use Rattle.compounds.proofs.CompoundLaws.{laid-white}
 use borrow.Author.Needs.{needs}
 use Rattle.label.proofs.judging.judge_text.Statement.{statement}
 use Rattle.label.proofs.judging.judge_text.Tie as tie
@@ -53,7 +54,7 @@ returns c =
     let found = c .before .before .before .before .before .before .before .before .before .group-of .ensures in
     let alone = c .before .before .before .before .before .before .before .before .before .before .before .before .before .before .text-alone .ensures in
     let w = c .before .before .judge-in-group .ensures in
-    (judged-in-group _ _ _ _ _ _ alone _ (ap (λ (x : GroupSearch). x .found) found) _ _ _ (c .before .before .before .before .before .before .before .found .given .1) _ (w .0), w .1)
+    (judged-in-group _ _ _ _ _ _ alone _ (ap (λ (x : GroupSearch). x .found) found) (laid-white _ _ (c .before .before .before .before .before .before .before .before .before .before .before .before .before .before .before .before .before .before .before .pre .0)) _ _ _ (c .before .before .before .before .before .before .before .found .given .1) _ (w .0), w .1)
 
 same-length-3 : tie.Need-same-length-3
 same-length-3 c = search needs

@@ -4,7 +4,8 @@ use mathlib.Core.List.{List}
 use borrow.Author.Tests.{not-true, not-false}
 use Rattle.lists.specs.Lists.{all}
 use Rattle.table.specs.Table.{Group, Whole}
-use Rattle.sound_parts.specs.Parts.{othersScalar, scalarTriple, scalarGroup, scalarWhole}
+use Rattle.sound_parts.specs.Parts.{othersScalar, scalarTriple, scalarWhole}
+use Rattle.soundness.specs.Scalars.{scalarGroup}
 use Rattle.sections.proofs.SectionLaws.{laid-fits, laid-reads}
 use Rattle.sound_parts.proofs.Walks.{triples-all}
 use Rattle.sound_parts.proofs.SectionsHold.{groups-hold, groups-are, wholes-hold, wholes-are}

@@ -34,8 +34,8 @@ returns-2 c =
       sym (ap (λ (rs : List Headed). scalarHeaded rs) (decompositions-are _ _ (c .before .before .before .before .before .pre))) ∙ sym (c .before .scalar-headed-of2 .ensures) ∙ not-true _ (c .if2 .taken),
     )
 
-scalar-emoji-requires : tie.Need-scalar-emoji-requires
-scalar-emoji-requires c κs =
+scalar-sequences-of-requires : tie.Need-scalar-sequences-of-requires
+scalar-sequences-of-requires c κs =
     (laid-fits _ _ (c .before .before .before .before .before .pre) .emoji, emoji-hold _ _ (c .before .before .before .before .before .pre))
 
 returns-3 : tie.Need-returns-3
@@ -44,7 +44,7 @@ returns-3 c =
     rw (
       sym (ap (λ (rs : List Headed). scalarHeaded rs) (mapped-are _ _ (c .before .before .before .before .before .before .before .pre))) ∙ sym (c .before .before .before .before .before .scalar-headed-of .ensures) ∙ not-false _ (c .before .before .before .before .if1 .left),
       sym (ap (λ (rs : List Headed). scalarHeaded rs) (decompositions-are _ _ (c .before .before .before .before .before .before .before .pre))) ∙ sym (c .before .before .before .scalar-headed-of2 .ensures) ∙ not-false _ (c .before .before .if2 .left),
-      sym (ap (λ (rs : List (List ℕ)). all (all isScalar) rs) (emoji-are _ _ (c .before .before .before .before .before .before .before .pre))) ∙ sym (c .before .scalar-emoji .ensures) ∙ not-true _ (c .if3 .taken),
+      sym (ap (λ (rs : List (List ℕ)). all (all isScalar) rs) (emoji-are _ _ (c .before .before .before .before .before .before .before .pre))) ∙ sym (c .before .scalar-sequences-of .ensures) ∙ not-true _ (c .if3 .taken),
     )
 
 scalar-excluded-requires : tie.Need-scalar-excluded-requires
@@ -58,7 +58,7 @@ returns-4 c =
     rw (
       sym (ap (λ (rs : List Headed). scalarHeaded rs) (mapped-are _ _ (c .before .before .before .before .before .before .before .before .pre))) ∙ sym (c .before .before .before .before .before .before .scalar-headed-of .ensures) ∙ not-false _ (c .before .before .before .before .before .if1 .left),
       sym (ap (λ (rs : List Headed). scalarHeaded rs) (decompositions-are _ _ (c .before .before .before .before .before .before .before .before .pre))) ∙ sym (c .before .before .before .before .scalar-headed-of2 .ensures) ∙ not-false _ (c .before .before .before .if2 .left),
-      sym (ap (λ (rs : List (List ℕ)). all (all isScalar) rs) (emoji-are _ _ (c .before .before .before .before .before .before .before .before .pre))) ∙ sym (c .before .before .scalar-emoji .ensures) ∙ not-false _ (c .before .if3 .left),
+      sym (ap (λ (rs : List (List ℕ)). all (all isScalar) rs) (emoji-are _ _ (c .before .before .before .before .before .before .before .before .pre))) ∙ sym (c .before .before .scalar-sequences-of .ensures) ∙ not-false _ (c .before .if3 .left),
     )
     (c .scalar-excluded .ensures ∙ ap (λ (s : List ℕ). all isScalar s) (laid-excluded _ _ (c .before .before .before .before .before .before .before .before .pre) .same))
 
@@ -70,7 +70,7 @@ scalar-records-spec =
     returns
     scalar-headed-of-requires-2
     returns-2
-    scalar-emoji-requires
+    scalar-sequences-of-requires
     returns-3
     scalar-excluded-requires
     returns-4)

@@ -5,7 +5,6 @@ use mathlib.Core.Path.{_∙_}
 use lib.ListN.{length}
 use Rattle.sound_parts.proofs.Walks.{group-room, group-in, group-less}
 use Rattle.sound_choices.proofs.WalkLaws.{GroupsPut, groups-put-start, groups-put-on, groups-put-done}
-use borrow.Author.Needs.{needs}
 use Rattle.sound_rounds.proofs.starts.put_groups.Statement.{statement}
 use Rattle.sound_rounds.proofs.starts.put_groups.Tie as tie
 
@@ -20,11 +19,8 @@ loop-holds c =
     let pre′ = c .before .before .pre in
     groups-put-start _ _ _ (pre′ .0)
 
-add-counted : tie.Need-add-counted Inv-loop μ-loop
-add-counted c = search needs
-
-counted-requires : tie.Need-counted-requires Inv-loop μ-loop
-counted-requires c κs =
+group-at-requires : tie.Need-group-at-requires Inv-loop μ-loop
+group-at-requires c κs =
     let loop′ = c .before .loop in
     let loop-test′ = c .loop-test in
     group-room _ _ (loop′ .i) (loop′ .inv .walk) (loop-test′ .taken)
@@ -33,24 +29,24 @@ put-pairs-of-requires : tie.Need-put-pairs-of-requires Inv-loop μ-loop
 put-pairs-of-requires c κs =
     let loop′ = c .before .before .before .loop in
     let loop-test′ = c .before .before .loop-test in
-    let counted′ = c .before .counted in
+    let group-at′ = c .before .group-at in
     let pre′ = c .before .before .before .before .before .before .pre in
-    (group-in _ _ (loop′ .i) (loop′ .inv .walk) (loop-test′ .taken) (counted′ .result) (counted′ .ensures), loop′ .inv .put .room ∙ pre′ .1)
+    (group-in _ _ (loop′ .i) (loop′ .inv .walk) (loop-test′ .taken) (group-at′ .result) (group-at′ .ensures), loop′ .inv .put .room ∙ pre′ .1)
 
 loop-less : tie.Need-loop-less Inv-loop μ-loop
 loop-less c =
     let loop′ = c .before .before .before .before .before .before .loop in
     let loop-test′ = c .before .before .before .before .before .loop-test in
-    let counted′ = c .before .before .before .before .counted in
-    omega (arith, group-less _ _ (loop′ .i) (loop′ .inv .walk) (loop-test′ .taken) (counted′ .result) (counted′ .ensures))
+    let group-at′ = c .before .before .before .before .group-at in
+    omega (arith, group-less _ _ (loop′ .i) (loop′ .inv .walk) (loop-test′ .taken) (group-at′ .result) (group-at′ .ensures))
 
 loop-again : tie.Need-loop-again Inv-loop μ-loop
 loop-again c =
     let loop′ = c .before .before .before .before .before .before .loop in
     let loop-test′ = c .before .before .before .before .before .loop-test in
-    let counted′ = c .before .before .before .before .counted in
+    let group-at′ = c .before .before .before .before .group-at in
     let put-pairs-of′ = c .before .before .put-pairs-of in
-    groups-put-on _ _ _ _ (loop′ .i) (loop′ .inv) (loop-test′ .taken) (counted′ .result) (counted′ .ensures) _ (put-pairs-of′ .ensures)
+    groups-put-on _ _ _ _ (loop′ .i) (loop′ .inv) (loop-test′ .taken) (group-at′ .result) (group-at′ .ensures) _ (put-pairs-of′ .ensures)
 
 same-length : tie.Need-same-length Inv-loop μ-loop
 same-length c =
@@ -70,8 +66,7 @@ put-groups-spec =
     Inv-loop
     μ-loop
     loop-holds
-    add-counted
-    counted-requires
+    group-at-requires
     put-pairs-of-requires
     loop-less
     loop-again

@@ -1,0 +1,2 @@
+pub mod Compounds
+pub mod Tokens

@@ -1,0 +1,2 @@
+pub mod ClaimLaws
+pub mod TakeLaws

@@ -1,0 +1,3 @@
+pub mod Laid
+pub mod Label16
+pub mod Calls16
