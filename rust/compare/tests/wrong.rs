@@ -9,12 +9,13 @@ use plain::text::{compose, four_rounds, order};
 use plain::tokens::strip;
 use plain::*;
 use std::collections::{BTreeSet, HashSet};
+use std::ops::RangeInclusive;
 
 /// Declares an enum of engines, right ones and wrong ones, and the list of
 /// those that are wrong.
 macro_rules! wrongs {
     ($name:ident, $list:ident; $($right:ident,)*; $($wrong:ident,)*) => {
-        #[derive(Clone, Copy, Debug, PartialEq, Eq)]
+        #[derive(Clone, Copy, Debug, PartialEq, Eq, PartialOrd)]
         enum $name {
             $($right,)*
             $($wrong,)*
@@ -70,19 +71,7 @@ wrongs! {
 use Wrong::*;
 
 /// Those of a group's list, which few tables have.
-const OF_LISTS: [Wrong; 11] = [
-    ShorterForLonger,
-    ListOfDecomposed,
-    SixteenBeforeTwelve,
-    SixteenAfterFourteen,
-    OneMarkNotAsked,
-    EmptyListNotAsked,
-    LastRecordNotAsked,
-    TriesLaterGroups,
-    ThirteenBesideSixteen,
-    ListOfNsm,
-    ListItemsHeld,
-];
+const OF_LISTS: RangeInclusive<Wrong> = ShorterForLonger..=ListItemsHeld;
 
 /// The rules of one label put together anew from the parts of the plain
 /// version, with one thing wrong.
