@@ -15,7 +15,7 @@ ghost use Rattle.rule8_laws.specs.Found.{RulesHold};
 ghost use Rattle.unpaired.specs.Unpaired.{pairPlaces, Unpaired};
 
 // The shortest input for which they are looked for.
-const QUICK_FROM: usize = 512;
+const QUICK_FROM: usize = 2048;
 
 // Notes that rules 6 to 8 hold, if they are found to, for an input of n codepoints. 02, Item 11: "only where the set isn't empty and that pass
 // found rules 6 to 8 to hold".

@@ -47,7 +47,7 @@ pub fn check_room_by_pass<'t>(table: &'t [u32], work: &[u32], input: &[u32]) -> 
 }
 
 /// The shortest input for which rules 6 to 8 are looked for.
-pub const QUICK_FROM: usize = 512;
+pub const QUICK_FROM: usize = 2048;
 
 /// 2 alone.
 pub fn check_work(work: &[u32]) -> Result<(), Refusal> {
