@@ -2,12 +2,12 @@
 use Rattle.lists.specs.Tests.{never}
 use mathlib.Core.Bool.{true}
 use mathlib.Core.Path.{refl, sym}
-use Rattle.quick_records.proofs.SecondLaws.{no-record}
+use Rattle.quick_seconds.proofs.SecondLaws.{no-record}
 use denote.Ref.{now}
 use Rattle.table.specs.Layout.{theTable}
 use borrow.Author.Needs.{needs}
-use Rattle.quick_records.proofs.has_no_record.Statement.{statement}
-use Rattle.quick_records.proofs.has_no_record.Tie as tie
+use Rattle.quick_seconds.proofs.has_no_record.Statement.{statement}
+use Rattle.quick_seconds.proofs.has_no_record.Tie as tie
 
 decomposition-items-requires : tie.Need-decomposition-items-requires
 decomposition-items-requires c κs = search needs

@@ -1,10 +1,10 @@
 -- `fits_anew` meets its contract. Assumes nothing.
 use mathlib.Core.Path.{sym, _∙_}
 use borrow.Author.Tests.{not-false}
-use Rattle.quick_records.proofs.SecondLaws.{second-not, second-anew}
+use Rattle.quick_seconds.proofs.SecondLaws.{second-not, second-anew}
 use borrow.Author.Needs.{needs}
-use Rattle.quick_records.proofs.fits_anew.Statement.{statement}
-use Rattle.quick_records.proofs.fits_anew.Tie as tie
+use Rattle.quick_seconds.proofs.fits_anew.Statement.{statement}
+use Rattle.quick_seconds.proofs.fits_anew.Tie as tie
 
 is-syllable-requires : tie.Need-is-syllable-requires
 is-syllable-requires c κs = search needs

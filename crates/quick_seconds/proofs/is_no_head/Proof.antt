@@ -1,11 +1,11 @@
 -- `is_no_head` meets its contract: by the filter, or by the section. Assumes nothing.
 use mathlib.Core.Path.{sym, _∙_}
 use borrow.Author.Tests.{not-true}
-use Rattle.quick_records.proofs.SecondLaws.{held-none, head-by-filter, head-not, head-by-section}
+use Rattle.quick_seconds.proofs.SecondLaws.{held-none, head-by-filter, head-not, head-by-section}
 use native.Mathlib.Omega.{arith}
 use borrow.Author.Needs.{needs}
-use Rattle.quick_records.proofs.is_no_head.Statement.{statement}
-use Rattle.quick_records.proofs.is_no_head.Tie as tie
+use Rattle.quick_seconds.proofs.is_no_head.Statement.{statement}
+use Rattle.quick_seconds.proofs.is_no_head.Tie as tie
 
 may-hold-requires : tie.Need-may-hold-requires
 may-hold-requires c κs = search needs

@@ -1,11 +1,11 @@
 -- `second_fits` meets its contract: what is kept fits. Assumes nothing.
 use mathlib.Core.Path.{sym, _∙_}
 use borrow.Author.Tests.{not-false}
-use Rattle.quick_records.proofs.SecondLaws.{second-not, second-kept, second-new}
+use Rattle.quick_seconds.proofs.SecondLaws.{second-not, second-kept, second-new}
 use borrow.Author.Needs.{needs}
 use native.Mathlib.Omega.{arith}
-use Rattle.quick_records.proofs.second_fits.Statement.{statement}
-use Rattle.quick_records.proofs.second_fits.Tie as tie
+use Rattle.quick_seconds.proofs.second_fits.Statement.{statement}
+use Rattle.quick_seconds.proofs.second_fits.Tie as tie
 
 cast-i : tie.Need-cast-i
 cast-i c = search needs
