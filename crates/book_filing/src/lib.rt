@@ -1,11 +1,11 @@
 // The form under which a name is filed, with the refusals before it: 40 and 41, those of the name call, 42 and 43.
 use answers::NameAnswer;
 use book_answers::BookAnswer;
+use book_damage::is_damaged;
 use book_slots::AREA;
 use book_slots::FORM;
 use book_slots::FRONT;
 use book_slots::SLOTS;
-use book_slots::damage::is_damaged;
 ghost use Prim.Native.Nat.{_≤_};
 ghost use lib.ListN.{length, take};
 ghost use Rattle.book_answers.specs.Calls.{fileable, formFor};

@@ -1,11 +1,11 @@
 // What is done in the slots under a form: the words of the slots alone are lent, without the front words.
 use book_answers::BookAnswer;
 use book_answers::FindAnswer;
+use book_keeping::account_at;
+use book_keeping::clear_at;
+use book_keeping::fill_at;
 use book_slots::Account;
 use book_slots::SLOTS;
-use book_slots::keeping::account_at;
-use book_slots::keeping::clear_at;
-use book_slots::keeping::fill_at;
 use book_slots::slots::Spot;
 use book_slots::slots::find_slot;
 use book_slots::slots::spot_for;

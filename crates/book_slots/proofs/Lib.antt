@@ -1,5 +1,3 @@
 pub mod Cuts
 pub mod Walking
 pub mod Naming
-pub mod Damages
-pub mod Writing

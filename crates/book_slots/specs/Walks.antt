@@ -1,4 +1,4 @@
--- What the inner functions of this crate answer. Assumes nothing.
+-- What the walks over the slots answer. Assumes nothing.
 use Prim.Native.Nat.{ℕ}
 use mathlib.Core.Bool.{Bool, false, not, _&&_}
 use mathlib.Core.List.{List, [], _∷_}

@@ -1,7 +1,4 @@
-// The area of a payee book as slots: looking for one, damage, writing one. specs/Book.antt states what the area holds, specs/Damage.antt
-// what damage is.
-pub mod damage;
-pub mod keeping;
+// The area of a payee book as slots: looking for one. specs/Book.antt states what the area holds, specs/Damage.antt what damage is.
 pub mod slots;
 
 // The words of the area: those of the front, which the reset skips, then the slots.

@@ -1,5 +1,5 @@
 // The sponge: its state goes in and comes back by value.
-use keccak_f::permute::permute;
+use keccak_rounds::permute;
 ghost use mathlib.Core.Path.{_≡_};
 ghost use Prim.Native.Nat.{_<_};
 ghost use Rattle.keccak.specs.Sponge.{squeezed};

@@ -1,4 +1,2 @@
-pub mod Lanes
 pub mod Rotation
-pub mod Rounds
-pub mod TableLaws
+pub mod Lanes

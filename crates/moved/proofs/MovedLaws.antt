@@ -28,7 +28,7 @@ use Rattle.book_slots.specs.Book.{areaSize, frontSize, slotCount, slotSize, for
 use Rattle.book_slots.specs.Damage.{slotDamaged, nameTwice, damaged}
 use Rattle.book_slots.specs.SlotLaws.{slots-next, slots-long}
 use Rattle.book_slots.proofs.Naming.{name-part}
-use Rattle.book_slots.proofs.Damages.{not-too-long, whole-at}
+use Rattle.book_damage.proofs.Damages.{not-too-long, whole-at}
 use Rattle.book_slots.proofs.Walking.{wordsAt, part-slot}
 use Rattle.book_answers.specs.Calls.{opened}
 use Rattle.book_filing.specs.Forms.{OpeningIs}

@@ -29,7 +29,8 @@ use Rattle.sound_parts.proofs.SectionsHold.{decompositions-hold, decompositions
 use Rattle.quick_local.specs.Local.{isHead, Levels, Local}
 use Rattle.quick_filters.specs.Filter.{filterWords, holds}
 use Rattle.quick_levels.specs.Walk.{Each, Few, HeadsNoted, HeadNoted, Apart}
-use Rattle.quick_records.specs.Fit.{PartOf, HeadsHeld, Fitting, Looked, JamoHeld, Decomposed}
+use Rattle.quick_seconds.specs.Seconds.{HeadsHeld}
+use Rattle.quick_records.specs.Fit.{PartOf, Fitting, Looked, JamoHeld, Decomposed}
 use Rattle.quick_records.proofs.FitLaws.{set-of}
 
 two-long : (s : List ℕ) → isTwo s ≡ true → length s ≡ 2

@@ -29,7 +29,8 @@ use Rattle.sound_parts.specs.Parts.{recordOf}
 use Rattle.unpaired.specs.Unpaired.{mayCompose}
 use Rattle.quick_filters.specs.Filter.{filterWords, holds, RunsNoted}
 use Rattle.quick_levels.specs.Walk.{Each, Few, Passed, Indexed, itemsAt}
-use Rattle.quick_records.specs.Fit.{PartOf, SetOf, Cleared, Good, ByHead, SecondAsked, Behind, Composing, RecordAsked, Fitting}
+use Rattle.quick_records.specs.Fit.{PartOf, SetOf, Cleared, ByHead, Behind, Composing, RecordAsked, Fitting}
+use Rattle.quick_seconds.specs.Seconds.{Good, SecondAsked}
 use Rattle.quick_filters.proofs.FilterLaws.{was-clear}
 use Rattle.quick_levels.proofs.WalkLaws.{passed-here, passed-more}
 

@@ -1,2 +1,2 @@
-pub mod SecondLaws
 pub mod FitLaws
+pub mod BehindLaws

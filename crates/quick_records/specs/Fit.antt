@@ -3,7 +3,7 @@ use Prim.Native.Nat.{ℕ, _+_, _≤_, _<_}
 use mathlib.Core.Path.{_≡_}
 use mathlib.Core.Bool.{Bool, true, false}
 use mathlib.Core.List.{List, List·Memᴰ}
-use lib.ListN.{length, getD}
+use lib.ListN.{length}
 use Rattle.lists.specs.Lists.{mem}
 use Rattle.table.specs.Table.{Table, Headed}
 use Rattle.table.specs.Lookup.{inQuickCheck}
@@ -21,6 +21,7 @@ use Rattle.quick_local.specs.Local.{isHead, Levels, SecondFits, OuterFits}
 use Rattle.quick_filters.specs.Filter.{filterWords, holds}
 use Rattle.quick_filters.specs.Slot.{mostLooked}
 use Rattle.quick_levels.specs.Walk.{Each, Few, Apart, Indexed}
+use Rattle.quick_seconds.specs.Seconds.{Good}
 
 -- the words of the decompositions, and of the quick-check set
 pub record PartOf (t : Table) (part : List ℕ) : Type 0 where
@@ -31,11 +32,6 @@ pub record PartOf (t : Table) (part : List ℕ) : Type 0 where
 abbrev pub SetOf : Table → List ℕ → Type 0
 SetOf t set = (c : ℕ) → inPairs c set ≡ inQuickCheck t c
 
--- every head is in the filter
-pub record HeadsHeld (t : Table) (set : List ℕ) : Type 0 where
-  pub room : length set ≡ filterWords
-  pub each : (c : ℕ) → isHead t c ≡ true → holds set c ≡ true
-
 -- nothing is said of c but by decompositions
 pub record ClearOf (t : Table) (c : ℕ) : Type 0 where
   pub excluded : mem c (t .exclusions) ≡ false
@@ -45,19 +41,6 @@ pub record ClearOf (t : Table) (c : ℕ) : Type 0 where
 pub record Cleared (t : Table) (set : List ℕ) : Type 0 where
   pub room : length set ≡ filterWords
   pub clear : (c : ℕ) → holds set c ≡ false → ClearOf t c
-
--- second items that were found to fit; and a last word, how often a codepoint was asked for among the heads
-pub record Good (t : Table) (good : List ℕ) : Type 0 where
-  pub room : length good ≡ 257
-  pub each : (i : ℕ) → i < 256 → (getD good i 0 ≡ 0 → ⊥) → SecondFits t (getD good i 0)
-
-pub record HeadAsked (t : Table) (good : List ℕ) (b : ℕ) (r : Bool) : Type 0 where
-  pub kept : Good t good
-  pub none : r ≡ true → isHead t b ≡ false
-
-pub record SecondAsked (t : Table) (good : List ℕ) (b : ℕ) (r : Bool) : Type 0 where
-  pub kept : Good t good
-  pub fits : r ≡ true → SecondFits t b
 
 -- b is in order behind the second item of what a decomposes to
 abbrev pub Behind : Table → ℕ → ℕ → Type 0

@@ -1,17 +1,19 @@
 // What rules 7 and 8 ask of each decomposition.
+
 use quick_filters::filters::may_hold;
 use quick_filters::filters::note_runs;
 use quick_filters::slots::SLOTS;
 use quick_filters::slots::find_slot;
 use quick_levels::index_records;
+use quick_seconds::second_fits;
 use sections::Sections;
-use sections::lookup::decomposition_items;
 use sections::lookup::in_quick_check;
-use table::Items;
 use text::class::class_of;
-use text::hangul::is_jamo;
-use text::hangul::is_syllable;
 use unpaired::may_compose;
+
+// So many codepoints of a section are put into the filter.
+const MOST_SAID: u32 = 4096;
+
 ghost use mathlib.Core.Path.{_≡_};
 ghost use mathlib.Core.Bool.{true, false};
 ghost use mathlib.Core.List.{[], _∷_};
@@ -22,17 +24,11 @@ ghost use Rattle.table.specs.Layout.{theTable};
 ghost use Rattle.table.specs.Part.{inPairs};
 ghost use Rattle.text.specs.Ordering.{outOfOrder};
 ghost use Rattle.sound_parts.specs.Parts.{recordOf};
-ghost use Rattle.quick_local.specs.Local.{isHead};
 ghost use Rattle.heads.specs.Heads.{rising};
 ghost use Rattle.quick_filters.specs.Filter.{filterWords};
 ghost use Rattle.quick_levels.specs.Walk.{Each, Few, itemsAt};
-ghost use Rattle.quick_records.specs.Fit.{PartOf, SetOf, HeadsHeld, Cleared, Good, HeadAsked, SecondAsked, Behind, ByHead, Composing, RecordAsked, Fitting};
-
-// So many codepoints of a section are put into the filter.
-const MOST_SAID: u32 = 4096;
-
-// So often a codepoint is asked for among the heads that may be one by the filter.
-const MOST_ASKED: u32 = 64;
+ghost use Rattle.quick_records.specs.Fit.{PartOf, SetOf, Cleared, Behind, ByHead, Composing, RecordAsked, Fitting};
+ghost use Rattle.quick_seconds.specs.Seconds.{HeadsHeld, Good};
 
 // The place of the first entry that ends at c or above it, from an entry on. No answer hangs on its being the first: `covers` asks it.
 fn advance(set: &[u32], from: usize, c: u32) -> usize
@@ -69,72 +65,6 @@ pub fn covers_run(set: &[u32], a: u32, b: u32) -> bool
 {
     let k = advance(set, 0, b);
     covers(set, k, a, b)
-}
-
-// Whether no decomposition has the head c.
-fn has_no_record(words: &[u32], ix: Sections, c: u32) -> bool
-    requires { ⌜ Laid (now words) ix ⌝ }
-    ensures { λ r. ⌜ (r ≡ true → isHead (theTable (now (words .entry))) c ≡ false) ⌝ }
-{
-    match decomposition_items(words, ix, c) {
-        Items::At(_) => false,
-        Items::Nothing => true,
-    }
-}
-
-// Whether b is found to be no head. Where the filter cannot tell, the section is asked, so often in all as the last word of `good` allows.
-fn is_no_head(words: &[u32], ix: Sections, heads: &[u32], good: &mut [u32], b: u32) -> bool
-    requires { ⌜ Laid (now words) ix × HeadsHeld (theTable (now words)) (now heads) ⌝ }
-    requires { ⌜ Good (theTable (now words)) (now good) ⌝ }
-    ensures { λ r. ⌜ HeadAsked (theTable (now (words .entry))) (now (good .exit)) b r ⌝ }
-{
-    if !may_hold(heads, b) {
-        return true;
-    }
-    let asked = good[256];
-    if MOST_ASKED <= asked {
-        return false;
-    }
-    good[256] = asked + 1;
-    has_no_record(words, ix, b)
-}
-
-// Whether b may be the second item of a composition pair.
-fn fits_anew(words: &[u32], ix: Sections, heads: &[u32], good: &mut [u32], b: u32) -> bool
-    requires { ⌜ Laid (now words) ix × HeadsHeld (theTable (now words)) (now heads) ⌝ }
-    requires { ⌜ Good (theTable (now words)) (now good) ⌝ }
-    ensures { λ r. ⌜ SecondAsked (theTable (now (words .entry))) (now (good .exit)) b r ⌝ }
-{
-    if is_syllable(b) {
-        return false;
-    }
-    if is_jamo(b) {
-        return false;
-    }
-    if !in_quick_check(words, ix, b) {
-        return false;
-    }
-    is_no_head(words, ix, heads, good, b)
-}
-
-// The same; one that fits is kept in `good`.
-fn second_fits(words: &[u32], ix: Sections, heads: &[u32], good: &mut [u32], b: u32) -> bool
-    requires { ⌜ Laid (now words) ix × HeadsHeld (theTable (now words)) (now heads) ⌝ }
-    requires { ⌜ Good (theTable (now words)) (now good) ⌝ }
-    ensures { λ r. ⌜ SecondAsked (theTable (now (words .entry))) (now (good .exit)) b r ⌝ }
-{
-    let i = (b % 256) as usize;
-    if b == 0 {
-        return false;
-    }
-    if good[i] == b {
-        return true;
-    }
-    if !fits_anew(words, ix, heads, good, b) {
-        return false;
-    }
-    good[i] = b;
-    true
 }
 
 // Whether the class of y is 0 or at least that of x.

@@ -1,4 +1,3 @@
 pub mod RecordLaws
-pub mod PassLaws
-pub mod RunLaws
+pub mod RuleLaws
 pub mod SetLaws

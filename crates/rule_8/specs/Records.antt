@@ -1,37 +1,11 @@
 -- Rule 8, decomposition by decomposition. Assumes nothing.
 use Prim.Native.Nat.{ℕ}
-use mathlib.Core.Path.{_≡_}
-use mathlib.Core.Bool.{Bool, true, not, _&&_, _||_}
-use mathlib.Core.List.{List, [], _∷_}
-use lib.Dec.{eqb}
-use Rattle.lists.specs.Lists.{all, sameList}
+use mathlib.Core.Bool.{Bool, not, _&&_, _||_}
+use mathlib.Core.List.{List}
 use Rattle.table.specs.Table.{Headed, Table}
-use Rattle.table.specs.Lookup.{inQuickCheck}
-use Rattle.text.specs.Ordering.{order}
-use Rattle.text.specs.Composition.{firstItem, compose}
-use Rattle.text.specs.QuickCheck.{secondItem, isSecond}
+use Rattle.text.specs.QuickCheck.{secondItem}
 use Rattle.soundness.specs.QuickCheck.{passes8}
 use Rattle.rule_7.specs.Pairs.{pairOf}
-
--- a record is a composition pair, and x its second item
-unfoldable pub secondIs : Table → ℕ → ℕ → List ℕ → Bool
-unfolding pairOf
-secondIs t x h items = pairOf t h items && eqb (secondItem items) x
-
-abbrev pub secondIsIn : Table → ℕ → Headed → Bool
-secondIsIn t x r = secondIs t x (r .head) (r .items)
-
--- a record is no composition pair, or its second item is in the set
-unfoldable pub secondHeld : Table → ℕ → List ℕ → Bool
-unfolding pairOf
-secondHeld t h items = not (pairOf t h items) || inQuickCheck t (secondItem items)
-
-abbrev pub secondHeldIn : Table → Headed → Bool
-secondHeldIn t r = secondHeld t (r .head) (r .items)
-
--- where `held` says so, every second item of the table's composition pairs is in the set
-abbrev pub SecondsHeld : Table → Bool → Type 0
-SecondsHeld t held = held ≡ true → all (secondHeldIn t) (t .decompositions) ≡ true
 
 -- the head of a record passes, and so does its second item, if it is a composition pair
 unfoldable pub recordPasses : Table → ℕ → List ℕ → Bool
@@ -40,8 +14,3 @@ recordPasses t h items = passes8 t h && (not (pairOf t h items) || passes8 t (se
 
 abbrev pub recordPassesIn : Table → Headed → Bool
 recordPassesIn t r = recordPasses t (r .head) (r .items)
-
--- decomposed text, put in order, starts with no second item and is composed to c alone
-unfoldable pub composesTo : Table → List ℕ → ℕ → Bool
-unfolding order compose isSecond
-composesTo t d c = not (isSecond t (firstItem (order t d))) && sameList (compose t (order t d)) (c ∷ [])

@@ -2,14 +2,14 @@
 use answers::Soundness;
 use layout::layout;
 use quick_found::finds;
+use rule_1::rule1;
 use rule_2::rule2;
+use rule_3::rule3;
 use rule_4::rule4;
 use rule_5::rule5;
 use rule_6::rule6;
 use rule_7::rule7;
 use rule_8::rule8;
-use rules_1_3::rule1;
-use rules_1_3::rule3;
 use sections::Layout;
 use sections::Sections;
 ghost use mathlib.Core.Path.{_≡_};

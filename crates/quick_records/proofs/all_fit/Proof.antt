@@ -10,7 +10,8 @@ use Rattle.lists.specs.Tests.{never}
 use Rattle.table.specs.Table.{Headed}
 use Rattle.table.specs.Layout.{theTable}
 use Rattle.quick_levels.specs.Walk.{Each, Passed}
-use Rattle.quick_records.specs.Fit.{Good, Fitting}
+use Rattle.quick_seconds.specs.Seconds.{Good}
+use Rattle.quick_records.specs.Fit.{Fitting}
 use Rattle.quick_levels.proofs.WalkLaws.{passed-start, passed-here, passed-stop}
 use Rattle.quick_records.proofs.FitLaws.{fits-more}
 use native.Mathlib.Omega.{arith}

@@ -2,7 +2,7 @@
 use Rattle.lists.specs.Tests.{never}
 use mathlib.Core.Bool.{true}
 use mathlib.Core.Path.{refl, sym}
-use Rattle.quick_records.proofs.SecondLaws.{behind-none, behind-room, behind-found}
+use Rattle.quick_records.proofs.BehindLaws.{behind-none, behind-room, behind-found}
 use borrow.Author.Needs.{needs}
 use native.Mathlib.Omega.{arith}
 use Rattle.quick_records.proofs.behind_fits.Statement.{statement}

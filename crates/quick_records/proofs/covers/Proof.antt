@@ -2,7 +2,7 @@
 use Rattle.lists.specs.Tests.{never}
 use mathlib.Core.Bool.{true}
 use mathlib.Core.Path.{refl, sym}
-use Rattle.quick_records.proofs.SecondLaws.{entry-covers}
+use Rattle.quick_records.proofs.BehindLaws.{entry-covers}
 use borrow.Author.Needs.{needs}
 use Rattle.quick_records.proofs.covers.Statement.{statement}
 use Rattle.quick_records.proofs.covers.Tie as tie

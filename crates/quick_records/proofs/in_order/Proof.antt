@@ -3,7 +3,7 @@ use denote.Ref.{now}
 use mathlib.Core.Path.{sym, _∙_}
 use borrow.Author.Tests.{leb-true}
 use Rattle.table.specs.Layout.{theTable}
-use Rattle.quick_records.proofs.SecondLaws.{order-zero, order-most}
+use Rattle.quick_records.proofs.BehindLaws.{order-zero, order-most}
 use borrow.Author.Needs.{needs}
 use Rattle.quick_records.proofs.in_order.Statement.{statement}
 use Rattle.quick_records.proofs.in_order.Tie as tie

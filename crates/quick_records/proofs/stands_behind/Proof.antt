@@ -1,7 +1,7 @@
 -- `stands_behind` meets its contract. Assumes nothing.
 use mathlib.Core.Path.{sym, _∙_}
 use borrow.Author.Tests.{not-true}
-use Rattle.quick_records.proofs.SecondLaws.{behind-no-head}
+use Rattle.quick_records.proofs.BehindLaws.{behind-no-head}
 use borrow.Author.Needs.{needs}
 use Rattle.quick_records.proofs.stands_behind.Statement.{statement}
 use Rattle.quick_records.proofs.stands_behind.Tie as tie

@@ -4,9 +4,9 @@ use borrow.Author.Tests.{not-true, not-false}
 use Rattle.lists.specs.Lists.{all}
 use Rattle.sections.proofs.SectionLaws.{laid-fits}
 use Rattle.sound_parts.proofs.SectionsHold.{decompositions-hold, decompositions-are}
-use Rattle.rule_8.specs.Records.{secondHeldIn}
+use Rattle.second_items.specs.Seconds.{secondHeldIn}
 use Rattle.rule_8.proofs.SetLaws.{set-empty, set-some}
-use Rattle.rule_8.proofs.RunLaws.{rule8-empty, vowels-fail, trailings-fail, syllables-fail, records-decide}
+use Rattle.rule_8.proofs.RuleLaws.{rule8-empty, vowels-fail, trailings-fail, syllables-fail, records-decide}
 use borrow.Author.Needs.{needs}
 use Rattle.rule_8.proofs.rule8.keeps_rule8.Statement.{statement}
 use Rattle.rule_8.proofs.rule8.keeps_rule8.Tie as tie

@@ -1,7 +1,8 @@
 -- `rule8::record_passes` meets its contract. Assumes nothing.
 use mathlib.Core.Path.{sym, _∙_}
 use borrow.Author.Tests.{not-true, not-false}
-use Rattle.rule_8.proofs.RecordLaws.{held-long, head-fails, held-passes, second-decides}
+use Rattle.second_items.proofs.ItemLaws.{held-long}
+use Rattle.rule_8.proofs.RecordLaws.{head-fails, held-passes, second-decides}
 use borrow.Author.Needs.{needs}
 use Rattle.rule_8.proofs.rule8.record_passes.Statement.{statement}
 use Rattle.rule_8.proofs.rule8.record_passes.Tie as tie

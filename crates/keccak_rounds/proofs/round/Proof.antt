@@ -1,0 +1,33 @@
+-- `round`: the five steps one after another. Assumes nothing.
+use borrow.Author.Needs.{needs}
+use Rattle.keccak_rounds.proofs.Rounds.{steps}
+use Rattle.keccak_rounds.proofs.round.Statement.{statement}
+use Rattle.keccak_rounds.proofs.round.Tie as tie
+
+theta-requires : tie.Need-theta-requires
+theta-requires c κs = search needs
+
+rho-requires : tie.Need-rho-requires
+rho-requires c κs = search needs
+
+pi-requires : tie.Need-pi-requires
+pi-requires c κs = search needs
+
+chi-requires : tie.Need-chi-requires
+chi-requires c κs = search needs
+
+iota-requires : tie.Need-iota-requires
+iota-requires c κs = search needs
+
+returns : tie.Need-returns
+returns c =
+    steps _ _ _ _ _ _ _
+    (c .before .before .before .before .before .before .before .theta .ensures)
+    (c .before .before .before .before .before .rho .ensures)
+    (c .before .before .before .pi .ensures)
+    (c .before .chi .ensures)
+    (c .iota .ensures)
+
+pub round-spec : {M : Type 1} → statement M
+round-spec =
+    tie.close (tie.spec theta-requires rho-requires pi-requires chi-requires iota-requires returns)

@@ -1,0 +1,2 @@
+// Rule 1 of the soundness check.
+pub mod rule1;

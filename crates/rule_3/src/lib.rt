@@ -1,0 +1,2 @@
+// Rule 3 of the soundness check.
+pub mod rule3;

@@ -1,3 +1,0 @@
-// Rules 1 and 3 of the soundness check.
-pub mod rule1;
-pub mod rule3;
