@@ -10,14 +10,14 @@ use Rattle.buffers.proofs.Parts.{mid-tail, length-tail, put-tail}
 use Rattle.answers.specs.Verdict.{Verdict, accepted, refused, next}
 use Rattle.book_slots.specs.Book.{frontSize, slotCount, slotSize, formRoom, areaSize, Slot, slotsOf, slotsIn}
 use Rattle.book_answers.specs.declared.BookAnswer.{BookAnswer}
-use Rattle.book_filing.specs.declared.Filing.{Filing}
-use Rattle.book_filing.specs.declared.Filing.the-variants.{Refused, Form}
+use Rattle.book_forms.specs.declared.Filing.{Filing}
+use Rattle.book_forms.specs.declared.Filing.the-variants.{Refused, Form}
 use Rattle.book_answers.specs.Calls.{BookValues, Kept, bookNumber, bookPlace, noAccount, areaAfter, bookResult, opened, formFor, byForm}
 use Rattle.book_answers.specs.Promise.{bookValues, Leaves}
-use Rattle.book_filing.specs.Forms.{Stands, FilingIs, Files}
+use Rattle.book_forms.specs.Forms.{Stands, FilingIs, Files}
 use Rattle.book_jobs.specs.Works.{slotsAfter, Works}
 use Rattle.book.specs.Steps.{Judged}
-use Rattle.book_filing.proofs.OpenLaws.{right-size}
+use Rattle.book_forms.proofs.OpenLaws.{right-size}
 
 -- a refusal before the form is the call's
 next-refused : {A B C : Type 0} (o : Verdict A) (v : Verdict B) (g : A → B → Verdict C) (n p : ℕ) → next o (λ a. v) ≡ refused n p

@@ -1,8 +1,8 @@
 // The calls of the book that take a name: each answers, and leaves the answer buffer and the work area as zeros.
 use book_answers::BookAnswer;
 use book_answers::FindAnswer;
-use book_filing::Filing;
 use book_filing::form_for;
+use book_forms::Filing;
 use book_jobs::find_in;
 use book_jobs::forget_in;
 use book_jobs::no_account;

@@ -1,14 +1,10 @@
--- The form under which a name is filed: what the name call answered, then 42 and 43. Assumes nothing.
-use Prim.Native.Nat.{ℕ, _≤_, _<_}
-use native.Mathlib.Omega.{arith}
+-- The form under which a name is filed: what the name call answered, then what is said of that. Assumes nothing.
+use Prim.Native.Nat.{ℕ, _≤_}
 use mathlib.Core.Path.{_≡_, refl, sym, ap, _∙_}
 use mathlib.Core.Bool.{false}
 use mathlib.Core.List.{List}
 use lib.ListN.{length, take}
-use lib.Seq.{length-take-le}
 use lib.Dec.{eqb}
-use borrow.Author.Tests.{lt-ltb, le-ltb}
-use Rattle.lists.specs.Laws.{not-empty}
 use Rattle.answers.specs.Verdict.{Verdict, accepted, refused}
 use Rattle.answers.specs.Values.{NameValues, nameValues, numberOf, placeOf}
 use Rattle.answers.specs.declared.Refusal.{Refusal}
@@ -18,35 +14,14 @@ use Rattle.answers.specs.declared.NameAnswer.the-variants as name
 use Rattle.ending.specs.Ends.{result-fits}
 use Rattle.name.specs.Name.{nameAnswering, nameBefore15, nameVerdict, nameResult, nameCall}
 use Rattle.name.specs.Calls.{NameCalls}
-use Rattle.book_slots.specs.Book.{formRoom, slotsIn}
+use Rattle.book_slots.specs.Book.{slotsIn}
 use Rattle.book_answers.specs.declared.BookAnswer.the-variants.{OtherSize, Damaged, Refused}
-use Rattle.book_filing.specs.declared.Opening.{Opening}
-use Rattle.book_filing.specs.declared.Opening.the-variants as opening
-use Rattle.book_filing.specs.declared.Filing.{Filing}
-use Rattle.book_filing.specs.declared.Filing.the-variants as filing
+use Rattle.book_forms.specs.declared.Opening.{Opening}
+use Rattle.book_forms.specs.declared.Opening.the-variants as opening
+use Rattle.book_forms.specs.declared.Filing.{Filing}
+use Rattle.book_forms.specs.declared.Filing.the-variants as filing
 use Rattle.book_answers.specs.Calls.{opened, fileable, formFor}
-use Rattle.book_filing.specs.Forms.{OpeningIs, Stands, FormIs, Formed, FilingIs, Files}
-
--- 42 and 43 of the first n words
-module _ (answer : List ℕ) (n : ℕ) (h : n ≤ length answer) where
-  long : length (take n answer) ≡ n
-  long = length-take-le n answer h
-
-  pub empty-form : n ≡ 0 → fileable (take n answer) ≡ refused 42 0
-  empty-form e = rw e
-
-  module _ (g : n ≡ 0 → ⊥) where
-    pub long-form : formRoom < n → fileable (take n answer) ≡ refused 43 0
-    long-form k =
-        rw (not-empty (take n answer) (omega (arith, long, g)), lt-ltb formRoom (length (take n answer)) (omega (arith, long)))
-
-    pub form-stands : n ≤ formRoom → Stands (fileable (take n answer)) answer n
-    form-stands k =
-        record {
-          form = rw (not-empty (take n answer) (omega (arith, long, g)), le-ltb formRoom (length (take n answer)) (omega (arith, long)));
-          short = k;
-          fits = h;
-        }
+use Rattle.book_forms.specs.Forms.{OpeningIs, FormIs, Formed, FilingIs, Files}
 
 -- a refusal has a number
 numbered : (f : Refusal) → eqb (numberOf f) 0 ≡ false

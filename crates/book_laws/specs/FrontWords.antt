@@ -11,9 +11,9 @@ use Rattle.answers.specs.Verdict.{Verdict, accepted, refused, next}
 use Rattle.book_slots.specs.Book.{frontSize, slotCount, slotSize, areaSize, Slot, slotsIn}
 use Rattle.book_slots.specs.SlotLaws.{zeros-slots}
 use Rattle.book_answers.specs.Calls.{BookResult, Kept, areaAfter, bookResult, sized, opened, byForm, resetCall}
-use Rattle.book_filing.proofs.OpenLaws.{right-size}
-use Rattle.book_laws.specs.Map.{Call, by, reset, bookCall, areaLeft}
-use Rattle.book_laws.specs.Jobs.{bookJob}
+use Rattle.book_forms.proofs.OpenLaws.{right-size}
+use Rattle.book_map.specs.Map.{Call, by, reset, bookCall, areaLeft}
+use Rattle.book_map.specs.Jobs.{bookJob}
 use Rattle.book_laws.specs.MapTheorem.{with-front, job-result}
 
 -- a call that is not refused had an area of the right size

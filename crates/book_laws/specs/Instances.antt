@@ -7,7 +7,7 @@ use Rattle.limits.specs.Limits.{leastWork}
 use Rattle.book_slots.specs.Book.{frontSize}
 use Rattle.book_answers.specs.Calls.{BookValues}
 use Rattle.cases.specs.SmallTable.{smallTable}
-use Rattle.book_laws.specs.Map.{Call, by, reset, save, find, forget, mapAnswers, bookAnswers}
+use Rattle.book_map.specs.Map.{Call, by, reset, save, find, forget, mapAnswers, bookAnswers}
 use Rattle.book_laws.specs.MapTheorem.{zeroed, map-theorem}
 
 abbrev account : ℕ → List ℕ

@@ -1,8 +1,3 @@
-pub mod Map
-pub mod Entries
-pub mod SameMap
-pub mod SlotEntries
-pub mod Jobs
 pub mod MapTheorem
 pub mod FrontWords
 pub mod Found

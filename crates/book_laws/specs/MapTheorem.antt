@@ -17,11 +17,11 @@ use Rattle.book_slots.specs.Book.{frontSize, slotCount, slotSize, formRoom, are
 use Rattle.book_slots.specs.Damage.{slotDamaged, damaged}
 use Rattle.book_slots.specs.SlotLaws.{Regular, slot-long, words-slots, zeros-slots}
 use Rattle.book_answers.specs.Calls.{BookResult, Kept, noAccount, bookResult, opened, formOf, fileable, formFor, byForm, saveCall, findCall, forgetCall, resetCall}
-use Rattle.book_laws.specs.Map.{Entry, Changed, Job, save, find, forget, Call, by, reset, mapJob, mapResult, mapCall, bookCall, mapAnswers, bookAnswers}
-use Rattle.book_laws.specs.Entries.{Distinct}
-use Rattle.book_laws.specs.SameMap.{Same}
-use Rattle.book_laws.specs.SlotEntries.{Good, distinct-once, empty-entries, empty-goods}
-use Rattle.book_laws.specs.Jobs.{Slots, Agree, bookJob, Eight, agree-job}
+use Rattle.book_map.specs.Map.{Entry, Changed, Job, save, find, forget, Call, by, reset, mapJob, mapResult, mapCall, bookCall, mapAnswers, bookAnswers}
+use Rattle.book_map.specs.Entries.{Distinct}
+use Rattle.book_map.specs.SameMap.{Same}
+use Rattle.book_map.specs.SlotEntries.{Good, distinct-once, empty-entries, empty-goods}
+use Rattle.book_map.specs.Jobs.{Slots, Agree, bookJob, Eight, agree-job}
 
 -- the area has the right size, and its slots hold the map
 pub record Holds (area : List ℕ) (m : List Entry) : Type 0 where

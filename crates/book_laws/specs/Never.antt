@@ -14,7 +14,7 @@ use Rattle.name.specs.Name.{nameVerdict, nameResult, nameCall}
 use Rattle.meaning.specs.Numbers.{OfCall, name-refuses}
 use Rattle.book_slots.specs.Book.{frontSize, formRoom}
 use Rattle.book_answers.specs.Calls.{noAccount, formOf, fileable, formFor}
-use Rattle.book_laws.specs.Map.{Entry, lookup, leading, mostEntries, Changed, mapSave, mapFind, mapForget, Job, save, find, forget, Call, by, reset, mapJob, mapResult, mapCall, mapAnswers, bookAnswers}
+use Rattle.book_map.specs.Map.{Entry, lookup, leading, mostEntries, Changed, mapSave, mapFind, mapForget, Job, save, find, forget, Call, by, reset, mapJob, mapResult, mapCall, mapAnswers, bookAnswers}
 use Rattle.book_laws.specs.Found.{formIn}
 use Rattle.book_laws.specs.MapTheorem.{EightWords, zeroed, map-theorem}
 

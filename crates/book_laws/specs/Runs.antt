@@ -10,7 +10,7 @@ use Rattle.book_answers.specs.declared.BookAnswer.{BookAnswer}
 use Rattle.book_answers.specs.declared.FindAnswer.{FindAnswer}
 use Rattle.book_answers.specs.Calls.{BookValues, noAccount}
 use Rattle.book_answers.specs.Promise.{bookValues, Leaves, SaveCalls, FindCalls, ForgetCalls, ResetCalls}
-use Rattle.book_laws.specs.Map.{save, find, forget, Call, by, reset, bookCall, mapAnswers, bookAnswers, areaLeft}
+use Rattle.book_map.specs.Map.{save, find, forget, Call, by, reset, bookCall, mapAnswers, bookAnswers, areaLeft}
 use Rattle.book_laws.specs.MapTheorem.{EightWords, zeroed, map-theorem}
 use Rattle.book_laws.specs.FrontWords.{front-left}
 

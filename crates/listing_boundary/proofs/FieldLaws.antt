@@ -3,9 +3,9 @@ use Prim.Native.Nat.{ℕ}
 use mathlib.Core.Path.{_≡_}
 use Rattle.answers.specs.Values.{numberOf, placeOf}
 use Rattle.answers.specs.declared.Refusal.{Refusal}
-use Rattle.moved.specs.declared.MovedAnswer.{MovedAnswer}
-use Rattle.moved.specs.declared.MovedAnswer.the-variants as moved
-use Rattle.moved.specs.Promise.{movedValues}
+use Rattle.moved_list.specs.declared.MovedAnswer.{MovedAnswer}
+use Rattle.moved_list.specs.declared.MovedAnswer.the-variants as moved
+use Rattle.moved_list.specs.Promise.{movedValues}
 use Rattle.respelled.specs.declared.RespelledAnswer.{RespelledAnswer}
 use Rattle.respelled.specs.declared.RespelledAnswer.the-variants as respelled
 use Rattle.respelled.specs.Promise.{respelledValues}

@@ -4,7 +4,7 @@ use mathlib.Core.List.{List}
 use lib.ListN.{length}
 use Rattle.ending.specs.Ends.{Ends}
 use Rattle.listing.specs.Listing.{ListValues}
-use Rattle.moved.specs.Moved.{movedCall}
+use Rattle.moved_list.specs.Moved.{movedCall}
 use Rattle.respelled.specs.Respelled.{respelledCall}
 use Rattle.listing_boundary.specs.declared.WanlophengList.{WanlophengList}
 

@@ -1,12 +1,12 @@
 // The two lists of 02, Item 14, for C and Rust, each call with the promise of the call that it hands on. include/wanlopheng.h declares them.
 use answers::number_of;
 use answers::place_of;
-use moved::MovedAnswer;
 use moved::moved;
+use moved_list::MovedAnswer;
 use respelled::RespelledAnswer;
 use respelled::respelled;
 ghost use mathlib.Core.Path.{_≡_};
-ghost use Rattle.moved.specs.Promise.{movedValues};
+ghost use Rattle.moved_list.specs.Promise.{movedValues};
 ghost use Rattle.respelled.specs.Promise.{respelledValues};
 ghost use Rattle.listing_boundary.specs.Crossing.{listFields, MovedCrosses, RespelledCrosses};
 

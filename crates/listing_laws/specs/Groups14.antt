@@ -26,7 +26,8 @@ use Rattle.label_laws.specs.OwnGroup.{own-group}
 use Rattle.label.specs.Judge.{onlyEmoji, onlyAscii}
 use Rattle.name.specs.Permitted.{by-off, by-refused}
 use Rattle.name.specs.Label.{Label, stop, answer, permitted, labelVerdict, labelBy, oneLabel, admitted, labelAnswering, labelBefore15, labelResult, labelCallVerdict, labelCall}
-use Rattle.respelled.specs.Respelled.{placesOf, respelledIn, testedText, groupsFor, before14, respelledBefore33}
+use Rattle.group_list.specs.Places.{placesOf}
+use Rattle.respelled.specs.Respelled.{respelledIn, testedText, groupsFor, before14, respelledBefore33}
 use Rattle.respelled.proofs.Reaching.{listed-14, listed-none}
 
 -- two refusals with other numbers, or one and what is accepted, differ

@@ -24,12 +24,12 @@ use Rattle.meaning.specs.Numbers.{name-zero}
 use Rattle.meaning.specs.Restricted.{accepted-off}
 use Rattle.book_slots.specs.Book.{frontSize, Slot, slotsIn, isFree, nameOf}
 use Rattle.book_answers.specs.Calls.{noAccount, formOf, fileable, formFor}
-use Rattle.book_laws.specs.Map.{Entry, Changed, lookup, without, leading, Job, save, find, forget, Call, by, reset, mapJob, mapSave, mapFind, mapForget, mapResult, mapCall, bookCall}
-use Rattle.book_laws.specs.SlotEntries.{entriesOf}
+use Rattle.book_map.specs.Map.{Entry, Changed, lookup, without, leading, Job, save, find, forget, Call, by, reset, mapJob, mapSave, mapFind, mapForget, mapResult, mapCall, bookCall}
+use Rattle.book_map.specs.SlotEntries.{entriesOf}
 use Rattle.book_laws.specs.MapTheorem.{Holds, holds-opened, EightWords, step, zeroed, zeroed-holds}
-use Rattle.refiling.specs.Refiled.{formBy, changeOf, changed}
+use Rattle.refiled.specs.Refiled.{formBy, changeOf, changed}
 use Rattle.refiling.proofs.Joins.{same-self}
-use Rattle.moved.specs.Moved.{slotChange, movedFrom, movedBefore33}
+use Rattle.moved_list.specs.Moved.{slotChange, movedFrom, movedBefore33}
 
 module _ (words : List ℕ) (sound : soundnessOf words ≡ none) where
   -- a form that the table files as it is, with any work area that is large enough

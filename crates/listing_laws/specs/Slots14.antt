@@ -21,8 +21,8 @@ use Rattle.meaning.specs.Numbers.{Before15, name-before-refuses}
 use Rattle.meaning.specs.Room.{name-whole}
 use Rattle.book_slots.specs.Book.{Slot, emptySlot}
 use Rattle.book_answers.specs.Calls.{formOf, fileable, formFor}
-use Rattle.refiling.specs.Refiled.{formBy, changeOf, changed}
-use Rattle.moved.specs.Moved.{Entry, slotChange, movedFrom}
+use Rattle.refiled.specs.Refiled.{formBy, changeOf, changed}
+use Rattle.moved_list.specs.Moved.{Entry, slotChange, movedFrom}
 
 module _ (words : List ℕ) (work : ℕ) where
   -- The number beside a name is that of the name call with room for every answer: its refusal, 42 or 43 of the form that it gives, 0 for another

@@ -4,7 +4,7 @@ use native.Mathlib.Numerals.{add-one}
 use native.Mathlib.Omega.{arith}
 use mathlib.Core.Path.{_≡_, refl, sym, ap, _∙_}
 use mathlib.Core.Bool.{Bool, true, false, _||_, cond}
-use mathlib.Core.List.{List, [], _∷_, _++_, append-nil}
+use mathlib.Core.List.{List, [], _∷_, _++_}
 use mathlib.Core.Option.{Option, none, some}
 use lib.ListN.{length, getD, take, drop, length-drop}
 use lib.Seq.{length-take-le}
@@ -31,21 +31,18 @@ use Rattle.book_slots.proofs.Naming.{name-part}
 use Rattle.book_damage.proofs.Damages.{not-too-long, whole-at}
 use Rattle.book_slots.proofs.Walking.{wordsAt, part-slot}
 use Rattle.book_answers.specs.Calls.{opened}
-use Rattle.book_filing.specs.Forms.{OpeningIs}
-use Rattle.book_filing.specs.declared.Opening.{Opening}
-use Rattle.book_filing.specs.declared.Opening.the-variants as opening
-use Rattle.refiling.specs.Refiled.{changed}
-use Rattle.refiling.specs.Labels.{changeIs}
-use Rattle.refiling.specs.declared.Change.{Change}
-use Rattle.refiling.specs.declared.Change.the-variants.{Stays, Moved}
+use Rattle.book_forms.specs.Forms.{OpeningIs}
+use Rattle.book_forms.specs.declared.Opening.{Opening}
+use Rattle.book_forms.specs.declared.Opening.the-variants as opening
+use Rattle.refiled.specs.Refiled.{changed}
 use Rattle.listing.specs.Listing.{listed-long}
 use Rattle.listing.specs.Filling.{Holds, Filling, fill-start, fill-end, fill-more}
 use Rattle.listing.specs.Listed.{judged-listed, judged-refused, list-kept, list-over}
-use Rattle.moved.specs.declared.MovedAnswer.{MovedAnswer}
-use Rattle.moved.specs.declared.MovedAnswer.the-variants.{Listed, OtherSize, Damaged, Refused, NoRoom}
-use Rattle.moved.specs.Moved.{Entry, inList, slotChange, movedFrom, movedBefore33, movedListing, movedCall}
-use Rattle.moved.specs.Promise.{movedValues, MovedCalls}
-use Rattle.moved.specs.Steps.{entryWords, EntryPut, SlotsListed, movedEntries, MovedJudged}
+use Rattle.moved_list.specs.declared.MovedAnswer.{MovedAnswer}
+use Rattle.moved_list.specs.declared.MovedAnswer.the-variants.{Listed, OtherSize, Damaged, Refused, NoRoom}
+use Rattle.moved_list.specs.Moved.{Entry, inList, slotChange, movedFrom, movedBefore33, movedListing, movedCall}
+use Rattle.moved_list.specs.Promise.{movedValues, MovedCalls}
+use Rattle.moved_list.specs.Steps.{entryWords, SlotsListed, movedEntries, MovedJudged}
 
 -- the slot at i, as it is lent
 pub slot-whole : (i : ℕ) (ws : List ℕ) → any slotDamaged (slotsOf slotCount ws) ≡ false → i < slotCount
@@ -87,14 +84,6 @@ entry-next : (words : List ℕ) (work i : ℕ) (s : Slot) (slots : List Slot) (c
 unfolding movedFrom
 entry-next words work i s slots none e = rw (← e, add-one i)
 entry-next words work i s slots (some n) e = rw (← e, add-one i)
-
--- what is put into the list for a slot
-pub put-nothing : (list : List ℕ) (len slot : ℕ) (c : Change) → c ≡ Stays → EntryPut slot (changeIs c) list list len len
-put-nothing list len slot c e = rw e (record { same = refl; ends = omega arith; written = λ h. sym (append-nil (take len list)) })
-
-pub put-moved : (list list′ : List ℕ) (len slot r : ℕ) (c : Change) (n : ℕ) → c ≡ Moved n → Put list list′ len true (slot ∷ n ∷ []) r
-    → EntryPut slot (changeIs c) list list′ len r
-put-moved list list′ len slot r c n e p = rw e p
 
 -- What is known before the slot with the number i: the entries of those before it stand in the list.
 pub record Walked (words : List ℕ) (work : ℕ) (ws before after : List ℕ) (len i : ℕ) : Type 0 where
@@ -184,13 +173,6 @@ opened-whole area o h e = rw e at h
 pub not-admitted : (words : List ℕ) (work : ℕ) (r : Admission) → AdmissionIs words [] work r → (f : Refusal) → r ≡ admission.Refused f
     → admitted words work [] ≡ refused (numberOf f) (placeOf f)
 not-admitted words work r h f e = rw e at h
-
--- the words of the entries
-pub twice : (a b : MovedAnswer) → a ≡ b → 2 * movedEntries b ≡ 2 * movedEntries a
-twice a b e = rw e
-
-pub no-more : (a b : MovedAnswer) → a ≡ b → movedEntries a ≤ slotCount → movedEntries b ≤ slotCount
-no-more a b e h = rw e at h
 
 -- no slot of a book that is opened is damaged by itself
 pub whole-slots : (area : List ℕ) → opened area ≡ accepted (slotsIn area) → any slotDamaged (slotsIn area) ≡ false

@@ -1,16 +1,17 @@
-// The slots of a payee book that a new table would file differently. specs/Moved.antt states what the call answers.
-use answers::Refusal;
-use book_filing::Opening;
-use book_filing::open;
+// The slots of a payee book that a new table would file differently. moved_list/specs/Moved.antt states what the call answers.
+use book_forms::Opening;
+use book_forms::open;
 use book_slots::FRONT;
 use book_slots::SLOT;
 use book_slots::SLOTS;
 use ending::finish;
 use memo::MEMO;
+use moved_list::MovedAnswer;
+use moved_list::moved_words;
+use moved_list::put_entry;
 use name::admit::Admission;
 use name::admit::admit;
-use name::labels::put_label;
-use refiling::Change;
+use refiled::Change;
 use refiling::refile;
 use sections::Sections;
 use unpaired::KNOWN_WORDS;
@@ -23,20 +24,12 @@ ghost use Rattle.limits.specs.Limits.{leastWork};
 ghost use Rattle.sections.specs.Laid.{Laid};
 ghost use Rattle.book_slots.specs.Book.{slotSize, slotCount, areaSize, slotOf, slotsOf, slotsIn};
 ghost use Rattle.book_slots.specs.Damage.{slotDamaged};
-ghost use Rattle.refiling.specs.Labels.{changeIs, Lent, Lasting};
+ghost use Rattle.refiled.specs.Changes.{changeIs};
+ghost use Rattle.refiling.specs.Labels.{Lent, Lasting};
 ghost use Rattle.lists.specs.Lists.{any};
-ghost use Rattle.moved.specs.Moved.{slotChange};
-ghost use Rattle.moved.specs.Promise.{MovedCalls};
-ghost use Rattle.moved.specs.Steps.{EntryPut, SlotsListed, movedEntries, MovedJudged};
-
-// What the call answers: how many entries stand in the list, or why there are none.
-pub enum MovedAnswer {
-    Listed(usize),
-    OtherSize,
-    Damaged,
-    Refused(Refusal),
-    NoRoom,
-}
+ghost use Rattle.moved_list.specs.Moved.{slotChange};
+ghost use Rattle.moved_list.specs.Promise.{MovedCalls};
+ghost use Rattle.moved_list.specs.Steps.{SlotsListed, MovedJudged};
 
 // How the table files the name of a slot; a free one stays.
 fn slot_change(
@@ -58,17 +51,6 @@ fn slot_change(
     }
     let end = 1 + n;
     refile(words, ix, &slot[1..end], unpaired, w, memo)
-}
-
-// Puts the entry of a slot behind the first `len` words of the list, if there is one and it fits. Answers the length with it.
-fn put_entry(list: &mut [u32], len: usize, slot: usize, change: Change) -> usize
-    requires { ⌜ (len ≤ 2 * slotCount) × (slot ≤ slotCount) ⌝ }
-    ensures { λ r. ⌜ EntryPut slot (changeIs change) (now (list .entry)) (now (list .exit)) len r ⌝ }
-{
-    match change {
-        Change::Stays => len,
-        Change::Moved(number) => put_label(list, len, true, &[slot as u32, number]),
-    }
 }
 
 // Lists the slots whose names the table files otherwise or not at all. What depends on the table alone is lent from slot to slot. Answers the
@@ -128,20 +110,6 @@ fn moved_judged(area: &[u32], words: &[u32], list: &mut [u32], work: &mut [u32])
                 }
             }
         }
-    }
-}
-
-// The words of the entries, two each; none beside a refusal.
-fn moved_words(answer: MovedAnswer) -> usize
-    requires { ⌜ movedEntries answer ≤ slotCount ⌝ }
-    ensures { λ r. ⌜ r ≡ 2 * movedEntries answer ⌝ }
-{
-    match answer {
-        MovedAnswer::Listed(n) => 2 * n,
-        MovedAnswer::OtherSize => 0,
-        MovedAnswer::Damaged => 0,
-        MovedAnswer::Refused(_) => 0,
-        MovedAnswer::NoRoom => 0,
     }
 }
 

@@ -34,8 +34,9 @@ use Rattle.book_slots.specs.Book.{formRoom}
 use Rattle.book_answers.specs.Calls.{fileable}
 use Rattle.refiling.specs.declared.Filed.{Filed}
 use Rattle.refiling.specs.declared.Filed.the-variants.{Refused, Form}
-use Rattle.refiling.specs.Refiled.{formBy, changeOf, changed}
-use Rattle.refiling.specs.Labels.{onLabel, filing, changeBy}
+use Rattle.refiled.specs.Refiled.{formBy, changeOf, changed}
+use Rattle.refiled.specs.Changes.{changeBy}
+use Rattle.refiling.specs.Labels.{onLabel, filing}
 use Rattle.refiling.proofs.Joins.{alike, alike-joined}
 
 -- one accepted label in front of others

@@ -1,11 +1,9 @@
 -- The judging of a filed name in the steps that the code takes, label by label. Assumes nothing.
 use Prim.Native.Nat.{ℕ, suc, _+_, _-_, _≤_}
 use mathlib.Core.Path.{_≡_}
-use mathlib.Core.Bool.{Bool, _&&_, cond}
+use mathlib.Core.Bool.{Bool, _&&_}
 use mathlib.Core.List.{List, [], _∷_}
-use mathlib.Core.Option.{Option, none, some}
 use lib.ListN.{length}
-use lib.Dec.{eqb, ltb}
 use Rattle.lists.specs.Lists.{sameList}
 use Rattle.limits.specs.Limits.{leastWork}
 use Rattle.answers.specs.Verdict.{Verdict, accepted, refused}
@@ -16,16 +14,8 @@ use Rattle.sections.specs.declared.Sections.{Sections}
 use Rattle.unpaired.specs.Unpaired.{Unpaired}
 use Rattle.memo.specs.Memo.{Memo}
 use Rattle.name.specs.Label.{Label, answer, labelVerdict}
-use Rattle.book_slots.specs.Book.{formRoom}
-use Rattle.refiling.specs.declared.Change.{Change}
-use Rattle.refiling.specs.declared.Change.the-variants.{Stays, Moved}
 use Rattle.refiling.specs.declared.Filed.{Filed}
 use Rattle.refiling.specs.declared.Filed.the-variants.{Refused, Form}
-
--- the number that an answer stands for
-abbrev pub changeIs : Change → Option ℕ
-changeIs Stays = none
-changeIs (Moved n) = some n
 
 -- what follows a label's verdict
 abbrev pub onLabel : Verdict Label → (Label → Filed) → Filed
@@ -40,10 +30,6 @@ filing t at done place len same [] = Form (len - 1) same
 filing t at done place len same (l ∷ ls) =
     onLabel (labelVerdict t at done place l)
     (λ x. filing t (at + length l + 1) (done + x .worked + 1) (suc place) (len + (length (answer x) + 1)) (same && sameList (answer x) l) ls)
-
--- 42, 43, another form, or the name itself
-abbrev pub changeBy : ℕ → Bool → Option ℕ
-changeBy length same = cond (eqb length 0) (some 42) (cond (ltb formRoom length) (some 43) (cond same none (some 0)))
 
 -- what is lent: a table's words and sections, what was remembered of it, and a work area that is large enough
 pub record Lent (words : List ℕ) (ix : Sections) (unpaired w memo : List ℕ) : Type 0 where

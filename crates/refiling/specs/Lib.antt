@@ -1,2 +1,1 @@
-pub mod Refiled
 pub mod Labels

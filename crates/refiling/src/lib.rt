@@ -1,12 +1,13 @@
-// How a table files a name that is filed already: as it is, otherwise, or not at all. specs/Refiled.antt states it. The answer of each label is
+// How a table files a name that is filed already: as it is, otherwise, or not at all. refiled/specs/Refiled.antt states it. The answer of each label is
 // compared with the label where it stands in the work area, so that no room is needed for a whole form, and 15 cannot arise.
 use answers::number_of;
-use book_slots::FORM;
 use name::admit::Place;
 use name::admit::first_not_scalar;
 use name::labels::label_end;
 use one_label::Judgement;
 use one_label::judge_label;
+use refiled::Change;
+use refiled::change_by;
 use sections::Sections;
 ghost use Prim.Native.Nat.{_≤_};
 ghost use mathlib.Core.Path.{_≡_};
@@ -18,14 +19,9 @@ ghost use Rattle.table.specs.Layout.{theTable};
 ghost use Rattle.unpaired.specs.Unpaired.{Unpaired};
 ghost use Rattle.memo.specs.Memo.{Memo};
 ghost use Rattle.name.specs.Name.{labelsOf};
-ghost use Rattle.refiling.specs.Refiled.{changed};
-ghost use Rattle.refiling.specs.Labels.{filing, changeBy, changeIs, Lent, Lasting};
-
-// A name stays as it is filed, or is listed beside this number.
-pub enum Change {
-    Stays,
-    Moved(u32),
-}
+ghost use Rattle.refiled.specs.Refiled.{changed};
+ghost use Rattle.refiled.specs.Changes.{changeIs};
+ghost use Rattle.refiling.specs.Labels.{filing, Lent, Lasting};
 
 // What the labels of a name give: a refusal's number, or the length of the form and whether it is the name.
 pub enum Filed {
@@ -85,22 +81,6 @@ fn file_labels(
         length: len - 1,
         same,
     }
-}
-
-// 42 and 43 of a form of this length, which is the name or another.
-fn change_by(length: usize, same: bool) -> Change
-    ensures { λ r. ⌜ changeIs r ≡ changeBy length same ⌝ }
-{
-    if length == 0 {
-        return Change::Moved(42);
-    }
-    if length > FORM {
-        return Change::Moved(43);
-    }
-    if same {
-        return Change::Stays;
-    }
-    Change::Moved(0)
 }
 
 // How the table files a name. What is known of the table alone, `ix`, `unpaired` and `memo`, serves the next name too.

@@ -23,7 +23,7 @@ use Rattle.byte_sink.specs.declared.Sink.{Sink}
 use Rattle.byte_sink.specs.Sinks.{Holds, Adds}
 use Rattle.byte_sink.proofs.Adding.{holds-none}
 use Rattle.report.specs.declared.ReportAnswer.the-variants.{Written, Refused, TooLittleRoom}
-use Rattle.report_walk.specs.Report.{lines, report}
+use Rattle.report_text.specs.Report.{lines, report}
 use Rattle.report.specs.Calls.{reportCall}
 use Rattle.report_walk.specs.Reportable.{nothing, Reportable}
 use Rattle.report.specs.Promise.{ReportCalls}

@@ -8,7 +8,7 @@ use Rattle.lists.specs.Filled.{filled}
 use Rattle.answers.specs.Verdict.{Verdict, accepted, refused, next}
 use Rattle.table.specs.Layout.{theTable}
 use Rattle.name.specs.Name.{nameBefore15}
-use Rattle.report_walk.specs.Report.{report}
+use Rattle.report_text.specs.Report.{report}
 
 -- what the call answers
 pub record Values : Type 0 where

@@ -1,4 +1,4 @@
-// The report of what was typed (02, Item 9). `report_walk` states its bytes, specs/Calls.antt what the call answers.
+// The report of what was typed (02, Item 9). `report_text` states its bytes, specs/Calls.antt what the call answers.
 use answers::NameAnswer;
 use answers::Refusal;
 use name_call::judge_name;

@@ -16,7 +16,7 @@ use Rattle.places.specs.Parts.{placed-covers}
 use Rattle.token_walk.specs.Walk.{Walkable}
 use Rattle.name.specs.Label.{Label}
 use Rattle.name.specs.Name.{labelsOf, nameBefore15}
-use Rattle.report_walk.specs.Report.{line, labelLines, lines, report}
+use Rattle.report_text.specs.Report.{line, labelLines, lines, report}
 use Rattle.report.proofs.Walkables.{accepted-labels}
 
 -- the tokens of labels with their places, the first label starting at `start`

@@ -7,23 +7,23 @@ use mathlib.Core.Option.{none}
 use lib.ListN.{length, take, drop, length-drop, drop-of-length-le}
 use lib.Seq.{take-all, drop-drop}
 use mathlib.Core.Bool.{true}
-use Rattle.lists.specs.Lists.{joinedMap, isSome}
+use Rattle.lists.specs.Lists.{isSome}
 use Rattle.lists.specs.Laws.{Every}
 use Rattle.table.specs.Table.{Table}
-use Rattle.tokens.specs.Scan.{steps}
-use Rattle.places.specs.Places.{Placed, placedFrom, placed}
+use Rattle.places.specs.Places.{Placed}
 use Rattle.places.specs.Parts.{at, IsFirst}
 use Rattle.token_walk.specs.declared.Walked.{Walked}
 use Rattle.token_walk.specs.Walk.{Walkable, Walks}
 use Rattle.token_walk.proofs.Nexting.{walkable-next}
 use Rattle.name.specs.Name.{labelsOf}
 use Rattle.name.specs.Parts.{labelAt, LabelEnds, partsFrom}
-use Rattle.name.proofs.Parting.{label-length, parts-next, parts-all, parts-none}
+use Rattle.name.proofs.Parting.{parts-next, parts-all, parts-none}
 use Rattle.byte_sink.specs.declared.Sink.{Sink}
 use Rattle.byte_sink.specs.Sinks.{Adds}
 use Rattle.byte_sink.proofs.Adding.{adds-none, adds-then}
 use Rattle.report_lines.specs.Lines.{lineOf}
-use Rattle.report_walk.specs.Report.{line, labelLines, lines, report}
+use Rattle.report_text.specs.Report.{line, labelLines, lines, report}
+use Rattle.report_text.specs.Following.{lines-none, lines-first, lines-label}
 use Rattle.report_walk.specs.Reportable.{nothing}
 use Rattle.table.proofs.Lookups.{false-true}
 use Rattle.table.specs.Layout.{parse}
@@ -35,17 +35,6 @@ pub record Reporting (t : Table) (label : List ℕ) (start : ℕ) (before now : 
   pub put : Adds before now done s r
   pub left : labelLines t start label ≡ done ++ labelLines t (start + i) (drop i label)
   pub more : i < length label → Walkable t (drop i label)
-
--- no line for nothing
-lines-none : (t : Table) (start : ℕ) → labelLines t start [] ≡ []
-unfolding labelLines steps placedFrom
-lines-none t start = refl
-
--- the line of the first token, and the others
-lines-first : (t : Table) (start : ℕ) (l : List ℕ) (x : Placed) (xs : List Placed) (n : ℕ) → placed t start l ≡ x ∷ placed t (start + n) (drop n l)
-    → labelLines t start l ≡ line t x ++ labelLines t (start + n) (drop n l)
-unfolding labelLines
-lines-first t start l x xs n e = ap (joinedMap (line t)) e
 
 module _ (t : Table) (label : List ℕ) (start : ℕ) (before : List ℕ) (s : Sink) where
   pub reporting-start : Walkable t label → Reporting t label start before before s s 0
@@ -133,13 +122,9 @@ module _ (t : Table) (name before : List ℕ) where
 
       pub labelled-more : (after : List ℕ) (q : Sink) → Adds now after (labelLines t from (labelAt name from end)) r q
           → Labelled t name before after q (end + 1)
-      unfolding lines
       labelled-more after q a =
           let l : List ℕ = labelAt name from end in
-          let place : from + length l + 1 ≡ end + 1 = rw (label-length name from end e) (omega (arith, e .from)) in
-          let split : lines t from (partsFrom name from) ≡ labelLines t from l ++ lines t (end + 1) (partsFrom name (end + 1)) =
-          ap (lines t from) (parts-next name from end e)
-          ∙ ap (λ (m : ℕ). labelLines t from l ++ lines t m (partsFrom name (end + 1))) place in
+          let split : lines t from (partsFrom name from) ≡ labelLines t from l ++ lines t (end + 1) (partsFrom name (end + 1)) = lines-label t name from end e in
           record {
             inside = omega (arith, e .to);
             done = p .done ++ labelLines t from l;

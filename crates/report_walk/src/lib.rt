@@ -18,7 +18,7 @@ ghost use Rattle.unpaired.specs.Unpaired.{Unpaired};
 ghost use Rattle.name.specs.Name.{labelsOf};
 ghost use Rattle.byte_sink.specs.Sinks.{Adds};
 ghost use Rattle.token_walk.specs.Walk.{Walkable};
-ghost use Rattle.report_walk.specs.Report.{labelLines, report};
+ghost use Rattle.report_text.specs.Report.{labelLines, report};
 ghost use Rattle.report_walk.specs.Reportable.{nothing, Reportable};
 
 // The lines of a label that starts at `start` of the name. The words of the work area are open.

@@ -24,7 +24,8 @@ use Rattle.confusable.specs.Confusable.{isConfused, respells, confusable}
 use Rattle.label.specs.Judge.{unless, onlyEmoji, onlyAscii, judgeAscii, judgeInGroup, judgeText, judgeMixed, judge}
 use Rattle.name.specs.Label.{Label, stop, judged, labelVerdict, labelBy, oneLabel}
 use Rattle.name.specs.Permitted.{by-off}
-use Rattle.respelled.specs.Respelled.{placesOf, respelledIn, testedText, groupsFor}
+use Rattle.group_list.specs.Places.{placesOf}
+use Rattle.respelled.specs.Respelled.{respelledIn, testedText, groupsFor}
 use Rattle.respelled.specs.Steps.{Passes}
 
 -- no place is listed exactly where none passes

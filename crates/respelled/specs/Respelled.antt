@@ -14,12 +14,8 @@ use Rattle.tokens.specs.Tokens.{Token, tokensOf, normal, joinedText}
 use Rattle.confusable.specs.Confusable.{isConfused, respells}
 use Rattle.label.specs.Judge.{onlyEmoji, onlyAscii}
 use Rattle.name.specs.Label.{Label, oneLabel, admitted}
+use Rattle.group_list.specs.Places.{placesOf}
 use Rattle.listing.specs.Listing.{ListValues, listing, listResult}
-
--- the places, from `at` on, of the elements that pass the test: "ascending, each once"
-unfoldable pub placesOf : {A : Type 0} → (A → Bool) → ℕ → List A → List ℕ
-placesOf p at [] = []
-placesOf p at (x ∷ xs) = let later = placesOf p (suc at) xs in cond (p x) (at ∷ later) later
 
 -- "every group in which it could be respelled", by its number from 0: a group that can spell each character of the text otherwise, as 14 has it;
 -- "without a confused character .. there is none"

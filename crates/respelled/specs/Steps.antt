@@ -1,29 +1,20 @@
 -- What the inner functions of this crate answer. Assumes nothing.
 use Prim.Native.Nat.{ℕ, _≤_}
 use mathlib.Core.Path.{_≡_}
-use mathlib.Core.Bool.{Bool, true, false, not, _||_, cond}
-use mathlib.Core.List.{List, [], _∷_}
+use mathlib.Core.Bool.{false, _||_}
+use mathlib.Core.List.{List}
 use mathlib.Core.Option.{none}
 use lib.ListN.{length, take, drop}
-use lib.Dec.{eqb}
 use Rattle.limits.specs.Limits.{mostWorked}
 use Rattle.ending.specs.Ends.{Judged}
 use Rattle.table.specs.Table.{Table}
 use Rattle.tokens.specs.Scan.{steps, firstDisallowed}
 use Rattle.tokens.specs.Tokens.{tokensOf, worked, normal, joinedText}
 use Rattle.label.specs.Judge.{onlyEmoji, onlyAscii}
-use Rattle.name.specs.Parts.{Put}
 use Rattle.listing.specs.Filling.{Holds}
 use Rattle.respelled.specs.declared.RespelledAnswer.{RespelledAnswer}
 use Rattle.respelled.specs.Respelled.{groupsFor, respelledBefore33, groupListing}
 use Rattle.respelled.specs.Promise.{respelledValues}
-
-abbrev pub isSet : ℕ → Bool
-isSet f = not (eqb f 0)
-
--- the number of a group whose flag is set is put behind the first `len` words of the list, if there is room
-abbrev pub GroupPut : ℕ → ℕ → List ℕ → List ℕ → ℕ → ℕ → Type 0
-GroupPut group flag list list′ len r = Put list list′ len true (cond (isSet flag) (group ∷ []) []) r
 
 -- 5 and 7 do not apply to the label alone, and it is neither emoji alone nor ASCII
 pub record Passes (t : Table) (l : List ℕ) : Type 0 where

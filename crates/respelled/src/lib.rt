@@ -3,6 +3,7 @@ use answers::LabelAnswer;
 use answers::Refusal;
 use answers::number_of;
 use ending::finish;
+use group_list::list_flags;
 use label::cells::text_alone;
 use label_call::judge_input;
 use limits::MOST_WORKED;
@@ -10,7 +11,6 @@ use lookalike::respellings;
 use memo::MEMO;
 use name::admit::Admission;
 use name::admit::admit;
-use name::labels::put_label;
 use normal_cells::normalise;
 use scanning::Scanned;
 use scanning::scan;
@@ -21,45 +21,19 @@ ghost use Prim.Native.Nat.{_≤_};
 ghost use mathlib.Core.Path.{_≡_};
 ghost use lib.ListN.{length};
 ghost use Rattle.limits.specs.Limits.{leastWork, mostInput};
-ghost use Rattle.table.specs.Layout.{mostGroups, theTable};
+ghost use Rattle.table.specs.Layout.{theTable};
 ghost use Rattle.sections.specs.Laid.{Laid};
 ghost use Rattle.name.specs.Admission.{Admits};
 ghost use Rattle.listing.specs.Filling.{Holds};
-ghost use Rattle.respelled.specs.Respelled.{respelledIn, placesOf};
+ghost use Rattle.respelled.specs.Respelled.{respelledIn};
 ghost use Rattle.respelled.specs.Promise.{RespelledCalls};
-ghost use Rattle.respelled.specs.Steps.{isSet, GroupPut, Passes, TextStands, LabelListed, RespelledJudged, entriesOf};
+ghost use Rattle.respelled.specs.Steps.{Passes, TextStands, LabelListed, RespelledJudged, entriesOf};
 
 // What the call answers: how many groups stand in the list, or why there are none.
 pub enum RespelledAnswer {
     Listed(usize),
     Refused(Refusal),
     NoRoom,
-}
-
-// Puts the number of a group behind the first `len` words of the list, if its flag is set and it fits. Answers the length with it.
-fn put_group(list: &mut [u32], len: usize, group: usize, flag: u32) -> usize
-    requires { ⌜ (len ≤ mostGroups) × (group ≤ mostGroups) ⌝ }
-    ensures { λ r. ⌜ GroupPut group flag (now (list .entry)) (now (list .exit)) len r ⌝ }
-{
-    if flag == 0 {
-        return len;
-    }
-    put_label(list, len, true, &[group as u32])
-}
-
-// Lists the groups whose flags are set; `left` flags are still to be looked at. Answers the length of the list.
-fn list_flags(list: &mut [u32], flags: &[u32; 256]) -> usize
-    requires { ⌜ length (now flags) ≡ mostGroups ⌝ }
-    ensures { λ r. ⌜ Holds (placesOf isSet 0 (now (flags .entry))) (now (list .entry)) (now (list .exit)) r ⌝ }
-{
-    let mut len = 0;
-    let mut left: usize = 256;
-    while left > 0 {
-        let i = 256 - left;
-        len = put_group(list, len, i, flags[i]);
-        left -= 1;
-    }
-    len
 }
 
 // Lists the groups in which a text could be respelled: none without a confused character.

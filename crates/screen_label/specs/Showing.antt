@@ -1,42 +1,20 @@
--- What the writers of the screen form answer. Assumes nothing.
+-- What the writer of a label answers. Assumes nothing.
 use Prim.Native.Nat.{ℕ, _+_, _*_, _≤_}
-use native.Mathlib.Omega.{arith}
-use mathlib.Core.Path.{_≡_}
-use mathlib.Core.Bool.{Bool, true, false, cond}
-use mathlib.Core.List.{List, [], map}
-use lib.ListN.{length, getD, take}
+use mathlib.Core.Bool.{Bool, true}
+use mathlib.Core.List.{List}
+use lib.ListN.{length}
 use Rattle.lists.specs.Lists.{joinedMap}
 use Rattle.limits.specs.Limits.{mostWorked}
 use Rattle.table.specs.Table.{Table}
-use Rattle.table.specs.Layout.{mostItems}
 use Rattle.name.specs.Parts.{Put}
-use Rattle.token_walk.specs.declared.Walked.{Walked}
-use Rattle.forms.specs.Forms.{sourcesOf, shown, screenToken}
-
--- no token is longer than the worked length may be; it only bounds a sum
-pub sequence-in-worked : mostItems ≤ mostWorked
-sequence-in-worked = omega arith
-
--- the first n words are shown as in a label that is not Greek; those behind them are open
-pub record ShowsText (w w′ : List ℕ) (n : ℕ) : Type 0 where
-  pub same : length w′ ≡ length w
-  pub front : take n w′ ≡ map (shown false) (take n w)
-
--- what is written for the token that the walk answered, where its codepoints stand in front in w
-abbrev pub tokenWords : Table → Bool → Walked → List ℕ → List ℕ
-tokenWords t greek x w = cond (x .emoji) (getD (t .emoji) (x .number) []) (map (shown greek) (take (x .length) w))
-
--- the token is put behind the first `at` words of the answer, if there is room, and `end` is the length with it
-pub record ShowsToken (t : Table) (greek : Bool) (x : Walked) (w before after : List ℕ) (at end : ℕ) : Type 0 where
-  pub put : Put before after at true (tokenWords t greek x w) end
-  pub near : end ≤ at + mostWorked
+use Rattle.forms.specs.Forms.{sourcesOf, screenToken}
 
 -- the screen form of a label that is Greek or not
 unfoldable pub screenLabel : Table → Bool → List ℕ → List ℕ
 unfolding sourcesOf screenToken
 screenLabel t greek l = joinedMap (screenToken t greek) (sourcesOf t l)
 
--- the screen form of the label is put behind the first `at` words of the answer, in the same way
+-- the screen form of the label is put behind the first `at` words of the answer, as a token is
 pub record ShowsLabel (t : Table) (greek : Bool) (l before after : List ℕ) (at end : ℕ) : Type 0 where
   pub put : Put before after at true (screenLabel t greek l) end
   pub near : end ≤ at + mostWorked * length l

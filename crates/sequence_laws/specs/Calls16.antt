@@ -21,7 +21,7 @@ use Rattle.utf8_scheme.specs.RoundTrips.{read-refused}
 use Rattle.name.specs.Label.{Label, oneLabel, admitted, labelBefore15}
 use Rattle.name.specs.Name.{labelsOf, labelsVerdict, nameAnswer, NameResult, nameAnswering, nameResult, nameBefore15, nameVerdict, nameCall}
 use Rattle.screen.specs.Screen.{screenAnswering, screenBefore15, screenVerdict, screenCall}
-use Rattle.report_walk.specs.Report.{report}
+use Rattle.report_text.specs.Report.{report}
 use Rattle.report.specs.Calls as reporting
 use Rattle.report.specs.Calls.{reportVerdict, reportCall}
 use Rattle.name_bytes.specs.NameBytes.{onRead, nameBytesCall}
@@ -31,8 +31,8 @@ use Rattle.book_slots.specs.Damage.{damaged}
 use Rattle.book_answers.specs.Calls.{Kept, opened, formOf, fileable, formFor, saveIn, findIn, forgetIn, byForm, bookResult, saveCall, findCall, forgetCall}
 use Rattle.listing.specs.Listing.{then33}
 use Rattle.respelled.specs.Respelled.{before14, groupsFor, respelledBefore33, groupListing, respelledCall}
-use Rattle.refiling.specs.Refiled.{formBy, changeOf, changed}
-use Rattle.moved.specs.Moved.{slotChange, movedFrom, movedBefore33, movedListing, movedCall}
+use Rattle.refiled.specs.Refiled.{formBy, changeOf, changed}
+use Rattle.moved_list.specs.Moved.{slotChange, movedFrom, movedBefore33, movedListing, movedCall}
 use Rattle.meaning.specs.Numbers.{anyList, Before15, name-before-refuses, label-before-refuses, name-refuses, name-no-16}
 
 -- a number other than 16

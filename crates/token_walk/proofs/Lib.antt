@@ -1,3 +1,1 @@
-pub mod Looking
-pub mod Walking
 pub mod Nexting

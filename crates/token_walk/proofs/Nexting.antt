@@ -21,8 +21,9 @@ use Rattle.tokens.specs.Cells.{Cells}
 use Rattle.normal_cells.specs.Normal.{NormalCells}
 use Rattle.places.specs.Places.{Source, tokenOf}
 use Rattle.places.specs.Parts.{IsFirst, tokens-first, tokens-alone}
-use Rattle.token_walk.specs.declared.Extent.{Extent}
-use Rattle.token_walk.specs.Walk.{TokenEnds, Walkable, Walks}
+use Rattle.token_extent.specs.declared.Extent.{Extent}
+use Rattle.token_extent.specs.Ends.{TokenEnds}
+use Rattle.token_walk.specs.Walk.{Walkable, Walks}
 
 -- no step is disallowed in two lists, one behind the other, where none is in both together
 allowed-front : (m k : ℕ) (a b : List Step) → firstDisallowed m (a ++ b) ≡ none → firstDisallowed k a ≡ none

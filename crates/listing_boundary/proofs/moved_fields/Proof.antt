@@ -1,7 +1,7 @@
 -- `moved_fields`: the values of each case. Assumes nothing.
 use mathlib.Core.Path.{sym, ap}
 use borrow.Author.Needs.{needs}
-use Rattle.moved.specs.Promise.{movedValues}
+use Rattle.moved_list.specs.Promise.{movedValues}
 use Rattle.listing_boundary.proofs.FieldLaws.{moved-refused}
 use Rattle.listing_boundary.proofs.moved_fields.Statement.{statement}
 use Rattle.listing_boundary.proofs.moved_fields.Tie as tie

@@ -1,7 +1,7 @@
 -- `moved_judged`: 40 and 41, 1 and 2, or the entries. Assumes nothing.
 use borrow.Author.Needs.{needs}
 use Rattle.name.proofs.Answering.{admits}
-use Rattle.book_filing.proofs.OpenLaws.{right-size}
+use Rattle.book_forms.proofs.OpenLaws.{right-size}
 use Rattle.moved.proofs.MovedLaws.{whole-slots, judged-40, judged-41, judged-1-2, judged-entries, opened-whole, not-admitted}
 use Rattle.moved.proofs.moved_judged.Statement.{statement}
 use Rattle.moved.proofs.moved_judged.Tie as tie

@@ -1,0 +1,2 @@
+pub mod Refiled
+pub mod Changes
