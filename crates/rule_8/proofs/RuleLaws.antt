@@ -1,15 +1,55 @@
 -- Laws of rule 8, part by part. Assumes nothing.
-use mathlib.Core.Path.{_≡_, refl, _∙_}
-use mathlib.Core.Bool.{Bool, true, false, _&&_}
-use mathlib.Core.List.{List}
-use Rattle.lists.specs.Lists.{all, isEmpty}
+use mathlib.Core.Path.{_≡_, refl, ap, _∙_}
+use mathlib.Core.Bool.{Bool, true, false, not, _&&_, _||_, cond}
+use mathlib.Core.List.{List, [], _∷_, map}
+use Rattle.lists.specs.Lists.{all, keep, isEmpty}
 use Rattle.table.specs.Table.{Headed, Table}
-use Rattle.text.specs.Composition.{pairs}
-use Rattle.soundness.specs.Pairs.{heads}
+use Rattle.text.specs.Composition.{isPair, pairs}
+use Rattle.text.specs.QuickCheck.{secondItem}
 use Rattle.soundness.specs.QuickCheck.{passes8, secondItems, secondSyllables, vowels, trailings, rule8}
+use Rattle.rule_7.specs.Pairs.{pairOf}
+use Rattle.passing_records.specs.Records.{recordPasses, recordPassesIn}
+use Rattle.soundness.specs.Pairs.{heads}
 use Rattle.soundness.specs.Concerned.{rule8-parts}
-use Rattle.rule_8.specs.Records.{recordPassesIn}
-use Rattle.rule_8.proofs.RecordLaws.{records-asked}
+
+-- what is asked of the records is asked of the second items and the heads
+module _ (t : Table) where
+  asks : (b i h p q : Bool) → (p && (not b || q)) && (i && h) ≡ cond b (q && i) i && (p && h)
+  asks true true true true q = either-way q
+    where
+      either-way : (a : Bool) → a && true ≡ a && true && true
+      either-way true = refl
+      either-way false = refl
+  asks true i h false q = none q i
+    where
+      none : (a b : Bool) → false ≡ a && b && false
+      none true true = refl
+      none true false = refl
+      none false b = refl
+  asks true false h true true = refl
+  asks true false h true false = refl
+  asks true true false true true = refl
+  asks true true false true false = refl
+  asks false true h true q = refl
+  asks false false h true q = refl
+  asks false true h false q = refl
+  asks false false h false q = refl
+
+  pub records-asked : (rs : List Headed) → all (recordPassesIn t) rs ≡ all (passes8 t) (map (λ (r : Headed). secondItem (r .items)) (keep (isPair t) rs)) && all (passes8 t) (map (λ (r : Headed). r .head) rs)
+  unfolding recordPasses pairOf
+  records-asked [] = refl
+  records-asked (r ∷ rs) = ap (λ (b : Bool). recordPassesIn t r && b) (records-asked rs) ∙ asks (isPair t r) seconds others (passes8 t (r .head)) (passes8 t (secondItem (r .items))) ∙ kept (isPair t r)
+    where
+      seconds : Bool
+      seconds = all (passes8 t) (map (λ (q : Headed). secondItem (q .items)) (keep (isPair t) rs))
+
+      others : Bool
+      others = all (passes8 t) (map (λ (q : Headed). q .head) rs)
+
+      kept : (b : Bool) → cond b (passes8 t (secondItem (r .items)) && seconds) seconds && (passes8 t (r .head) && others)
+          ≡ all (passes8 t) (map (λ (q : Headed). secondItem (q .items)) (cond b (r ∷ keep (isPair t) rs) (keep (isPair t) rs))) && (passes8 t (r .head) && others)
+      kept true = refl
+      kept false = refl
 
 -- rule 8, part by part: where one fails, and where all but the last pass
 module _ (t : Table) where

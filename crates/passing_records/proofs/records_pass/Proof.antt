@@ -8,12 +8,12 @@ use Rattle.lists.specs.Lists.{all}
 use Rattle.table.specs.Layout.{theTable}
 use Rattle.sound_parts.specs.Parts.{asHeaded}
 use Rattle.unpaired.specs.Unpaired.{Unpaired}
-use Rattle.rule_8.specs.Records.{recordPasses, recordPassesIn}
+use Rattle.passing_records.specs.Records.{recordPasses, recordPassesIn}
 use Rattle.sound_parts.proofs.Walks.{Through, through-start, head-room, head-fits, head-less, heads-broken, heads-on, heads-done}
 use borrow.Author.Needs.{needs}
 use native.Mathlib.Omega.{arith}
-use Rattle.rule_8.proofs.rule8.records_pass.Statement.{statement}
-use Rattle.rule_8.proofs.rule8.records_pass.Tie as tie
+use Rattle.passing_records.proofs.records_pass.Statement.{statement}
+use Rattle.passing_records.proofs.records_pass.Tie as tie
 
 abbrev Inv-loop : tie.InvT-loop
 Inv-loop words ix unpaired₀ held part i₀ unpaired i = Through (all (recordPassesIn (theTable words))) asHeaded part i × Unpaired (theTable words) unpaired

@@ -2,10 +2,10 @@
 use mathlib.Core.Path.{sym, _∙_}
 use borrow.Author.Tests.{not-true, not-false}
 use Rattle.second_items.proofs.ItemLaws.{held-long}
-use Rattle.rule_8.proofs.RecordLaws.{head-fails, held-passes, second-decides}
+use Rattle.passing_records.proofs.RecordLaws.{head-fails, held-passes, second-decides}
 use borrow.Author.Needs.{needs}
-use Rattle.rule_8.proofs.rule8.record_passes.Statement.{statement}
-use Rattle.rule_8.proofs.rule8.record_passes.Tie as tie
+use Rattle.passing_records.proofs.record_passes.Statement.{statement}
+use Rattle.passing_records.proofs.record_passes.Tie as tie
 
 passes-requires : tie.Need-passes-requires
 passes-requires c κs = search needs
