@@ -18,8 +18,9 @@ HERE = ROOT / "targets"
 # As the toolchain tells its clang, for every machine; and what tools/staticlib adds: functions with large local arrays keep their own frames.
 CLANG = ("-ffunction-sections -fdata-sections -mllvm -trap-unreachable -mllvm -no-trap-after-noreturn --no-default-config"
          " -fintegrated-cc1 -Werror -mllvm -inline-max-stacksize=2048").split()
-# What it adds for x86-64 alone: with it a copy of a sponge, with bytes of a label, stays on the stack of WebAssembly.
-X86 = "-mllvm -inline-threshold=130".split()
+# What it adds for x86-64 alone. The first keeps the stack of NFD small, and leaves more single words after refusal 13: elsewhere it was not tried. With
+# the second a copy of a sponge, with bytes of a label, stays on the stack of WebAssembly.
+X86 = "-mllvm -recursive-inline-max-stacksize=256 -mllvm -inline-threshold=130".split()
 C = ["-std=c11", "-ffreestanding", "-nostdinc", "-Wall", "-Wextra", f"-I{HERE / 'include'}", f"-I{ROOT / 'include'}"]
 
 # What a compiler for ARM calls for memcpy, memmove and memset (the run-time ABI of ARM, 4.3.4).

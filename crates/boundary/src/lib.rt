@@ -1,8 +1,13 @@
 // The calls for C and Rust, each with the promise of the call that it hands on. include/wanlopheng.h declares them.
 // A slice crosses as a pointer and a number of elements, an answer as a struct of plain numbers.
+pub mod book;
 pub mod emoji;
 pub mod group;
 pub mod hash;
+pub mod listing;
+pub mod normal;
+pub mod report;
+pub mod screen;
 pub mod trimming;
 pub mod utf8_calls;
 

@@ -13,16 +13,11 @@ use Rattle.decomposition.specs.Rounds.{Appended}
 use Rattle.composition.specs.Work.{Ready}
 use Rattle.normal_forms.specs.declared.FormAnswer.{FormAnswer}
 use Rattle.normal_forms.specs.declared.FormAnswer.the-variants.{Formed, LayoutFault, WorkedTooLong, WorkAreaTooSmall, BufferTooSmall}
-use Rattle.normal_forms.specs.declared.export.WanlophengForm.{WanlophengForm}
 use Rattle.normal_forms.specs.Forms.{FormValues, formValues, lengthOf, formWithin, formBy, formAnswering, Forming}
 
 -- The call for a form: the values v that it answers, and every word of the answer buffer and of the work area, before the call and after it (′).
 abbrev pub Forms : (List ℕ → List ℕ → ℕ → ℕ → Forming) → List ℕ → List ℕ → List ℕ → List ℕ → List ℕ → List ℕ → FormValues → Type 0
 Forms call text words answer answer′ work work′ v = Ends (call text words (length answer) (length work)) v answer′ work′
-
--- the values that the fields of an exported answer stand for
-abbrev pub formFields : WanlophengForm → FormValues
-formFields r = record { number = r .number; length = r .length }
 
 -- the form stands at the front of the answer buffer, and fits; what is behind it, and in the work area, is left open
 pub record Stands (form : Table → List ℕ → List ℕ) (text words answer answer′ : List ℕ) (work : ℕ) (r : FormAnswer) : Type 0 where

@@ -1,6 +1,4 @@
 // NFD and NFC of a text, by a table. specs/Forms.antt states what they answer.
-pub mod export;
-
 use composition::compose::compose;
 use composition::nfc::put_classes;
 use decomposition::append_decomposed;

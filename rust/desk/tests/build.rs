@@ -127,7 +127,8 @@ fn the_module_of_an_archive_is_kept() {
     repository.calls("build_archive boundary");
     let read = |name: &str| fs::read_to_string(repository.0.join("target/staticlib").join(name)).expect("a file");
     assert_eq!(read("boundary.bc"), "the module of boundary\n");
-    let words = "-x ir module.bc -o module.o -mllvm -inline-max-stacksize=2048 -mllvm -inline-threshold=130";
+    let words = "-x ir module.bc -o module.o -mllvm -inline-max-stacksize=2048 \
+                 -mllvm -recursive-inline-max-stacksize=256 -mllvm -inline-threshold=130";
     assert_eq!(read("libboundary.a"), format!("{words}\nthe module of boundary\n"));
 }
 

@@ -1,5 +1,4 @@
-//! The exports of the crates `boundary` and `normal_forms`, as
-//! include/wanlopheng.h declares them.
+//! The exports of the crate `boundary`, as include/wanlopheng.h declares them.
 
 use crate::normal_forms::Form;
 use crate::{Name, Unpacked};

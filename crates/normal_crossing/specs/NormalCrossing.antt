@@ -1,0 +1,7 @@
+-- What the fields of an answer on a normal form say. Assumes nothing.
+use Rattle.normal_forms.specs.Forms.{FormValues}
+use Rattle.normal_crossing.specs.declared.WanlophengForm.{WanlophengForm}
+
+-- the values that the fields stand for
+abbrev pub formFields : WanlophengForm → FormValues
+formFields r = record { number = r .number; length = r .length }
