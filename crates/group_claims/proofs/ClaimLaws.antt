@@ -1,5 +1,5 @@
 -- Laws of the claims of a batch: how they are set, and what is reached from them. Assumes nothing.
-use Prim.Native.Nat.{ℕ, _+_, _<_, _≤_}
+use Prim.Native.Nat.{ℕ, _+_, _-_, _<_, _≤_}
 use native.Mathlib.Omega.{arith}
 use mathlib.Core.Path.{_≡_, refl, sym, _∙_, ap}
 use mathlib.Core.Bool.{Bool, true, false, _&&_, _||_}
@@ -15,6 +15,7 @@ use Rattle.sorting.specs.Order.{inOrder, CountBelow}
 use Rattle.sorting.proofs.OrderLaws.{order-at}
 use Rattle.group_numbers.specs.Batch.{batch, Founded, Claims, Held, Shared, Reached, Claimed, ClaimSet, Takes}
 use Rattle.group_numbers.proofs.NumberLaws.{same-or-not, kept-same, founded-same, kept-on, founded-on, founded-by}
+use Rattle.group_claims.specs.Gaps.{Between}
 
 -- nothing is taken
 pub takes-none : (xs : List ℕ) (m : Claimed) → Claims (m .ends) (m .owners) (m .numbers) → (taken : ℕ → ℕ → Bool)
@@ -47,6 +48,30 @@ takes-on xs m n o a b c s t e =
     later : (x y : Bool) → y ≡ true → (x || y) ≡ true
     later true y f = refl
     later false y f = f
+
+-- no number lies between two neighbours
+pub between : (xs : List ℕ) (at low high : ℕ) → inOrder xs ≡ true → at ≤ length xs → (0 < at → low ≡ getD xs (at - 1) 0) → (at < length xs → high ≡ getD xs at 0)
+    → Between xs low high
+between xs at low high o l f g = record { none = λ q h a b. go q h a b (ltb q at) refl }
+  where
+    go : (q : ℕ) → q < length xs → low < getD xs q 0 → getD xs q 0 < high → (t : Bool) → ltb q at ≡ t → ⊥
+    go q h a b true e =
+        let i : q < at = ltb-true q at e in
+        omega (arith, f (omega arith), order-at xs o q (at - 1) (omega arith) (omega arith))
+    go q h a b false e =
+        let i : at ≤ q = ltb-false q at e in
+        omega (arith, g (omega arith), order-at xs o at q i h)
+
+-- a pair between them claims nothing
+pub take-between : (xs : List ℕ) (m : Claimed) (n a b low high : ℕ) → Claims (m .ends) (m .owners) (m .numbers) → Between xs low high → (ltb low a && ltb b high) ≡ true
+    → Takes (λ i x. eqb i n && (leb a x && leb x b)) xs m m
+take-between xs m n a b low high w g h =
+    let up : low < a = ltb-true low a (both-left (ltb low a) (ltb b high) h) in
+    let down : b < high = ltb-true b high (both-right (ltb low a) (ltb b high) h) in
+    takes-none xs m w (λ i x. eqb i n && (leb a x && leb x b)) (λ i q l e.
+    let x : ℕ = getD xs q 0 in
+    let f = both-right (eqb i n) (leb a x && leb x b) e in
+    g .none q l (omega (arith, leb-true a x (both-left (leb a x) (leb x b) f))) (omega (arith, leb-true x b (both-right (leb a x) (leb x b) f))))
 
 -- A pair of group n, whose lower end has the place `at`.
 module _ (xs : List ℕ) (m : Claimed) (n a b at : ℕ) (o : inOrder xs ≡ true) (w : Claims (m .ends) (m .owners) (m .numbers)) (z : CountBelow xs a at) where

@@ -17,6 +17,13 @@ ghost use Rattle.table.specs.GroupPart.{GroupsPart, groupsIn};
 ghost use Rattle.sorting.specs.Order.{inOrder};
 ghost use Rattle.group_numbers.specs.Components.{nth};
 ghost use Rattle.group_numbers.specs.Batch.{batch, Claims, ClaimSet, Takes, claimed};
+ghost use Rattle.group_claims.specs.Gaps.{Between};
+
+// No number of the batch lies strictly between the two.
+struct Gap {
+    low: u32,
+    high: u32,
+}
 
 // Claims a place for group n, up to `end`; a group that has claimed it before gets one number with n.
 fn claim(
@@ -39,7 +46,18 @@ fn claim(
     }
 }
 
-// Claims the numbers of the batch from a to b for group n.
+// The gap in front of a place of the batch.
+fn gap_at(xs: &[u32], at: usize) -> Gap
+    requires { ⌜ inOrder (now xs) ≡ true ⌝ }
+    requires { ⌜ at ≤ length (now xs) ⌝ }
+    ensures { λ r. ⌜ Between (now (xs .entry)) (r .low) (r .high) ⌝ }
+{
+    let low = if 0 < at { xs[at - 1] } else { 0 };
+    let high = if at < xs.len() { xs[at] } else { 0xFFFFFFFF };
+    Gap { low, high }
+}
+
+// Claims the numbers of the batch from a to b for group n. Answers the gap in which a lies.
 fn take_pair(
     xs: &[u32],
     ends: &mut [u64; BATCH],
@@ -48,20 +66,25 @@ fn take_pair(
     n: usize,
     a: u32,
     b: u32,
-)
+) -> Gap
     requires { ⌜ inOrder (now xs) ≡ true ⌝ }
     requires { ⌜ (length (now xs) ≤ batch) × (n < mostGroups) ⌝ }
     requires { ⌜ Claims (now ends) (now owners) (now k) ⌝ }
     ensures { λ _. ⌜ Takes (λ i x. eqb i n && (leb a x && leb x b)) (now (xs .entry))
         (claimed (now (ends .entry)) (now (owners .entry)) (now (k .entry))) (claimed (now (ends .exit)) (now (owners .exit)) (now (k .exit))) ⌝ }
+    ensures { λ r. ⌜ Between (now (xs .entry)) (r .low) (r .high) ⌝ }
 {
     let at = count_below(xs, a);
-    if at < xs.len() && xs[at] <= b {
-        claim(ends, owners, k, at, n, b as u64 + 1);
+    let gap = gap_at(xs, at);
+    if xs.len() <= at || b < xs[at] {
+        return gap;
     }
+    claim(ends, owners, k, at, n, b as u64 + 1);
+    gap
 }
 
-// The same for the pairs of a group.
+// The same for the pairs of a group. A pair that lies in the gap of the last search claims nothing and is not searched for: among sorted pairs
+// most do.
 fn take_pairs(
     pairs: &[u32],
     xs: &[u32],
@@ -76,10 +99,16 @@ fn take_pairs(
     ensures { λ _. ⌜ Takes (λ i x. eqb i n && inPairs x (now (pairs .entry))) (now (xs .entry))
         (claimed (now (ends .entry)) (now (owners .entry)) (now (k .entry))) (claimed (now (ends .exit)) (now (owners .exit)) (now (k .exit))) ⌝ }
 {
+    let mut gap = gap_at(xs, 0);
     let mut i: usize = 0;
     while 1 < pairs.len() - i {
-        take_pair(xs, ends, owners, k, n, pairs[i], pairs[i + 1]);
+        let a = pairs[i];
+        let b = pairs[i + 1];
         i += 2;
+        if (gap.low < a) & (b < gap.high) {
+            continue;
+        }
+        gap = take_pair(xs, ends, owners, k, n, a, b);
     }
 }
 
