@@ -2,6 +2,7 @@
 use group_numbers::BATCH;
 use group_numbers::meet;
 use sorting::count_below;
+use sorting::if_below;
 use table::Span;
 use table::lookup::group_at;
 ghost use mathlib.Core.Path.{_≡_};
@@ -18,12 +19,6 @@ ghost use Rattle.sorting.specs.Order.{inOrder};
 ghost use Rattle.group_numbers.specs.Components.{nth};
 ghost use Rattle.group_numbers.specs.Batch.{batch, Claims, ClaimSet, Takes, claimed};
 ghost use Rattle.group_claims.specs.Gaps.{Between};
-
-// No number of the batch lies strictly between the two.
-struct Gap {
-    low: u32,
-    high: u32,
-}
 
 // Claims a place for group n, up to `end`; a group that has claimed it before gets one number with n.
 fn claim(
@@ -46,18 +41,28 @@ fn claim(
     }
 }
 
-// The gap in front of a place of the batch.
-fn gap_at(xs: &[u32], at: usize) -> Gap
+// The first number of the batch, or 0.
+fn first(xs: &[u32]) -> u32
     requires { ⌜ inOrder (now xs) ≡ true ⌝ }
-    requires { ⌜ at ≤ length (now xs) ⌝ }
-    ensures { λ r. ⌜ Between (now (xs .entry)) (r .low) (r .high) ⌝ }
+    ensures { λ r. ⌜ Between (now (xs .entry)) 0 r ⌝ }
 {
-    let low = if 0 < at { xs[at - 1] } else { 0 };
-    let high = if at < xs.len() { xs[at] } else { 0xFFFFFFFF };
-    Gap { low, high }
+    if xs.len() == 0 {
+        return 0;
+    }
+    xs[0]
 }
 
-// Claims the numbers of the batch from a to b for group n. Answers the gap in which a lies.
+// Whether a pair from a to b lies between two numbers: by one branch, since each end alone would be a guess among pairs in random order.
+fn in_gap(low: u32, high: u32, a: u32, b: u32) -> bool
+    ensures { λ r. ⌜ (r ≡ true → (low < a) × (b < high)) ⌝ }
+{
+    if if_below(if_below(1, low, a), b, high) != 0 {
+        return true;
+    }
+    false
+}
+
+// Claims the numbers of the batch from a to b for group n. Answers the first number of the batch that is not below a, or one that no codepoint has.
 fn take_pair(
     xs: &[u32],
     ends: &mut [u64; BATCH],
@@ -66,25 +71,28 @@ fn take_pair(
     n: usize,
     a: u32,
     b: u32,
-) -> Gap
+) -> u32
     requires { ⌜ inOrder (now xs) ≡ true ⌝ }
     requires { ⌜ (length (now xs) ≤ batch) × (n < mostGroups) ⌝ }
     requires { ⌜ Claims (now ends) (now owners) (now k) ⌝ }
     ensures { λ _. ⌜ Takes (λ i x. eqb i n && (leb a x && leb x b)) (now (xs .entry))
         (claimed (now (ends .entry)) (now (owners .entry)) (now (k .entry))) (claimed (now (ends .exit)) (now (owners .exit)) (now (k .exit))) ⌝ }
-    ensures { λ r. ⌜ Between (now (xs .entry)) (r .low) (r .high) ⌝ }
+    ensures { λ r. ⌜ Between (now (xs .entry)) a r ⌝ }
 {
     let at = count_below(xs, a);
-    let gap = gap_at(xs, at);
-    if xs.len() <= at || b < xs[at] {
-        return gap;
+    if xs.len() <= at {
+        return 0xFFFFFFFF;
+    }
+    let next = xs[at];
+    if b < next {
+        return next;
     }
     claim(ends, owners, k, at, n, b as u64 + 1);
-    gap
+    next
 }
 
-// The same for the pairs of a group. A pair that lies in the gap of the last search claims nothing and is not searched for: among sorted pairs
-// most do.
+// The same for the pairs of a group. A pair that lies between the start of the pair that was searched for last and the number that was found for it
+// claims nothing and is not searched for: among sorted pairs most do.
 fn take_pairs(
     pairs: &[u32],
     xs: &[u32],
@@ -99,16 +107,18 @@ fn take_pairs(
     ensures { λ _. ⌜ Takes (λ i x. eqb i n && inPairs x (now (pairs .entry))) (now (xs .entry))
         (claimed (now (ends .entry)) (now (owners .entry)) (now (k .entry))) (claimed (now (ends .exit)) (now (owners .exit)) (now (k .exit))) ⌝ }
 {
-    let mut gap = gap_at(xs, 0);
+    let mut low: u32 = 0;
+    let mut high = first(xs);
     let mut i: usize = 0;
     while 1 < pairs.len() - i {
         let a = pairs[i];
         let b = pairs[i + 1];
         i += 2;
-        if (gap.low < a) & (b < gap.high) {
+        if in_gap(low, high, a, b) {
             continue;
         }
-        gap = take_pair(xs, ends, owners, k, n, a, b);
+        low = a;
+        high = take_pair(xs, ends, owners, k, n, a, b);
     }
 }
 

@@ -12,16 +12,16 @@ use Rattle.group_claims.proofs.take_pairs.Statement.{statement}
 use Rattle.group_claims.proofs.take_pairs.Tie as tie
 
 abbrev Inv-loop : tie.InvT-loop
-Inv-loop pairs xs ends₀ owners₀ k₀ n gap₀ i₀ ends owners k gap i = PairWalk pairs xs n (claimed ends₀ owners₀ k₀) (claimed ends owners k) i × Between xs (gap .low) (gap .high)
+Inv-loop pairs xs ends₀ owners₀ k₀ n low₀ high₀ i₀ ends owners k low high i = PairWalk pairs xs n (claimed ends₀ owners₀ k₀) (claimed ends owners k) i × Between xs low high
 
 abbrev μ-loop : tie.MeasureT-loop
-μ-loop pairs xs ends₀ owners₀ k₀ n gap₀ i₀ ends owners k gap i = length pairs - i
+μ-loop pairs xs ends₀ owners₀ k₀ n low₀ high₀ i₀ ends owners k low high i = length pairs - i
 
-gap-at-requires : tie.Need-gap-at-requires Inv-loop μ-loop
-gap-at-requires c κs = (c .before .before .before .pre .0, omega arith)
+first-requires : tie.Need-first-requires Inv-loop μ-loop
+first-requires c κs = c .before .before .before .pre .0
 
 loop-holds : tie.Need-loop-holds Inv-loop μ-loop
-loop-holds c = (pair-start _ _ _ _ (c .before .before .before .before .pre .1 .1), c .gap-at .ensures)
+loop-holds c = (pair-start _ _ _ _ (c .before .before .before .before .pre .1 .1), c .first .ensures)
 
 sub-loop : tie.Need-sub-loop Inv-loop μ-loop
 sub-loop c = search needs
@@ -44,27 +44,30 @@ shared-slice-read-b c = search needs
 add-i : tie.Need-add-i Inv-loop μ-loop
 add-i c = search needs
 
+in-gap-requires : tie.Need-in-gap-requires Inv-loop μ-loop
+in-gap-requires c κs = search needs
+
 loop-less : tie.Need-loop-less Inv-loop μ-loop
 loop-less c = search needs
 
 loop-again : tie.Need-loop-again Inv-loop μ-loop
 loop-again c =
-    let p = c .before .before .before .before .before .before .loop in
-    (pair-on _ _ _ _ _ (p .i) (p .inv .0) (c .before .before .before .before .before .loop-test .taken) _ (take-between _ _ _ _ _ _ _ (p .inv .0 .takes .claims) (p .inv .1) (c .if1 .taken)), p .inv .1)
+    let p = c .before .before .before .before .before .loop in
+    (pair-on _ _ _ _ _ (p .i) (p .inv .0) (c .before .before .before .before .loop-test .taken) _ (take-between _ _ _ _ _ _ _ (p .inv .0 .takes .claims) (p .inv .1) (c .before .in-gap .ensures (c .if1 .taken))), p .inv .1)
 
 take-pair-requires : tie.Need-take-pair-requires Inv-loop μ-loop
 take-pair-requires c κs =
-    let p = c .before .before .before .before .before .before .before .before .before .before .before .before .before .before .pre in
-    (p .0, (p .1 .0, c .before .before .before .before .before .before .before .before .before .loop .inv .0 .takes .claims))
+    let p = c .before .before .before .before .before .before .before .before .before .before .before .before .before .pre in
+    (p .0, (p .1 .0, c .before .before .before .before .before .before .before .before .loop .inv .0 .takes .claims))
 
 loop-less-2 : tie.Need-loop-less-2 Inv-loop μ-loop
 loop-less-2 c = search needs
 
 loop-again-2 : tie.Need-loop-again-2 Inv-loop μ-loop
 loop-again-2 c =
-    let p = c .before .before .before .before .before .before .before .before .before .before .before .before .loop in
+    let p = c .before .before .before .before .before .before .before .before .before .before .before .loop in
     let t = c .before .before .take-pair .ensures in
-    (pair-on _ _ _ _ _ (p .i) (p .inv .0) (c .before .before .before .before .before .before .before .before .before .before .before .loop-test .taken) _ (t .0), t .1)
+    (pair-on _ _ _ _ _ (p .i) (p .inv .0) (c .before .before .before .before .before .before .before .before .before .before .loop-test .taken) _ (t .0), t .1)
 
 same-length : tie.Need-same-length Inv-loop μ-loop
 same-length c = c .before .loop .inv .0 .takes .claims .numbers .size ∙ sym (c .before .before .before .before .before .before .pre .1 .1 .numbers .size)
@@ -78,7 +81,7 @@ take-pairs-spec =
     (tie.spec
     Inv-loop
     μ-loop
-    gap-at-requires
+    first-requires
     loop-holds
     sub-loop
     mul-a
@@ -87,6 +90,7 @@ take-pairs-spec =
     mul-b
     shared-slice-read-b
     add-i
+    in-gap-requires
     loop-less
     loop-again
     take-pair-requires
