@@ -1,2 +1,3 @@
 pub mod Confusable
 pub mod Extent
+pub mod Holders

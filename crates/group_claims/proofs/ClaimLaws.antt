@@ -2,7 +2,7 @@
 use Prim.Native.Nat.{ℕ, _+_, _<_, _≤_}
 use native.Mathlib.Omega.{arith}
 use mathlib.Core.Path.{_≡_, refl, sym, _∙_, ap}
-use mathlib.Core.Bool.{Bool, true, false, _&&_, _||_}
+use mathlib.Core.Bool.{Bool, true, false, _&&_, _||_, cond}
 use mathlib.Core.List.{List}
 use mathlib.Core.Logic.{_⊎_, inl, inr, ⊎-elim}
 use lib.ListN.{length, getD, length-set}
@@ -11,10 +11,11 @@ use lib.Dec.{eqb, leb, ltb}
 use borrow.Author.Tests.{eqb-true, leb-true, ltb-true, ltb-false, lt-ltb, le-leb, eq-eqb}
 use Rattle.lists.specs.Laws.{both-left, both-right, either}
 use Rattle.table.specs.Layout.{mostGroups}
-use Rattle.sorting.specs.Order.{inOrder, CountBelow}
+use Rattle.sorting.specs.Order.{inOrder, CountBelow, ifBelow}
 use Rattle.sorting.proofs.OrderLaws.{order-at}
 use Rattle.group_numbers.specs.Batch.{batch, Founded, Claims, Held, Shared, Reached, Claimed, ClaimSet, Takes}
 use Rattle.group_numbers.proofs.NumberLaws.{same-or-not, kept-same, founded-same, kept-on, founded-on, founded-by}
+use Rattle.group_claims.specs.Gaps.{Between}
 
 -- nothing is taken
 pub takes-none : (xs : List ℕ) (m : Claimed) → Claims (m .ends) (m .owners) (m .numbers) → (taken : ℕ → ℕ → Bool)
@@ -47,6 +48,38 @@ takes-on xs m n o a b c s t e =
     later : (x y : Bool) → y ≡ true → (x || y) ≡ true
     later true y f = refl
     later false y f = f
+
+-- no number lies between a and the first that is not below it
+pub between : (xs : List ℕ) (a at high : ℕ) → inOrder xs ≡ true → CountBelow xs a at → (at < length xs → high ≡ getD xs at 0) → Between xs a high
+between xs a at high o z f = record { none = λ q h up down. go q h up down (ltb q at) refl }
+  where
+    go : (q : ℕ) → q < length xs → a < getD xs q 0 → getD xs q 0 < high → (t : Bool) → ltb q at ≡ t → ⊥
+    go q h up down true e = omega (arith, z .below q (ltb-true q at e))
+    go q h up down false e =
+        let i : at ≤ q = ltb-false q at e in
+        omega (arith, f (omega arith), order-at xs o at q i h)
+
+-- the lower end is above the one and the upper end below the other, as two masks say
+pub gap-told : (low a b high u v : ℕ) → u ≡ ifBelow 1 low a → v ≡ ifBelow u b high → (v ≡ 0 → ⊥) → (low < a) × (b < high)
+unfolding ifBelow
+gap-told low a b high u v e f n = go (ltb low a) (ltb b high) refl refl e f
+  where
+    go : (p q : Bool) → ltb low a ≡ p → ltb b high ≡ q → u ≡ cond p 1 0 → v ≡ cond q u 0 → (low < a) × (b < high)
+    go true true g h i j = (ltb-true low a g, ltb-true b high h)
+    go true false g h i j = absurd (n j)
+    go false true g h i j = absurd (n (j ∙ i))
+    go false false g h i j = absurd (n j)
+
+-- a pair between them claims nothing
+pub take-between : (xs : List ℕ) (m : Claimed) (n a b low high : ℕ) → Claims (m .ends) (m .owners) (m .numbers) → Between xs low high → (low < a) × (b < high)
+    → Takes (λ i x. eqb i n && (leb a x && leb x b)) xs m m
+take-between xs m n a b low high w g h =
+    let up : low < a = h .0 in
+    let down : b < high = h .1 in
+    takes-none xs m w (λ i x. eqb i n && (leb a x && leb x b)) (λ i q l e.
+    let x : ℕ = getD xs q 0 in
+    let f = both-right (eqb i n) (leb a x && leb x b) e in
+    g .none q l (omega (arith, leb-true a x (both-left (leb a x) (leb x b) f))) (omega (arith, leb-true x b (both-right (leb a x) (leb x b) f))))
 
 -- A pair of group n, whose lower end has the place `at`.
 module _ (xs : List ℕ) (m : Claimed) (n a b at : ℕ) (o : inOrder xs ≡ true) (w : Claims (m .ends) (m .owners) (m .numbers)) (z : CountBelow xs a at) where

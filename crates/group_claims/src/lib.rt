@@ -2,6 +2,7 @@
 use group_numbers::BATCH;
 use group_numbers::meet;
 use sorting::count_below;
+use sorting::if_below;
 use table::Span;
 use table::lookup::group_at;
 ghost use mathlib.Core.Path.{_≡_};
@@ -17,6 +18,7 @@ ghost use Rattle.table.specs.GroupPart.{GroupsPart, groupsIn};
 ghost use Rattle.sorting.specs.Order.{inOrder};
 ghost use Rattle.group_numbers.specs.Components.{nth};
 ghost use Rattle.group_numbers.specs.Batch.{batch, Claims, ClaimSet, Takes, claimed};
+ghost use Rattle.group_claims.specs.Gaps.{Between};
 
 // Claims a place for group n, up to `end`; a group that has claimed it before gets one number with n.
 fn claim(
@@ -39,7 +41,28 @@ fn claim(
     }
 }
 
-// Claims the numbers of the batch from a to b for group n.
+// The first number of the batch, or 0.
+fn first(xs: &[u32]) -> u32
+    requires { ⌜ inOrder (now xs) ≡ true ⌝ }
+    ensures { λ r. ⌜ Between (now (xs .entry)) 0 r ⌝ }
+{
+    if xs.len() == 0 {
+        return 0;
+    }
+    xs[0]
+}
+
+// Whether a pair from a to b lies between two numbers: by one branch, since each end alone would be a guess among pairs in random order.
+fn in_gap(low: u32, high: u32, a: u32, b: u32) -> bool
+    ensures { λ r. ⌜ (r ≡ true → (low < a) × (b < high)) ⌝ }
+{
+    if if_below(if_below(1, low, a), b, high) != 0 {
+        return true;
+    }
+    false
+}
+
+// Claims the numbers of the batch from a to b for group n. Answers the first number of the batch that is not below a, or one that no codepoint has.
 fn take_pair(
     xs: &[u32],
     ends: &mut [u64; BATCH],
@@ -48,20 +71,28 @@ fn take_pair(
     n: usize,
     a: u32,
     b: u32,
-)
+) -> u32
     requires { ⌜ inOrder (now xs) ≡ true ⌝ }
     requires { ⌜ (length (now xs) ≤ batch) × (n < mostGroups) ⌝ }
     requires { ⌜ Claims (now ends) (now owners) (now k) ⌝ }
     ensures { λ _. ⌜ Takes (λ i x. eqb i n && (leb a x && leb x b)) (now (xs .entry))
         (claimed (now (ends .entry)) (now (owners .entry)) (now (k .entry))) (claimed (now (ends .exit)) (now (owners .exit)) (now (k .exit))) ⌝ }
+    ensures { λ r. ⌜ Between (now (xs .entry)) a r ⌝ }
 {
     let at = count_below(xs, a);
-    if at < xs.len() && xs[at] <= b {
-        claim(ends, owners, k, at, n, b as u64 + 1);
+    if xs.len() <= at {
+        return 0xFFFFFFFF;
     }
+    let next = xs[at];
+    if b < next {
+        return next;
+    }
+    claim(ends, owners, k, at, n, b as u64 + 1);
+    next
 }
 
-// The same for the pairs of a group.
+// The same for the pairs of a group. A pair that lies between the start of the pair that was searched for last and the number that was found for it
+// claims nothing and is not searched for: among sorted pairs most do.
 fn take_pairs(
     pairs: &[u32],
     xs: &[u32],
@@ -76,10 +107,18 @@ fn take_pairs(
     ensures { λ _. ⌜ Takes (λ i x. eqb i n && inPairs x (now (pairs .entry))) (now (xs .entry))
         (claimed (now (ends .entry)) (now (owners .entry)) (now (k .entry))) (claimed (now (ends .exit)) (now (owners .exit)) (now (k .exit))) ⌝ }
 {
+    let mut low: u32 = 0;
+    let mut high = first(xs);
     let mut i: usize = 0;
     while 1 < pairs.len() - i {
-        take_pair(xs, ends, owners, k, n, pairs[i], pairs[i + 1]);
+        let a = pairs[i];
+        let b = pairs[i + 1];
         i += 2;
+        if in_gap(low, high, a, b) {
+            continue;
+        }
+        low = a;
+        high = take_pair(xs, ends, owners, k, n, a, b);
     }
 }
 

@@ -71,7 +71,7 @@ pub fn flag_holders(words: &[u32], ix: Sections, flags: &mut [u32; 256], m: u32)
 }
 
 // Keeps the flags of the groups whose component, by its number, is there and is not that of `own`.
-fn keep_apart(flags: &mut [u32; 256], k: &[u32], own: u32)
+pub fn keep_apart(flags: &mut [u32; 256], k: &[u32], own: u32)
     requires { ⌜ length (now flags) ≡ mostGroups ⌝ }
     requires { ⌜ length (now k) ≡ mostGroups ⌝ }
     ensures { λ _. ⌜ now (flags .exit) ≡ kept (now (flags .entry)) (apart own (now (k .entry))) ⌝ }

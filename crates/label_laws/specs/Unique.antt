@@ -16,7 +16,8 @@ use Rattle.table.specs.Table.{Table, Group, Whole}
 use Rattle.table.specs.Lookup.{holds, wholeOf}
 use Rattle.groups.specs.Groups.{Numbered, holdsAll, groupOf, groupFrom}
 use Rattle.confusable.specs.Confusable.{isConfused, outside, respells, confusable}
-use Rattle.label_laws.specs.OwnGroup.{not-respelled, own-group}
+use Rattle.confusable.specs.Holders.{not-respelled}
+use Rattle.label_laws.specs.OwnGroup.{own-group}
 
 -- the different characters of a text: "each unique character in the label"
 unfoldable pub once : List ℕ → List ℕ

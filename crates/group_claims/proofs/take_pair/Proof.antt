@@ -1,8 +1,7 @@
 -- `take_pair` meets its contract, by the place of the lower end. Assumes nothing.
 use native.Mathlib.Omega.{arith}
-use borrow.Author.Tests.{leb-true, leb-false}
-use mathlib.Core.Logic.{⊎-elim}
-use Rattle.group_claims.proofs.ClaimLaws.{take-past, take-over, take-hit}
+use mathlib.Core.Path.{refl}
+use Rattle.group_claims.proofs.ClaimLaws.{between, take-past, take-over, take-hit}
 use borrow.Author.Needs.{needs}
 use Rattle.group_claims.proofs.take_pair.Statement.{statement}
 use Rattle.group_claims.proofs.take_pair.Tie as tie
@@ -12,11 +11,23 @@ count-below-requires c κs =
     let p = c .before .before .pre in
     (p .0, omega (arith, p .1 .0 .0))
 
-mul-if2 : tie.Need-mul-if2
-mul-if2 c = search needs
+returns : tie.Need-returns
+returns c =
+    let p = c .before .before .before .before .pre in
+    let z = c .before .count-below .ensures in
+    (take-past _ _ _ _ _ _ (p .0) (p .1 .1) z (c .if1 .taken), between _ _ (c .before .count-below .result) _ (p .0) z (λ h. absurd (omega (arith, c .if1 .taken))))
 
-shared-slice-read-if2 : tie.Need-shared-slice-read-if2
-shared-slice-read-if2 c = search needs
+mul-next : tie.Need-mul-next
+mul-next c = search needs
+
+shared-slice-read-next : tie.Need-shared-slice-read-next
+shared-slice-read-next c = search needs
+
+returns-2 : tie.Need-returns-2
+returns-2 c =
+    let p = c .before .before .before .before .before .before .pre in
+    let z = c .before .before .before .count-below .ensures in
+    (take-over _ _ _ _ _ _ (p .0) (p .1 .1) z (c .before .before .if1 .left) (c .if2 .taken), between _ _ (c .before .before .before .count-below .result) _ (p .0) z (λ h. refl))
 
 add-claim : tie.Need-add-claim
 add-claim c = search needs
@@ -27,27 +38,25 @@ claim-requires c κs = search needs
 same-length : tie.Need-same-length
 same-length c = search needs
 
-returns : tie.Need-returns
-returns c =
+returns-3 : tie.Need-returns-3
+returns-3 c =
     let p = c .before .before .before .before .before .before .before .before .before .before .before .before .pre in
     let z = c .before .before .before .before .before .before .before .before .before .count-below .ensures in
-    take-hit _ _ _ _ _ _ (p .0) (p .1 .1) z (omega arith) (leb-true _ _ (c .before .before .before .before .before .before .if2 .taken)) (p .1 .0 .1) (omega (arith, p .1 .0 .0)) _ (c .before .before .claim .ensures)
-
-returns-2 : tie.Need-returns-2
-returns-2 c =
-    let p = c .before .before .before .before .pre in
-    let z = c .before .count-below .ensures in
-    ⊎-elim (λ w. take-over _ _ _ _ _ _ (p .0) (p .1 .1) z (w .0 .taken) (leb-false _ _ (w .2 .left))) (λ w. take-past _ _ _ _ _ _ (p .0) (p .1 .1) z (w .left)) (c .if1 .came)
+    let h = c .before .before .before .before .before .before .before .before .if1 .left in (
+      take-hit _ _ _ _ _ _ (p .0) (p .1 .1) z h (c .before .before .before .before .before .before .if2 .left) (p .1 .0 .1) (omega (arith, p .1 .0 .0)) _ (c .before .before .claim .ensures),
+      between _ _ (c .before .before .before .before .before .before .before .before .before .count-below .result) _ (p .0) z (λ h. refl),
+    )
 
 pub take-pair-spec : {M : Type 1} → statement M
 take-pair-spec =
     tie.close
     (tie.spec
     count-below-requires
-    mul-if2
-    shared-slice-read-if2
+    returns
+    mul-next
+    shared-slice-read-next
+    returns-2
     add-claim
     claim-requires
     same-length
-    returns
-    returns-2)
+    returns-3)
