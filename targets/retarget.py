@@ -6,6 +6,7 @@ it is used), no pointer is made of a number or becomes one, and no constant hold
 
 import re
 
+from alignment import align
 from header import Unknown
 
 LAYOUT = "e-m:e-p270:32:32-p271:32:32-p272:64:64-i64:64-i128:128-f80:128-n8:16:32:64-S128"
@@ -120,6 +121,7 @@ def retarget(text, header, layout, triple, probes, bits):
     for call in calls:
         if here[call.name] != header.signature(call):
             raise Unknown(f"the module has {here[call.name]}, the header {header.signature(call)}")
+    text = align(text)
     text = text.replace(f'target datalayout = "{LAYOUT}"', f'target datalayout = "{layout}"')
     text = text.replace(f'target triple = "{TRIPLE}"', f'target triple = "{triple}"')
     text = text.replace(ATTRIBUTES, "attributes #0 = { nounwind" + (' "probe-stack"="inline-asm"' if probes else "") + " }")

@@ -361,6 +361,7 @@ class Targets(unittest.TestCase):
         self.assertEqual([b for _, b in moved], [
             'target datalayout = "e-p:32:32"',
             'target triple = "thumbv7em-none-eabi"',
+            'define internal void @"low::copy"(ptr noundef %a0, ptr noundef align 8 %a1) #0 {',
             "  call void @llvm.memmove.p0.p0.i32(ptr %r0, ptr %a0, i32 16, i1 false)",
             "define internal { i64, i64 } @wanlopheng_trim(ptr noundef %a0, i64 noundef %a1) #0 {",
             "define internal noundef ptr @wanlopheng_fill(ptr noundef %a0, ptr noundef byval([32 x i8]) align 8 %a1, i32 noundef %a2) #0 {",
@@ -377,6 +378,23 @@ class Targets(unittest.TestCase):
         ])
         self.assertIn('"probe-stack"="inline-asm"', self.changed(probes=True)[0])
         self.assertIn("i64 16, i1 false", self.changed(bits=64)[0])
+
+    def test_alignments_are_what_every_call_keeps(self):
+        def taken(*calls):
+            lines = "".join(f"  {line}\n" for line in calls)
+            module = MODULE.replace("  %r9 = load", lines + "  %r9 = load")
+            return re.search(r'@"low::copy"\((.*)\) #0', self.changed(module)[0])[1]
+
+        once = '  call void @"low::copy"(ptr %a0, ptr %r0)\n'
+        self.assertIn(once, MODULE)
+        self.assertEqual(taken(), "ptr noundef %a0, ptr noundef align 8 %a1")  # the first comes from outside
+        inside = '%r1 = getelementptr i8, ptr %r0, i64 {}', 'call void @"low::copy"(ptr %a0, ptr %r1)'
+        for step, left in ((0, " align 8"), (8, " align 8"), (16, " align 8"), (12, " align 4"), (3, ""), ("%a1", ""), (-8, "")):
+            self.assertEqual(taken(inside[0].format(step), inside[1]), f"ptr noundef %a0, ptr noundef{left} %a1", msg=step)
+        chosen = "%r1 = getelementptr i8, ptr %r0, i64 4", "%r2 = select i1 true, ptr %r0, ptr %r1", 'call void @"low::copy"(ptr %a0, ptr %r2)'
+        self.assertEqual(taken(*chosen), "ptr noundef %a0, ptr noundef align 4 %a1")
+        loaded = "%r1 = load ptr, ptr %a0, align 8", 'call void @"low::copy"(ptr %a0, ptr %r1)'
+        self.assertEqual(taken(*loaded), "ptr noundef %a0, ptr noundef %a1")
 
     def test_what_does_not_carry_over_is_refused(self):
         line = "  store i64 %r2, ptr %a1, align 8\n"

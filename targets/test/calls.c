@@ -363,6 +363,7 @@ static void traces(const uint32_t *text, size_t length, size_t at, uint32_t *wor
             for (size_t step = 1; step <= 2; step++) {
                 uint32_t row = 1;
                 while (start + row < length && at + step * row < PAINTED && lowest[at + step * row] == text[start + row]) row++;
+                if (row == 2 && text[start] == text[start + 1]) row = 1; /* one codepoint that was spilled twice */
                 if (row > 1 || counts) at_least(in_order, row);
             }
         }

@@ -64,6 +64,7 @@ function traces(text, at) {
             for (const step of [1, 2]) {
                 let row = 1;
                 while (start + row < text.length && stack[i + step * row] === text[start + row]) row++;
+                if (row === 2 && text[start] === text[start + 1]) row = 1; // one codepoint that was spilled twice
                 if (row > 1 || counts) inOrder = Math.max(inOrder, row);
             }
         });
