@@ -1,4 +1,4 @@
--- The ends of the test for 17. Assumes nothing.
+-- The ends of the test for 17.
 use Prim.Native.Nat.{ℕ}
 use mathlib.Core.Path.{_≡_, refl}
 use mathlib.Core.Bool.{Bool, true, false, not, _&&_}

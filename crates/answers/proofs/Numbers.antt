@@ -1,4 +1,4 @@
--- The numbers of refusals. Assumes nothing.
+-- The numbers of refusals.
 use Prim.Native.Nat.{_≤_}
 use native.Mathlib.Omega.{arith}
 use Rattle.answers.specs.declared.Refusal.{Refusal}

@@ -1,4 +1,4 @@
--- 02, Item 13: "A setting .. refuses labels whose group is restricted, as 17". Assumes nothing.
+-- 02, Item 13: "A setting .. refuses labels whose group is restricted, as 17".
 use Prim.Native.Nat.{ℕ}
 use mathlib.Core.Bool.{Bool, false, not, _&&_}
 use lib.Dec.{eqb}

@@ -1,6 +1,6 @@
 -- "When an answer is an enum, a definition states this paper's number and values for each of its cases": for each answer enum
 -- its refusal number (0 where there is none), its place, and its other values, which are 0 beside a refusal. The contracts of
--- the public calls are stated through these definitions. Assumes nothing.
+-- the public calls are stated through these definitions.
 use Prim.Native.Nat.{ℕ}
 use mathlib.Core.Option.{Option, none, some}
 use Rattle.answers.specs.declared.Kind.{Kind}

@@ -1,4 +1,4 @@
--- A refusal is a number and a place; the table "Refusal numbers" of the scope document lists them. Assumes nothing.
+-- A refusal is a number and a place; the table "Refusal numbers" of the scope document lists them.
 use Prim.Native.Nat.{ℕ}
 
 pub data Verdict (A : Type 0) : Type 0 where

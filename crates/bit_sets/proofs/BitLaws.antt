@@ -1,4 +1,4 @@
--- Laws of the bits of a word. Assumes nothing.
+-- Laws of the bits of a word.
 use Prim.Native.Nat.{ℕ, zero, suc, _+_, _*_, _/_, _%_, _^_, _<_, _≤_, max}
 use native.Mathlib.Nat.{pow-suc, pow-succ', div-div-eq-div-mul, max-zero, max-eq-right, max-le}
 use native.Mathlib.Omega.{arith}

@@ -1,4 +1,4 @@
--- Laws of putting places into a set. Assumes nothing.
+-- Laws of putting places into a set.
 use Prim.Native.Nat.{ℕ, zero, suc, _+_, _-_, _*_, _/_, _%_, _^_, _<_, _≤_}
 use native.Mathlib.Nat.{one-mul}
 use native.Mathlib.Omega.{arith}

@@ -1,4 +1,4 @@
--- Sets of places, a bit for each, 32 in a word; and windows of codepoints. Assumes nothing.
+-- Sets of places, a bit for each, 32 in a word; and windows of codepoints.
 use Prim.Native.Nat.{ℕ, zero, suc, _+_, _*_, _/_, _%_, _<_, _≤_}
 use mathlib.Core.Path.{_≡_}
 use mathlib.Core.Bool.{Bool, _||_}

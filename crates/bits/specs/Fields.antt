@@ -1,6 +1,6 @@
 -- Shifts and masks as arithmetic, for every width: a word of w bits as a high field m and a low field p of k bits, as code takes it apart
 -- (`x >> k`, `x & (2^k - 1)`) and puts it together (`m << k | p`). What `x << k` keeps of a word of w bits is `x * 2 ^ k % 2 ^ w`. The
--- laws stand on the kit's lib.Bits and lib.Pow. Assumes nothing.
+-- laws stand on the kit's lib.Bits and lib.Pow.
 use Prim.Native.Nat.{ℕ, _+_, _-_, _*_, _/_, _%_, _^_, _<_, _≤_}
 use native.Mathlib.Nat.{mod-lt, mul-mod-left, add-zero}
 use mathlib.Core.Path.{_≡_, ap, ap₂, _∙_}

@@ -1,4 +1,4 @@
--- The calls, from the form that stands in the answer buffer and what was done in the slots. Assumes nothing.
+-- The calls, from the form that stands in the answer buffer and what was done in the slots.
 use Prim.Native.Nat.{ℕ, _-_, _*_, _≤_}
 use native.Mathlib.Omega.{arith}
 use mathlib.Core.Path.{_≡_, refl, sym, ap, _∙_}

@@ -1,5 +1,5 @@
 -- The calls of the payee book (02, Item 7). Refusals in order: 40 and 41, "then those of the name call, 42 empty normal form, 43 over 255
--- codepoints, 44 not filed, 45 full". Assumes nothing.
+-- codepoints, 44 not filed, 45 full".
 use Prim.Native.Nat.{ℕ}
 use mathlib.Core.Bool.{cond}
 use mathlib.Core.List.{List}

@@ -1,4 +1,4 @@
--- What the calls promise, in the terms of Calls.antt. Assumes nothing.
+-- What the calls promise, in the terms of Calls.antt.
 use Prim.Native.Nat.{ℕ}
 use mathlib.Core.Path.{_≡_}
 use mathlib.Core.List.{List}

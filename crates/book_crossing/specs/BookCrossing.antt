@@ -1,4 +1,4 @@
--- What the calls of the payee book promise with every answer as plain numbers: the definitions of the calls. Assumes nothing.
+-- What the calls of the payee book promise with every answer as plain numbers: the definitions of the calls.
 use Prim.Native.Nat.{ℕ}
 use mathlib.Core.List.{List}
 use lib.ListN.{length}

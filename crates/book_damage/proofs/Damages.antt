@@ -1,4 +1,4 @@
--- What makes a slot damaged, test by test. Assumes nothing.
+-- What makes a slot damaged, test by test.
 use Prim.Native.Nat.{ℕ, zero, suc, _+_, _-_, _*_, _<_, _≤_}
 use native.Mathlib.Omega.{arith}
 use mathlib.Core.Path.{_≡_, refl, sym, ap, _∙_}

@@ -1,4 +1,4 @@
--- The form under which a name is filed: what the name call answered, then what is said of that. Assumes nothing.
+-- The form under which a name is filed: what the name call answered, then what is said of that.
 use Prim.Native.Nat.{ℕ, _≤_}
 use mathlib.Core.Path.{_≡_, refl, sym, ap, _∙_}
 use mathlib.Core.Bool.{false}

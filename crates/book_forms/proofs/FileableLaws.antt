@@ -1,4 +1,4 @@
--- 42 and 43 of a form. Assumes nothing.
+-- 42 and 43 of a form.
 use Prim.Native.Nat.{ℕ, _≤_, _<_}
 use native.Mathlib.Omega.{arith}
 use mathlib.Core.Path.{_≡_}

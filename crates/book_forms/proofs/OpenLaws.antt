@@ -1,4 +1,4 @@
--- 40 and 41 of an area. Assumes nothing.
+-- 40 and 41 of an area.
 use Prim.Native.Nat.{ℕ, _-_}
 use native.Mathlib.Omega.{arith}
 use mathlib.Core.Path.{_≡_, refl, sym, ap, _∙_}

@@ -1,4 +1,4 @@
--- What the functions of this crate and of `book_filing` answer. Assumes nothing.
+-- What the functions of this crate and of `book_filing` answer.
 use Prim.Native.Nat.{ℕ, _≤_}
 use mathlib.Core.Path.{_≡_}
 use mathlib.Core.List.{List}

@@ -1,4 +1,4 @@
--- What is done in the slots under a form. Assumes nothing.
+-- What is done in the slots under a form.
 use Prim.Native.Nat.{ℕ, suc, _+_, _*_, _<_}
 use native.Mathlib.Omega.{arith}
 use mathlib.Core.Path.{_≡_, refl, sym, _∙_}

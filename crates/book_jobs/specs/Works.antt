@@ -1,4 +1,4 @@
--- What the functions of this crate do. Assumes nothing.
+-- What the functions of this crate do.
 use Prim.Native.Nat.{ℕ}
 use mathlib.Core.Path.{_≡_}
 use mathlib.Core.List.{List}

@@ -1,4 +1,4 @@
--- Writing, clearing and reading the slot at a place. Assumes nothing.
+-- Writing, clearing and reading the slot at a place.
 use Prim.Native.Nat.{ℕ, suc, _+_, _-_, _*_, _<_, _≤_}
 use native.Mathlib.Omega.{arith}
 use mathlib.Core.Path.{_≡_, refl, ap, _∙_}

@@ -1,4 +1,4 @@
--- "For a sound table and the same room, a payee found by a name is found by its normal form too." Assumes nothing.
+-- "For a sound table and the same room, a payee found by a name is found by its normal form too."
 use Prim.Native.Nat.{ℕ}
 use native.Mathlib.Omega.{arith}
 use mathlib.Core.Path.{_≡_, refl, sym, ap, _∙_}

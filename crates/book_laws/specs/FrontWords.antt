@@ -1,4 +1,4 @@
--- "after a reset all but the front words are zero. No call changes a front word." For every area, whatever it holds. Assumes nothing.
+-- "after a reset all but the front words are zero. No call changes a front word." For every area, whatever it holds.
 use Prim.Native.Nat.{ℕ, _*_}
 use native.Mathlib.Omega.{arith}
 use mathlib.Core.Path.{_≡_, refl, sym, ap, _∙_}

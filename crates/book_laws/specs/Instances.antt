@@ -1,4 +1,4 @@
--- A closed sequence of calls by the small table: 41 and 61 are two spellings of one payee. Assumes nothing.
+-- A closed sequence of calls by the small table: 41 and 61 are two spellings of one payee.
 use Prim.Native.Nat.{ℕ}
 use mathlib.Core.Path.{_≡_, refl, _∙_}
 use mathlib.Core.List.{List, [], _∷_}

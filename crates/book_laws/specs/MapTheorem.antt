@@ -1,5 +1,5 @@
 -- "From a zeroed area, with one table throughout, any sequence of these calls answers as a plain map of at most 64 entries from normal forms to
--- accounts does, and after a reset all but the front words are zero. No call changes a front word." Assumes nothing.
+-- accounts does, and after a reset all but the front words are zero. No call changes a front word."
 use Prim.Native.Nat.{ℕ, _+_, _-_, _*_, _≤_}
 use native.Mathlib.Omega.{arith}
 use mathlib.Core.Path.{_≡_, refl, sym, ap, _∙_}

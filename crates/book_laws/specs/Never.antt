@@ -1,4 +1,4 @@
--- From a zeroed area 40 and 41 never occur. Assumes nothing.
+-- From a zeroed area 40 and 41 never occur.
 use Prim.Native.Nat.{ℕ, _≤_}
 use native.Mathlib.Omega.{arith}
 use mathlib.Core.Path.{_≡_}

@@ -1,4 +1,4 @@
--- The same of calls that were made, each with an answer buffer and a work area of its own, whatever they held. Assumes nothing.
+-- The same of calls that were made, each with an answer buffer and a work area of its own, whatever they held.
 use Prim.Native.Nat.{ℕ}
 use mathlib.Core.Path.{_≡_, refl, ap, _∙_}
 use mathlib.Core.List.{List, [], _∷_}

@@ -1,4 +1,4 @@
--- Laws of maps as lists of entries. Assumes nothing.
+-- Laws of maps as lists of entries.
 use Prim.Native.Nat.{ℕ, suc, _+_}
 use native.Mathlib.Omega.{arith}
 use mathlib.Core.Path.{_≡_, refl, sym, ap, _∙_}

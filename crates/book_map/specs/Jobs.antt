@@ -1,4 +1,4 @@
--- Each job in the slots is that job in the map. Assumes nothing.
+-- Each job in the slots is that job in the map.
 use Prim.Native.Nat.{ℕ, _+_, _<_, _≤_}
 use native.Mathlib.Omega.{arith}
 use mathlib.Core.Path.{_≡_, refl, sym, ap, _∙_}

@@ -1,5 +1,5 @@
 -- "a plain map of at most 64 entries from normal forms to accounts", and what it answers to the calls of the book. The map is a list of
--- entries, of which no two have the same form. Assumes nothing.
+-- entries, of which no two have the same form.
 use Prim.Native.Nat.{ℕ}
 use mathlib.Core.Bool.{not, cond}
 use mathlib.Core.List.{List, [], _∷_}

@@ -1,4 +1,4 @@
--- Two lists of entries that are the same map, and what the jobs do to them. Assumes nothing.
+-- Two lists of entries that are the same map, and what the jobs do to them.
 use Prim.Native.Nat.{ℕ, suc}
 use native.Mathlib.Omega.{arith}
 use mathlib.Core.Path.{_≡_, refl, sym, ap, _∙_}

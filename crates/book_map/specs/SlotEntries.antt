@@ -1,4 +1,4 @@
--- The entries that slots hold, and what the searches of the book say of them. Assumes nothing.
+-- The entries that slots hold, and what the searches of the book say of them.
 use Prim.Native.Nat.{ℕ, zero, suc, _+_, _-_, _≤_}
 use native.Mathlib.Omega.{arith}
 use mathlib.Core.Path.{_≡_, refl, sym, ap, _∙_}

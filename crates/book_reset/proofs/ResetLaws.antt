@@ -1,4 +1,4 @@
--- The reset, from the two buffers that it cleared. Assumes nothing.
+-- The reset, from the two buffers that it cleared.
 use Prim.Native.Nat.{ℕ, _-_, _*_}
 use native.Mathlib.Omega.{arith}
 use mathlib.Core.Path.{_≡_, refl, ap, _∙_}

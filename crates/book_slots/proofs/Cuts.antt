@@ -1,4 +1,4 @@
--- Laws of taking and dropping. Assumes nothing.
+-- Laws of taking and dropping.
 use Prim.Native.Nat.{ℕ, zero, suc, _-_}
 use native.Mathlib.Omega.{arith}
 use mathlib.Core.Path.{_≡_, sym}

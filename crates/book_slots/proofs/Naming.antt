@@ -1,4 +1,4 @@
--- Whether a slot has a name, by its length and its words. Assumes nothing.
+-- Whether a slot has a name, by its length and its words.
 use Prim.Native.Nat.{ℕ, _+_, _-_, _≤_}
 use native.Mathlib.Omega.{arith}
 use mathlib.Core.Path.{_≡_, sym, ap, _∙_}

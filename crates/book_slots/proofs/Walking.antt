@@ -1,4 +1,4 @@
--- Loops over the slots, from the first on: after i turns what is looked for is left to the slots from number i on. Assumes nothing.
+-- Loops over the slots, from the first on: after i turns what is looked for is left to the slots from number i on.
 use Prim.Native.Nat.{ℕ, suc, _+_, _-_, _*_, _<_, _≤_}
 use native.Mathlib.Numerals.{add-one}
 use native.Mathlib.Omega.{arith}

@@ -1,5 +1,5 @@
 -- 02, Item 7: "A second crate keeps payees in a lent area of u32: 16 front words, the part that the reset skips, then 64 slots of 264 words
--- (length, 255 words of normal form, 8 words of account)." Assumes nothing.
+-- (length, 255 words of normal form, 8 words of account)."
 use Prim.Native.Nat.{ℕ, zero, suc}
 use mathlib.Core.Bool.{Bool, _&&_}
 use mathlib.Core.List.{List, [], _∷_, _++_}

@@ -1,5 +1,5 @@
 -- 41, "damaged (a length over 255, words past a length not zero, an account in a slot of length 0, or two filed slots with one name)". The
--- bracket is all of it: a filed slot may hold any words, and such a slot only fills its place. Assumes nothing.
+-- bracket is all of it: a filed slot may hold any words, and such a slot only fills its place.
 use Prim.Native.Nat.{ℕ}
 use mathlib.Core.Bool.{Bool, false, not, _&&_, _||_}
 use mathlib.Core.List.{List, [], _∷_}

@@ -1,4 +1,4 @@
--- The words of an area are its slots, one behind the other: reading a slot, and writing one. Assumes nothing.
+-- The words of an area are its slots, one behind the other: reading a slot, and writing one.
 use Prim.Native.Nat.{ℕ, zero, suc, _+_, _-_, _*_, _<_}
 use native.Mathlib.Omega.{arith}
 use mathlib.Core.Path.{_≡_, refl, sym, ap, _∙_}

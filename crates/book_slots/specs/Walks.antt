@@ -1,4 +1,4 @@
--- What the walks over the slots answer. Assumes nothing.
+-- What the walks over the slots answer.
 use Prim.Native.Nat.{ℕ}
 use mathlib.Core.Bool.{Bool, false, not, _&&_}
 use mathlib.Core.List.{List, [], _∷_}

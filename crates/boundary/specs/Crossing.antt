@@ -1,4 +1,4 @@
--- What the exported calls promise: the definitions of the calls, with every answer as plain numbers. Assumes nothing.
+-- What the exported calls promise: the definitions of the calls, with every answer as plain numbers.
 use Prim.Native.Nat.{ℕ}
 use mathlib.Core.Path.{_≡_}
 use mathlib.Core.List.{List}

@@ -1,4 +1,4 @@
--- What the exported calls on bytes promise: the definitions of the calls, with every answer as plain numbers. Assumes nothing.
+-- What the exported calls on bytes promise: the definitions of the calls, with every answer as plain numbers.
 use Prim.Native.Nat.{ℕ}
 use mathlib.Core.List.{List}
 use lib.ListN.{length}

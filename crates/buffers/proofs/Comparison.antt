@@ -1,4 +1,4 @@
--- A loop that compares two lists of one length: the first i words are the same, so the lists are where the rest is. Assumes nothing.
+-- A loop that compares two lists of one length: the first i words are the same, so the lists are where the rest is.
 use Prim.Native.Nat.{ℕ, _+_, _≤_, _<_}
 use native.Mathlib.Numerals.{add-one}
 use native.Mathlib.Omega.{arith}

@@ -1,5 +1,4 @@
 -- A loop that writes a list from its front, one store a turn: after i turns it holds the i values done, then what stood there.
--- Assumes nothing.
 use Prim.Native.Nat.{ℕ, _+_, _<_, _≤_}
 use native.Mathlib.Numerals.{add-one}
 use native.Mathlib.Omega.{arith}

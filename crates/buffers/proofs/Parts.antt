@@ -1,5 +1,5 @@
 -- A part of a list that is lent and comes back. Lending `&mut s[a..]` lends `midOf a (length s - a) s`, and leaves
--- `putMid a (length s - a) s ys` where ys came back. Assumes nothing.
+-- `putMid a (length s - a) s ys` where ys came back.
 use Prim.Native.Nat.{ℕ, _-_}
 use native.Mathlib.Omega.{arith}
 use mathlib.Core.Path.{_≡_}

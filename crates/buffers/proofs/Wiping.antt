@@ -1,4 +1,4 @@
--- What is read back of words that were cleared. Assumes nothing.
+-- What is read back of words that were cleared.
 use Prim.Native.Nat.{ℕ, _%_, _<_}
 use native.Mathlib.Nat.{mod-lt}
 use native.Mathlib.Omega.{arith}

@@ -1,4 +1,4 @@
--- Text written at the front of a buffer, piece by piece (specs/Writes.antt). Assumes nothing.
+-- Text written at the front of a buffer, piece by piece (specs/Writes.antt).
 use Prim.Native.Nat.{ℕ, _+_, _-_, _≤_, _<_}
 use native.Mathlib.Omega.{arith}
 use mathlib.Core.Path.{_≡_, refl, sym, ap, _∙_}

@@ -1,4 +1,4 @@
--- What a function promises that writes at the front of a buffer and answers how much it wrote, or that wipes one. Assumes nothing.
+-- What a function promises that writes at the front of a buffer and answers how much it wrote, or that wipes one.
 use Prim.Native.Nat.{ℕ, _≤_}
 use mathlib.Core.Path.{_≡_}
 use mathlib.Core.List.{List, _++_}

@@ -1,4 +1,4 @@
--- Laws of what is put into a buffer: nothing, one byte, and one text behind the other. Assumes nothing.
+-- Laws of what is put into a buffer: nothing, one byte, and one text behind the other.
 use Prim.Native.Nat.{ℕ, _+_, _/_, _%_, _≤_, _<_}
 use native.Mathlib.Numerals.{add-one}
 use native.Mathlib.Nat.{mod-lt}

@@ -1,4 +1,4 @@
--- What was put into a buffer, as far as there is room. Assumes nothing.
+-- What was put into a buffer, as far as there is room.
 use Prim.Native.Nat.{ℕ, _+_, _≤_, _<_}
 use mathlib.Core.Path.{_≡_}
 use mathlib.Core.Bool.{true, false}

@@ -1,4 +1,4 @@
--- The fields of the search's answer have the values of its case, by the equation that a match gives. Assumes nothing.
+-- The fields of the search's answer have the values of its case, by the equation that a match gives.
 use Prim.Native.Nat.{ℕ}
 use mathlib.Core.Path.{_≡_, sym, ap, _∙_}
 use mathlib.Core.Bool.{Bool, cond}

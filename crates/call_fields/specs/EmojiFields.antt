@@ -1,4 +1,4 @@
--- The fields of the call that says which emoji it was are its values. Assumes nothing.
+-- The fields of the call that says which emoji it was are its values.
 use Rattle.emoji_call.specs.EmojiCall.{EmojiValues}
 use Rattle.call_fields.specs.declared.emoji.WanlophengEmoji.{WanlophengEmoji}
 

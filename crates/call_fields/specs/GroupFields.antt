@@ -1,5 +1,4 @@
 -- The answer of the search for a group as plain numbers: 1 beside a group that was found, with its number and 1 for each flag that is set.
--- Assumes nothing.
 use Prim.Native.Nat.{ℕ}
 use mathlib.Core.Bool.{cond}
 use Rattle.groups.specs.declared.GroupFound.{GroupFound}

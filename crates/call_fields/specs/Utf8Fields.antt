@@ -1,4 +1,4 @@
--- The fields of the UTF-8 reader and writer are their values. Assumes nothing.
+-- The fields of the UTF-8 reader and writer are their values.
 use Rattle.utf8.specs.Calls.{Values}
 use Rattle.call_fields.specs.declared.bytes.WanlophengUtf8.{WanlophengUtf8}
 

@@ -1,6 +1,6 @@
 -- Wrong programs that 01 names ("Proof held to the counter's standard"), each ruled out on named inputs: the definition of the name call, and
 -- that of the label call, differ from it there. A program is seen as what it gives back for the words of a table, a name, and what stands in
--- the answer buffer and in the work area. Assumes nothing.
+-- the answer buffer and in the work area.
 use Prim.Native.Nat.{ℕ}
 use native.Mathlib.Omega.{arith}
 use mathlib.Core.Path.{_≡_, refl, sym, ap, _∙_}

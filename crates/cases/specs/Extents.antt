@@ -1,6 +1,6 @@
 -- The whole of 02, Item 6, as a case: "In a whole with A in groups 1 and 2, B in 2 and 3, C in 3, the extent of A is all three, and with 01's
 -- reading C was wrongly left outside." The label A was 14 by that reading and passes; a label that is 14 by both stands beside it. The reading
--- of one hop is a wrong program now. Assumes nothing.
+-- of one hop is a wrong program now.
 use Prim.Native.Nat.{ℕ}
 use native.Mathlib.Omega.{arith}
 use mathlib.Core.Path.{_≡_, refl, sym, _∙_}

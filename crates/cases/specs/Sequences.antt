@@ -1,4 +1,4 @@
--- 02, Item 12, on the small table: what a list permits, what it does not, and which words are a layout fault. Assumes nothing.
+-- 02, Item 12, on the small table: what a list permits, what it does not, and which words are a layout fault.
 use Prim.Native.Nat.{ℕ}
 use mathlib.Core.Path.{_≡_, refl}
 use mathlib.Core.Bool.{Bool, true, false}

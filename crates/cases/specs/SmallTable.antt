@@ -1,4 +1,4 @@
--- A small table of our own for the worked cases. Assumes nothing.
+-- A small table of our own for the worked cases.
 use Prim.Native.Nat.{ℕ}
 use mathlib.Core.List.{List, [], _∷_, _++_}
 use lib.ListN.{length}

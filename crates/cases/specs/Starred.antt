@@ -1,5 +1,5 @@
 -- The cases of 01, "Names at the counter", that are marked *, restated for the small table: what the name call answers, what it leaves
--- in both buffers, and the kind of each label. They are one table under one claim, `starred`. Assumes nothing.
+-- in both buffers, and the kind of each label. They are one table under one claim, `starred`.
 use Prim.Native.Nat.{ℕ}
 use mathlib.Core.Path.{_≡_, refl}
 use mathlib.Core.Bool.{false}

@@ -1,4 +1,4 @@
--- Laws of the sweep over the claims of a batch, which joins the owners of those that reach the same number. Assumes nothing.
+-- Laws of the sweep over the claims of a batch, which joins the owners of those that reach the same number.
 use Prim.Native.Nat.{ℕ, _+_, _<_, _≤_}
 use native.Mathlib.Omega.{arith}
 use mathlib.Core.Path.{_≡_, sym, _∙_, ap}

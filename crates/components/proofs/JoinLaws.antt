@@ -1,4 +1,4 @@
--- Laws of the joining of groups by members: of a batch, and of batch after batch. Assumes nothing.
+-- Laws of the joining of groups by members: of a batch, and of batch after batch.
 use Prim.Native.Nat.{ℕ, zero, suc, _+_, _-_, _<_, _≤_}
 use native.Mathlib.Omega.{arith}
 use mathlib.Core.Path.{_≡_, refl, sym, _∙_, ap}

@@ -1,4 +1,4 @@
--- Laws of composition in place. Assumes nothing.
+-- Laws of composition in place.
 use Prim.Native.Nat.{ℕ, zero, suc, _+_, _≤_, _<_}
 use native.Mathlib.Numerals.{add-one}
 use native.Mathlib.Omega.{arith}

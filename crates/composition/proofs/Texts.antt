@@ -1,4 +1,4 @@
--- Laws of the classes beside a text, and of its ordering. Assumes nothing.
+-- Laws of the classes beside a text, and of its ordering.
 use Prim.Native.Nat.{ℕ, _+_, _≤_, _<_}
 use native.Mathlib.Numerals.{add-one}
 use native.Mathlib.Omega.{arith}

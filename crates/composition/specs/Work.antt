@@ -1,4 +1,4 @@
--- What the functions of this crate ask for and answer, over a table. Assumes nothing.
+-- What the functions of this crate ask for and answer, over a table.
 use Prim.Native.Nat.{ℕ, zero, suc, _≤_}
 use mathlib.Core.Path.{_≡_}
 use mathlib.Core.Bool.{Bool, true, _||_, cond}

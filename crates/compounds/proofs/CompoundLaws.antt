@@ -1,4 +1,4 @@
--- Laws of refusal 16: of the walks over a text, over a list and to the list of a group. Assumes nothing.
+-- Laws of refusal 16: of the walks over a text, over a list and to the list of a group.
 use Prim.Native.Nat.{ℕ, zero, suc, _+_, _-_, _<_, _≤_}
 use native.Mathlib.Numerals.{add-one}
 use native.Mathlib.Omega.{arith}

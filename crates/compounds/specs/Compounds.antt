@@ -1,5 +1,5 @@
 -- Refusal 16. 02, Item 12: "In a group with a list, a character of the composed text that is no mark and is followed by marks must,
--- together with all marks up to the next character that isn't one, be in the list". Assumes nothing.
+-- together with all marks up to the next character that isn't one, be in the list".
 use Prim.Native.Nat.{ℕ, zero, suc}
 use mathlib.Core.Bool.{Bool, true, _||_, cond}
 use mathlib.Core.List.{List, [], _∷_}

@@ -1,5 +1,5 @@
 -- The compound sequences of a label's text are those of its tokens: "the joined text and the tokens give the same runs", since refusal 11 comes
--- first, on every table. Assumes nothing.
+-- first, on every table.
 use Prim.Native.Nat.{ℕ}
 use mathlib.Core.Path.{_≡_, refl, sym, _∙_, ap}
 use mathlib.Core.Bool.{Bool, true, false, _||_, cond, false≢true}

@@ -1,4 +1,4 @@
--- Refusal 14. 01, "The rules of one label", "Confusable", with the extent of 02, Item 6. Assumes nothing.
+-- Refusal 14. 01, "The rules of one label", "Confusable", with the extent of 02, Item 6.
 use Prim.Native.Nat.{ℕ, zero, suc}
 use mathlib.Core.Bool.{Bool, not, _&&_}
 use mathlib.Core.List.{List, [], _∷_, _++_}

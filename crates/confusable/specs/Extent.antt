@@ -1,5 +1,5 @@
 -- Laws of the extent (02, Item 6). Everything else uses two of them: it holds the character, and it holds every member that shares a group with
--- the character. The others say that it is what "until nothing is added" means, for every table. Assumes nothing.
+-- the character. The others say that it is what "until nothing is added" means, for every table.
 use Prim.Native.Nat.{ℕ, zero, suc, _<_, _≤_}
 use native.Mathlib.Omega.{arith}
 use mathlib.Core.Path.{_≡_, refl, sym, _∙_}

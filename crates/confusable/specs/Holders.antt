@@ -1,5 +1,5 @@
 -- A group of the table that holds a confused character never respells it. Of the extent only `extent-shared` is used: it holds every member of
--- its whole that shares a group with the character. Assumes nothing.
+-- its whole that shares a group with the character.
 use mathlib.Core.Path.{_≡_, refl, sym, _∙_}
 use mathlib.Core.Bool.{Bool, true, false, not, _&&_, false≢true, true≢false}
 use mathlib.Core.List.{List·Memᴰ}

@@ -1,4 +1,4 @@
--- Laws of the filter of confused characters. Assumes nothing.
+-- Laws of the filter of confused characters.
 use Prim.Native.Nat.{ℕ, _+_, _/_, _%_, _<_, _≤_}
 use native.Mathlib.Omega.{arith}
 use mathlib.Core.Path.{_≡_, refl, sym, _∙_, ap}

@@ -1,4 +1,4 @@
--- A filter of the confused characters of all wholes: a bit for each remainder of a codepoint by 4,096. Assumes nothing.
+-- A filter of the confused characters of all wholes: a bit for each remainder of a codepoint by 4,096.
 use Prim.Native.Nat.{ℕ, _%_}
 use mathlib.Core.Path.{_≡_}
 use mathlib.Core.Bool.{Bool, false}

@@ -1,4 +1,4 @@
--- The words of the table that was read are in their buffer. Assumes nothing.
+-- The words of the table that was read are in their buffer.
 use Prim.Native.Nat.{ℕ, _≤_}
 use mathlib.Core.Path.{_≡_, subst}
 use mathlib.Core.List.{List}

@@ -1,4 +1,4 @@
--- A piece of input that was read. Assumes nothing.
+-- A piece of input that was read.
 use Prim.Native.Nat.{ℕ, _+_, _≤_}
 use native.Mathlib.Omega.{arith}
 use mathlib.Core.Path.{_≡_, subst}

@@ -1,4 +1,4 @@
--- What the counter program writes. 01, "Names at the counter". Assumes nothing.
+-- What the counter program writes. 01, "Names at the counter".
 use Prim.Native.Nat.{ℕ}
 use mathlib.Core.List.{List}
 use mathlib.Core.Option.{Option}

@@ -1,4 +1,4 @@
--- What the functions of the program promise. Assumes nothing.
+-- What the functions of the program promise.
 use Prim.Native.Nat.{ℕ, _≤_}
 use mathlib.Core.List.{List}
 use lib.ListN.{length}

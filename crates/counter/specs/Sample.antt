@@ -1,4 +1,4 @@
--- The sample of 01 on the small table of the worked cases, and the cases in which the whole output is `bad`. Assumes nothing.
+-- The sample of 01 on the small table of the worked cases, and the cases in which the whole output is `bad`.
 use Prim.Native.Nat.{ℕ, _+_, _/_, _%_}
 use mathlib.Core.Path.{_≡_, refl}
 use mathlib.Core.List.{List, [], _∷_, _++_, map}

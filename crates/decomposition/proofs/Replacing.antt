@@ -1,4 +1,4 @@
--- What a single replacement puts in the place of a codepoint, one by one. Assumes nothing.
+-- What a single replacement puts in the place of a codepoint, one by one.
 use Prim.Native.Nat.{ℕ, _+_, _-_, _/_, _%_, _≤_, _<_}
 use native.Mathlib.Omega.{arith}
 use native.Mathlib.Numerals.{add-one}

@@ -1,4 +1,4 @@
--- Laws of rounds of single replacement, and of writing a text into a list piece by piece. Assumes nothing.
+-- Laws of rounds of single replacement, and of writing a text into a list piece by piece.
 use Prim.Native.Nat.{ℕ, zero, suc, _+_, _*_, _-_, _≤_, _<_}
 use native.Mathlib.Numerals.{add-one}
 use native.Mathlib.Nat.{add-zero, suc-mul, mul-le-mul-right, le-trans}

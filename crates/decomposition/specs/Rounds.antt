@@ -1,4 +1,4 @@
--- Rounds of single replacement, counted, and what the code that does them answers. Assumes nothing.
+-- Rounds of single replacement, counted, and what the code that does them answers.
 use Prim.Native.Nat.{ℕ, zero, suc, _+_, _*_, _≤_, _<_}
 use mathlib.Core.Path.{_≡_}
 use mathlib.Core.List.{List, [], _∷_}

@@ -1,4 +1,4 @@
--- The three ends of the call. Assumes nothing.
+-- The three ends of the call.
 use Prim.Native.Nat.{ℕ}
 use mathlib.Core.Path.{_≡_, ap}
 use mathlib.Core.List.{List}

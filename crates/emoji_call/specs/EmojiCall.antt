@@ -1,5 +1,5 @@
 -- The call that says which emoji it was (02, Item 8): "besides how far it got, the number of the matching record (from 0) and how many FE0F it
--- took from the input". Assumes nothing.
+-- took from the input".
 use Prim.Native.Nat.{ℕ}
 use mathlib.Core.List.{List}
 use mathlib.Core.Option.{Option, none, some}

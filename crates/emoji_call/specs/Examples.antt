@@ -1,4 +1,4 @@
--- The call on small inputs. The table has the emoji 2764 FE0F, 2764, 1F600 FE0F FE0F and FE0F, and nothing else. Assumes nothing.
+-- The call on small inputs. The table has the emoji 2764 FE0F, 2764, 1F600 FE0F FE0F and FE0F, and nothing else.
 use Prim.Native.Nat.{ℕ}
 use mathlib.Core.Path.{_≡_, refl}
 use mathlib.Core.List.{List, [], _∷_, map}

@@ -1,4 +1,4 @@
--- What the call's answer says of the part, for every table. Assumes nothing.
+-- What the call's answer says of the part, for every table.
 use Prim.Native.Nat.{ℕ, _+_, _<_}
 use native.Mathlib.Omega.{arith}
 use mathlib.Core.Path.{_≡_, refl, sym, ap, _∙_}

@@ -1,4 +1,4 @@
--- The records of a section from the left, as far as the one of a number. Assumes nothing.
+-- The records of a section from the left, as far as the one of a number.
 use Prim.Native.Nat.{ℕ, zero, suc, _+_, _-_, _≤_, _<_}
 use native.Mathlib.Omega.{arith}
 use mathlib.Core.Path.{_≡_, refl, sym, ap, _∙_}

@@ -1,4 +1,4 @@
--- Where the sequence of an emoji record stands. Assumes nothing.
+-- Where the sequence of an emoji record stands.
 use Prim.Native.Nat.{ℕ}
 use mathlib.Core.Path.{_≡_}
 use mathlib.Core.List.{List}

@@ -1,4 +1,4 @@
--- The two ends of `finish`. Assumes nothing.
+-- The two ends of `finish`.
 use Prim.Native.Nat.{ℕ, _-_, _<_, _≤_}
 use mathlib.Core.Path.{_≡_, sym, _∙_}
 use mathlib.Core.Bool.{true, false}

@@ -1,5 +1,5 @@
 -- The end of a call, one definition for every call that is lent an answer buffer and a work area: 15, and every word of both buffers. 01,
--- "Refusal numbers". Assumes nothing.
+-- "Refusal numbers".
 use Prim.Native.Nat.{ℕ}
 use mathlib.Core.Path.{_≡_}
 use mathlib.Core.Bool.{cond}

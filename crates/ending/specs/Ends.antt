@@ -1,4 +1,4 @@
--- What holds at the end of a call, and what has to hold before it. Assumes nothing.
+-- What holds at the end of a call, and what has to hold before it.
 use Prim.Native.Nat.{ℕ, _-_, _<_, _≤_}
 use native.Mathlib.Omega.{arith}
 use mathlib.Core.Path.{_≡_, refl, sym, ap, _∙_}

@@ -1,4 +1,4 @@
--- What the code at the end of a call answers. Assumes nothing.
+-- What the code at the end of a call answers.
 use Prim.Native.Nat.{ℕ}
 use mathlib.Core.Path.{_≡_}
 use mathlib.Core.Bool.{Bool, cond}

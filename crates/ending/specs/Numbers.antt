@@ -1,4 +1,4 @@
--- The numbers of the refusals that a verdict can give. Assumes nothing.
+-- The numbers of the refusals that a verdict can give.
 use Prim.Native.Nat.{ℕ, _≤_}
 use native.Mathlib.Omega.{arith}
 use mathlib.Core.Path.{_≡_, refl, sym, _∙_}

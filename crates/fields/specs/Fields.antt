@@ -1,5 +1,5 @@
 -- The numbers that stand for the answers at the boundary, where 01 gives none: kinds are 1 emoji, 2 ASCII, 3 a group, and whether a table is
--- sound is a field of its own, so that every rule has its number. Beside a refusal every other field is 0. Assumes nothing.
+-- sound is a field of its own, so that every rule has its number. Beside a refusal every other field is 0.
 use Prim.Native.Nat.{ℕ}
 use mathlib.Core.Bool.{cond}
 use mathlib.Core.Option.{Option, none, some}

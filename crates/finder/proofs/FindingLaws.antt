@@ -1,4 +1,4 @@
--- The loop of the finder: the best match so far, and the records that are left. Assumes nothing.
+-- The loop of the finder: the best match so far, and the records that are left.
 use Prim.Native.Nat.{ℕ, suc, _+_, _≤_, _<_}
 use native.Mathlib.Omega.{arith}
 use native.Mathlib.Numerals.{add-one}

@@ -1,4 +1,4 @@
--- The loop that matches a sequence against an input: what is taken so far and what is left to match. Assumes nothing.
+-- The loop that matches a sequence against an input: what is taken so far and what is left to match.
 use Prim.Native.Nat.{ℕ, suc, _+_, _≤_, _<_}
 use native.Mathlib.Nat.{zero-add}
 use native.Mathlib.Omega.{arith}

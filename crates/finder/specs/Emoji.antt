@@ -1,4 +1,4 @@
--- Finding an emoji sequence. 01, "The rules of one label", "Tokens". Assumes nothing.
+-- Finding an emoji sequence. 01, "The rules of one label", "Tokens".
 use Prim.Native.Nat.{ℕ, suc}
 use mathlib.Core.Bool.{not, cond}
 use mathlib.Core.List.{List, [], _∷_}

@@ -1,4 +1,4 @@
--- What the finder finds: a match exactly where a record takes a codepoint, the longest one, and of those the first record. Assumes nothing.
+-- What the finder finds: a match exactly where a record takes a codepoint, the longest one, and of those the first record.
 use Prim.Native.Nat.{ℕ, zero, suc, _+_, _≤_, _<_}
 use native.Mathlib.Omega.{arith}
 use mathlib.Core.Path.{_≡_, refl}

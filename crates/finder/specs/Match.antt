@@ -1,4 +1,4 @@
--- What the answers of the emoji finder stand for. Assumes nothing.
+-- What the answers of the emoji finder stand for.
 use Prim.Native.Nat.{ℕ, _+_, _≤_}
 use mathlib.Core.Path.{_≡_}
 use mathlib.Core.List.{List}

@@ -1,5 +1,5 @@
 -- What a sequence may take of an input: each choice of the FE0F that are left out, that `takes` takes the most, and what the finder
--- finds. Assumes nothing.
+-- finds.
 use Prim.Native.Nat.{ℕ, suc, _+_, _≤_}
 use native.Mathlib.Omega.{arith}
 use mathlib.Core.Path.{_≡_, refl, sym, _∙_, ap}

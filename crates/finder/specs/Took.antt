@@ -1,4 +1,4 @@
--- What the finder's match took of the input: the record but for FE0F, and so many FE0F. For every list of records. Assumes nothing.
+-- What the finder's match took of the input: the record but for FE0F, and so many FE0F. For every list of records.
 use Prim.Native.Nat.{ℕ, suc, _+_, _<_}
 use native.Mathlib.Omega.{arith}
 use mathlib.Core.Path.{_≡_, refl, sym, _∙_}

@@ -1,4 +1,4 @@
--- Marks stand at records, with their numbers: at the start, and with one more that does. Assumes nothing.
+-- Marks stand at records, with their numbers: at the start, and with one more that does.
 use Prim.Native.Nat.{ℕ, _+_, _≤_, _<_}
 use native.Mathlib.Omega.{arith}
 use mathlib.Core.Path.{_≡_, refl, sym, _∙_, ap}

@@ -1,4 +1,4 @@
--- Sequences whose first items do not fall, none of them FE0F: what a search from e on may leave out. Assumes nothing.
+-- Sequences whose first items do not fall, none of them FE0F: what a search from e on may leave out.
 use Prim.Native.Nat.{ℕ, zero, suc, _+_, _≤_, _<_}
 use native.Mathlib.Omega.{arith}
 use mathlib.Core.Path.{_≡_, refl}

@@ -1,4 +1,4 @@
--- The walk over the section, up to a record: what is known of those that it has passed, and what is left. Assumes nothing.
+-- The walk over the section, up to a record: what is known of those that it has passed, and what is left.
 use Prim.Native.Nat.{ℕ, _+_, _≤_, _<_}
 use native.Mathlib.Omega.{arith}
 use mathlib.Core.Path.{_≡_, refl, sym, _∙_, ap}

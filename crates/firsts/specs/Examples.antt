@@ -1,5 +1,5 @@
 -- A section of two emoji sequences and a mark at the second, as a search is told of it; and sections that are not sorted: a first item falls, or
--- is FE0F. Assumes nothing.
+-- is FE0F.
 use Prim.Native.Nat.{ℕ}
 use native.Mathlib.Omega.{arith}
 use mathlib.Core.Path.{_≡_, refl}

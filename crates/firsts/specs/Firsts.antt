@@ -1,5 +1,5 @@
 -- The section of emoji sequences: whether it is sorted by first items, and records from which a search may start.
--- 02, Item 11: "which sections are sorted without overlap". Assumes nothing.
+-- 02, Item 11: "which sections are sorted without overlap".
 use Prim.Native.Nat.{ℕ, _≤_, _<_}
 use mathlib.Core.Path.{_≡_}
 use mathlib.Core.Bool.{Bool, true, not, _&&_}

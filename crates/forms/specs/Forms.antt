@@ -1,4 +1,4 @@
--- An accepted name's labels, and the forms that are made of them: the normal form of 01 and the screen form of 02, Item 1. Assumes nothing.
+-- An accepted name's labels, and the forms that are made of them: the normal form of 01 and the screen form of 02, Item 1.
 use Prim.Native.Nat.{ℕ}
 use mathlib.Core.Path.{refl}
 use mathlib.Core.Bool.{Bool, false, cond}

@@ -1,4 +1,4 @@
--- Laws of the forms, on every table: the normal form is the name call's answer, and a label's form goes on token by token. Assumes nothing.
+-- Laws of the forms, on every table: the normal form is the name call's answer, and a label's form goes on token by token.
 use Prim.Native.Nat.{ℕ, suc, _+_}
 use mathlib.Core.Path.{_≡_, refl, sym, ap, _∙_}
 use mathlib.Core.List.{List, [], _∷_, _++_, map}

@@ -1,4 +1,4 @@
--- Laws of the claims of a batch: how they are set, and what is reached from them. Assumes nothing.
+-- Laws of the claims of a batch: how they are set, and what is reached from them.
 use Prim.Native.Nat.{ℕ, _+_, _<_, _≤_}
 use native.Mathlib.Omega.{arith}
 use mathlib.Core.Path.{_≡_, refl, sym, _∙_, ap}

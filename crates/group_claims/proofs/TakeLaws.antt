@@ -1,4 +1,4 @@
--- Laws of the walks that set claims: over the pairs of a group, and over the groups. Assumes nothing.
+-- Laws of the walks that set claims: over the pairs of a group, and over the groups.
 use Prim.Native.Nat.{ℕ, _+_, _-_, _<_, _≤_}
 use native.Mathlib.Omega.{arith}
 use mathlib.Core.Path.{_≡_, refl, _∙_}

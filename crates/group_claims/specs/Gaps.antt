@@ -1,4 +1,4 @@
--- Where no number of a batch lies. Assumes nothing.
+-- Where no number of a batch lies.
 use Prim.Native.Nat.{ℕ, _<_}
 use mathlib.Core.List.{List}
 use lib.ListN.{length, getD}

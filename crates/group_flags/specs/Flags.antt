@@ -1,4 +1,4 @@
--- A flag for each group, as the look-alike test keeps them: 1 or 0, in mostGroups places. Assumes nothing.
+-- A flag for each group, as the look-alike test keeps them: 1 or 0, in mostGroups places.
 use Prim.Native.Nat.{ℕ, _-_}
 use mathlib.Core.Path.{_≡_}
 use mathlib.Core.Bool.{Bool, true, false, not, _&&_, cond}

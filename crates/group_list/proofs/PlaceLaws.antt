@@ -1,4 +1,4 @@
--- The flags of groups one after another. Assumes nothing.
+-- The flags of groups one after another.
 use Prim.Native.Nat.{ℕ, suc, _+_, _≤_, _<_}
 use native.Mathlib.Numerals.{add-one}
 use native.Mathlib.Omega.{arith}

@@ -1,4 +1,4 @@
--- The list of the groups whose flags are set: their numbers, ascending, each once. Assumes nothing.
+-- The list of the groups whose flags are set: their numbers, ascending, each once.
 use Prim.Native.Nat.{ℕ, suc}
 use mathlib.Core.Bool.{Bool, true, not, cond}
 use mathlib.Core.List.{List, [], _∷_}

@@ -1,4 +1,4 @@
--- Groups by their numbers. Assumes nothing.
+-- Groups by their numbers.
 use Prim.Native.Nat.{ℕ, suc, _+_, _-_, _<_}
 use native.Mathlib.Numerals.{add-one}
 use native.Mathlib.Omega.{arith}

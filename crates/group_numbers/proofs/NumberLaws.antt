@@ -1,4 +1,4 @@
--- Laws of the numbers of groups: how they are given and joined. Assumes nothing.
+-- Laws of the numbers of groups: how they are given and joined.
 use Prim.Native.Nat.{ℕ, suc, _+_, _<_, _≤_}
 use native.Mathlib.Numerals.{add-one}
 use native.Mathlib.Omega.{arith}

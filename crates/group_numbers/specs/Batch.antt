@@ -1,4 +1,4 @@
--- How the components are found, with a batch of members in order at a time. Assumes nothing.
+-- How the components are found, with a batch of members in order at a time.
 use Prim.Native.Nat.{ℕ, suc, _≤_, _<_}
 use mathlib.Core.Path.{_≡_}
 use mathlib.Core.Bool.{Bool, true, cond}

@@ -1,5 +1,5 @@
 -- The components that some members make of the groups: groups that hold one member are joined, and so on from group to group. Each group
--- has a number, 0 where it holds no member. Assumes nothing.
+-- has a number, 0 where it holds no member.
 use Prim.Native.Nat.{ℕ, _<_}
 use mathlib.Core.Path.{_≡_}
 use mathlib.Core.Bool.{Bool, true, false}

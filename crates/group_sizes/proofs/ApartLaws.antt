@@ -1,4 +1,4 @@
--- What is seen of a group, and of the groups behind it. Assumes nothing.
+-- What is seen of a group, and of the groups behind it.
 use Prim.Native.Nat.{ℕ, _+_, _≤_, _<_}
 use native.Mathlib.Omega.{arith}
 use native.Mathlib.Numerals.{add-two}

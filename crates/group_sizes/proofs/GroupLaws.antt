@@ -1,4 +1,4 @@
--- What one step of the walk over the groups tells. Assumes nothing.
+-- What one step of the walk over the groups tells.
 use Prim.Native.Nat.{ℕ, zero, suc, _+_, _-_, _≤_, _<_}
 use native.Mathlib.Omega.{arith}
 use native.Mathlib.Numerals.{add-two}

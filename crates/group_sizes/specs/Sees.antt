@@ -1,4 +1,4 @@
--- What is seen of a section: whether it is well formed, and whether it is sorted. Assumes nothing.
+-- What is seen of a section: whether it is well formed, and whether it is sorted.
 use Prim.Native.Nat.{ℕ}
 use mathlib.Core.Path.{_≡_}
 use mathlib.Core.Bool.{Bool, true}

@@ -1,4 +1,4 @@
--- How the layout pass walks the groups: the size of the one that comes next. Assumes nothing.
+-- How the layout pass walks the groups: the size of the one that comes next.
 use Prim.Native.Nat.{ℕ, _+_, _<_}
 use mathlib.Core.Path.{_≡_}
 use mathlib.Core.Bool.{Bool, true, _&&_}

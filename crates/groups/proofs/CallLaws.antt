@@ -1,4 +1,4 @@
--- The ends of the call that shows the search. Assumes nothing.
+-- The ends of the call that shows the search.
 use Prim.Native.Nat.{ℕ, _<_, _≤_}
 use mathlib.Core.Path.{_≡_}
 use mathlib.Core.List.{List}

@@ -1,4 +1,4 @@
--- Laws of the search for the first group that holds a text: what was asked so far, in the group at hand and in those before. Assumes nothing.
+-- Laws of the search for the first group that holds a text: what was asked so far, in the group at hand and in those before.
 use Prim.Native.Nat.{ℕ, suc, _+_, _*_, _<_, _≤_}
 use native.Mathlib.Numerals.{add-one}
 use native.Mathlib.Omega.{arith}

@@ -1,4 +1,4 @@
--- No search asks more often than there are groups times places of the text. Assumes nothing.
+-- No search asks more often than there are groups times places of the text.
 use Prim.Native.Nat.{ℕ, _+_, _*_, _≤_}
 use native.Mathlib.Nat.{mul-le-mul}
 use native.Mathlib.Omega.{arith}

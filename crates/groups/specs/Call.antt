@@ -1,5 +1,5 @@
 -- The call that shows the search for 12: a text and a table in; the group with its flags or none, and how often it was asked, out.
--- Refusals 1, then 3 for a text over the input limit. Assumes nothing.
+-- Refusals 1, then 3 for a text over the input limit.
 use Prim.Native.Nat.{ℕ}
 use mathlib.Core.Bool.{cond}
 use mathlib.Core.List.{List}

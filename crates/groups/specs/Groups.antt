@@ -1,4 +1,4 @@
--- Refusal 12: "the first group that holds every character, else 12", and how often the search for it asks. Assumes nothing.
+-- Refusal 12: "the first group that holds every character, else 12", and how often the search for it asks.
 use Prim.Native.Nat.{ℕ, suc}
 use mathlib.Core.Bool.{Bool, not, cond}
 use mathlib.Core.List.{List, [], _∷_, map}

@@ -1,4 +1,4 @@
--- Laws of a search by halves over entries of one length. Assumes nothing.
+-- Laws of a search by halves over entries of one length.
 use Prim.Native.Nat.{ℕ, zero, suc, _+_, _-_, _*_, _/_, _%_, _^_, _<_, _≤_}
 use native.Mathlib.Nat.{div-le-self}
 use native.Mathlib.Omega.{arith}

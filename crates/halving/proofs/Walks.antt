@@ -1,4 +1,4 @@
--- Laws of a walk over entries of one length that sees whether they fit and stand apart. Assumes nothing.
+-- Laws of a walk over entries of one length that sees whether they fit and stand apart.
 use Prim.Native.Nat.{ℕ, _+_, _-_, _*_, _/_, _%_, _<_, _≤_}
 use native.Mathlib.Numerals.{add-one}
 use native.Mathlib.Nat.{suc-mul, zero-mul, div-add-mod'}

@@ -1,4 +1,4 @@
--- A section that is sorted without overlap, in which a search by halves finds and misses, and one that is not. Assumes nothing.
+-- A section that is sorted without overlap, in which a search by halves finds and misses, and one that is not.
 use Prim.Native.Nat.{ℕ, suc, zero, _*_, _≤_, _<_}
 use native.Mathlib.Omega.{arith}
 use mathlib.Core.Path.{_≡_, refl}

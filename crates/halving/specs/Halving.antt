@@ -1,5 +1,5 @@
 -- Sections whose entries are of `step` words each: how they stand, and what a search by halves finds. Only whole entries count, of which there
--- are `length ws / step`; entry k starts at k * step. Assumes nothing.
+-- are `length ws / step`; entry k starts at k * step.
 use Prim.Native.Nat.{ℕ, _+_, _-_, _*_, _/_, _^_, _≤_, _<_}
 use mathlib.Core.Path.{_≡_}
 use mathlib.Core.Bool.{Bool, true, false, _&&_, cond}

@@ -1,4 +1,4 @@
--- How the entries of a section stand. 02, Item 11: "which sections are sorted without overlap". Assumes nothing.
+-- How the entries of a section stand. 02, Item 11: "which sections are sorted without overlap".
 use mathlib.Core.Path.{_≡_}
 use mathlib.Core.Bool.{Bool, true, false, not}
 use Rattle.halving.specs.declared.Order.{Order}

@@ -1,4 +1,4 @@
--- The law of a search by halves, over the stride, and its corollaries for pairs, triples and items. Assumes nothing.
+-- The law of a search by halves, over the stride, and its corollaries for pairs, triples and items.
 use Prim.Native.Nat.{ℕ, zero, suc, _+_, _-_, _*_, _/_, _≤_, _<_}
 use native.Mathlib.Nat.{zero-mul, suc-mul, mul-le-mul-right, div-mul-le-self, div-add-mod', mod-lt}
 use native.Mathlib.Omega.{arith}

@@ -1,4 +1,4 @@
--- Whether the entries of a section stand apart, by a test of each and its next. Assumes nothing.
+-- Whether the entries of a section stand apart, by a test of each and its next.
 use Prim.Native.Nat.{ℕ, zero, suc, _+_, _-_, _*_, _/_, _<_, _≤_}
 use native.Mathlib.Numerals.{add-one}
 use native.Mathlib.Omega.{arith}

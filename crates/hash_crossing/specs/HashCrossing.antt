@@ -1,4 +1,4 @@
--- What the name hash promises with its answer as plain numbers: the definition of the call. Assumes nothing.
+-- What the name hash promises with its answer as plain numbers: the definition of the call.
 use Prim.Native.Nat.{ℕ}
 use mathlib.Core.Path.{_≡_}
 use mathlib.Core.List.{List}

@@ -1,4 +1,4 @@
--- The walk over a section, up to `at`: what is known of the records that it has passed, and what is left. Assumes nothing.
+-- The walk over a section, up to `at`: what is known of the records that it has passed, and what is left.
 use Prim.Native.Nat.{ℕ, suc, _+_, _≤_, _<_}
 use native.Mathlib.Omega.{arith}
 use native.Mathlib.Numerals.{add-one}

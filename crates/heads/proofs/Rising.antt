@@ -1,4 +1,4 @@
--- Records whose heads ascend: what a search for c may leave out. Assumes nothing.
+-- Records whose heads ascend: what a search for c may leave out.
 use Prim.Native.Nat.{ℕ, suc, _≤_, _<_}
 use native.Mathlib.Omega.{arith}
 use mathlib.Core.Path.{_≡_, refl, sym, _∙_}

@@ -1,4 +1,4 @@
--- A search for the record with head c, which may start at a mark and end at a head above c where the heads ascend. Assumes nothing.
+-- A search for the record with head c, which may start at a mark and end at a head above c where the heads ascend.
 use Prim.Native.Nat.{ℕ, zero, suc, _+_, _≤_, _<_}
 use native.Mathlib.Omega.{arith}
 use mathlib.Core.Path.{_≡_, refl, sym, _∙_, ap}

@@ -1,5 +1,4 @@
 -- A section of two records with ascending heads and a mark at the second, as a search is told of it; and one with equal heads.
--- Assumes nothing.
 use Prim.Native.Nat.{ℕ}
 use native.Mathlib.Omega.{arith}
 use mathlib.Core.Path.{_≡_, refl}

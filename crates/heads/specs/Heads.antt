@@ -1,5 +1,5 @@
 -- Sections of records head, count, items: whether the heads ascend, and places where records stand, from which a search may start.
--- 02, Item 11: "which sections are sorted without overlap". Assumes nothing.
+-- 02, Item 11: "which sections are sorted without overlap".
 use Prim.Native.Nat.{ℕ, suc, _≤_, _<_}
 use mathlib.Core.Path.{_≡_}
 use mathlib.Core.Bool.{Bool, true, _&&_, cond}

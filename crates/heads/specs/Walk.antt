@@ -1,5 +1,5 @@
 -- How a walk over a section of records head, count, items stands, and a search in it: what is known of the records that are passed, and what is
--- left. Assumes nothing.
+-- left.
 use Prim.Native.Nat.{ℕ, _+_, _≤_, _<_}
 use mathlib.Core.Path.{_≡_}
 use mathlib.Core.Bool.{Bool, true, _&&_}

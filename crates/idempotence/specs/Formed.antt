@@ -1,4 +1,4 @@
--- The tokens of a label as a scan gives them, and that normalising keeps them so. Assumes nothing.
+-- The tokens of a label as a scan gives them, and that normalising keeps them so.
 use Prim.Native.Nat.{ℕ, zero, suc, _≤_, _<_}
 use native.Mathlib.Omega.{arith}
 use mathlib.Core.Path.{_≡_, refl, sym, ap, _∙_}

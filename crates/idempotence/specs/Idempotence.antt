@@ -1,6 +1,6 @@
 -- Demand 3, first half: "Take any table that passes the soundness check and any name accepted with it. Its answer, normalised with the same
 -- table and enough room, is accepted and is codepoint for codepoint the same. It has as many labels as before, and each keeps its kind,
--- group number and flag included. .. All this holds whatever stood in the buffers before." Assumes nothing.
+-- group number and flag included. .. All this holds whatever stood in the buffers before."
 use Prim.Native.Nat.{ℕ}
 use native.Mathlib.Omega.{arith}
 use mathlib.Core.Path.{_≡_, sym, ap, _∙_}

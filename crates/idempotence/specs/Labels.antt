@@ -1,5 +1,5 @@
 -- A label that is accepted with a sound table, written in any rendering of its tokens, is accepted as the same label; its answer is such
--- a rendering. Assumes nothing.
+-- a rendering.
 use Prim.Native.Nat.{ℕ, suc, _+_, _≤_}
 use native.Mathlib.Omega.{arith}
 use mathlib.Core.Path.{_≡_, refl, sym, ap, _∙_}

@@ -1,4 +1,4 @@
--- The answer is no longer than the worked length, on every table. Assumes nothing.
+-- The answer is no longer than the worked length, on every table.
 use Prim.Native.Nat.{ℕ, suc, _+_, _≤_}
 use native.Mathlib.Omega.{arith}
 use mathlib.Core.Path.{_≡_, ap}

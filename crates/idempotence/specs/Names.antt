@@ -1,5 +1,5 @@
 -- The answer of a name that was accepted with a sound table: splitting finds the labels' answers again, and there are only scalar values
--- in it. Assumes nothing.
+-- in it.
 use Prim.Native.Nat.{ℕ, _≤_}
 use native.Mathlib.Omega.{arith}
 use mathlib.Core.Path.{_≡_, refl, ap}

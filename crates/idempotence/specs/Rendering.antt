@@ -1,6 +1,6 @@
 -- Text that is scanned again. A rendering writes tokens as codepoints, piece by piece: on a sound table its scan gives the tokens back.
 -- A name's answer is a rendering of its tokens; so is every form that leaves out or puts back the FE0F of its emoji, or writes
--- a character as one that is mapped to it alone. Assumes nothing.
+-- a character as one that is mapped to it alone.
 use Prim.Native.Nat.{ℕ, zero, suc, pred, _+_, _-_, _≤_, _<_}
 use native.Mathlib.Omega.{arith}
 use mathlib.Core.Path.{_≡_, refl, sym, ap, _∙_}

@@ -1,4 +1,4 @@
--- What rules 1 to 5 of soundness say of codepoints and sequences, as they are used here. Assumes nothing.
+-- What rules 1 to 5 of soundness say of codepoints and sequences, as they are used here.
 use Prim.Native.Nat.{ℕ, zero, suc, _+_, _-_, _≤_, _<_}
 use native.Mathlib.Omega.{arith}
 use mathlib.Core.Path.{_≡_, refl, sym}

@@ -1,4 +1,4 @@
--- What rules 4 and 5 of soundness say of emoji sequences. Assumes nothing.
+-- What rules 4 and 5 of soundness say of emoji sequences.
 use Prim.Native.Nat.{ℕ, _≤_}
 use native.Mathlib.Omega.{arith}
 use mathlib.Core.Path.{_≡_, sym, ap, _∙_}

@@ -1,4 +1,4 @@
--- The text of an accepted label is valid: a group holds it, or it is ASCII. Assumes nothing.
+-- The text of an accepted label is valid: a group holds it, or it is ASCII.
 use Prim.Native.Nat.{ℕ, _<_}
 use mathlib.Core.Path.{_≡_, refl}
 use mathlib.Core.Bool.{Bool, true, false, cond, false≢true}

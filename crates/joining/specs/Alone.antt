@@ -1,5 +1,5 @@
 -- "A label's kind is the one that the rules of one label give it; the label call, lent that label alone with enough room, answers it": for
--- every table and accepted name, the label call on each of its labels gives that label's part of the answer and its kind. Assumes nothing.
+-- every table and accepted name, the label call on each of its labels gives that label's part of the answer and its kind.
 use Prim.Native.Nat.{ℕ, suc, _+_, _≤_}
 use native.Mathlib.Omega.{arith}
 use mathlib.Core.Path.{_≡_, refl, ap, subst}

@@ -1,6 +1,6 @@
 -- Demand 3, second half: "take any two names accepted with one table, sound or not, neither name empty. Joined by a full stop, they are
 -- accepted exactly when the joined name keeps within the length limits and the room. The answer is then the first answer, a full stop and
--- the second answer. The labels are those of the first name and then those of the second, each with its kind." Assumes nothing.
+-- the second answer. The labels are those of the first name and then those of the second, each with its kind."
 use Prim.Native.Nat.{ℕ, suc, _+_, _≤_}
 use native.Mathlib.Omega.{arith}
 use mathlib.Core.Path.{_≡_, refl, sym, ap, _∙_}

@@ -1,4 +1,4 @@
--- Acceptance of a list of labels goes label by label, with one limit on the worked length of all. Assumes nothing.
+-- Acceptance of a list of labels goes label by label, with one limit on the worked length of all.
 use Prim.Native.Nat.{ℕ, suc, _+_, _≤_}
 use native.Mathlib.Omega.{arith}
 use mathlib.Core.Path.{_≡_, refl, sym, ap, _∙_}

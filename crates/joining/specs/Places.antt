@@ -1,5 +1,4 @@
 -- Whether a label or a name is accepted does not hang on where it starts or on its number, only on the worked length before it.
--- Assumes nothing.
 use Prim.Native.Nat.{ℕ, suc, _+_, _≤_}
 use native.Mathlib.Omega.{arith}
 use mathlib.Core.Path.{_≡_, refl, sym, ap, _∙_}

@@ -1,4 +1,4 @@
--- The loop that takes the bytes of a piece, and the steps that finish. Assumes nothing.
+-- The loop that takes the bytes of a piece, and the steps that finish.
 use Prim.Native.Nat.{ℕ, zero, suc, _+_, _-_, _%_, _<_, _≤_}
 use native.Mathlib.Numerals.{add-one}
 use native.Mathlib.Omega.{arith}

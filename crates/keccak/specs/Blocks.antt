@@ -1,4 +1,4 @@
--- Bytes xored in one by one are a block xored in. Assumes nothing.
+-- Bytes xored in one by one are a block xored in.
 use Prim.Native.Nat.{ℕ, zero, suc, _+_, _*_, _/_, _%_, _^_, _<_, _≤_}
 use native.Mathlib.Nat.{zero-mul, mul-one, add-zero, add-assoc}
 use native.Mathlib.Omega.{arith}

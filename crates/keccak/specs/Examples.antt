@@ -1,4 +1,4 @@
--- The padding at the ends of a block, and two cuttings of the same bytes. Assumes nothing.
+-- The padding at the ends of a block, and two cuttings of the same bytes.
 use Prim.Native.Nat.{ℕ}
 use mathlib.Core.Path.{_≡_, refl}
 use mathlib.Core.List.{List, [], _∷_, _++_}

@@ -1,5 +1,4 @@
 -- What the sponge promises: the digest is the definition's on all bytes taken, in order, and "the cutting never changes the digest".
--- Assumes nothing.
 use Prim.Native.Nat.{ℕ, _+_, _-_, _*_, _/_, _%_, _<_}
 use native.Mathlib.Nat.{zero-add}
 use native.Mathlib.Omega.{arith}

@@ -1,5 +1,5 @@
 -- Keccak-256 (the Keccak reference; 02, Item 10): "It is the original Keccak with padding byte 01, not SHA-3's 06." "State is 25 lanes of
--- 64 bits, rate 136 bytes." Assumes nothing.
+-- 64 bits, rate 136 bytes."
 use Prim.Native.Nat.{ℕ, zero, suc, _+_, _-_, _*_, _/_, _%_, _^_}
 use mathlib.Core.Bool.{cond}
 use mathlib.Core.List.{List, [], _∷_, _++_}

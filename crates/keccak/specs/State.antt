@@ -1,4 +1,4 @@
--- The sponge as it takes bytes one by one. A caller can make any state: a fill of 136 or more counts modulo 136. Assumes nothing.
+-- The sponge as it takes bytes one by one. A caller can make any state: a fill of 136 or more counts modulo 136.
 use Prim.Native.Nat.{ℕ, _+_, _*_, _/_, _%_, _^_, _-_}
 use mathlib.Core.Bool.{cond}
 use mathlib.Core.List.{List, [], _∷_}

@@ -1,4 +1,4 @@
--- Laws of the bytes that a state takes: whole blocks, the fill, the padding. Assumes nothing.
+-- Laws of the bytes that a state takes: whole blocks, the fill, the padding.
 use Prim.Native.Nat.{ℕ, zero, suc, _+_, _-_, _*_, _/_, _%_, _^_, _<_}
 use native.Mathlib.Nat.{zero-mul, add-zero, add-suc, suc-add}
 use native.Mathlib.Numerals.{add-one}

@@ -1,4 +1,4 @@
--- Laws of exclusive or that lib.Bits does not have: it is associative, and a byte below a shifted number adds to it. Assumes nothing.
+-- Laws of exclusive or that lib.Bits does not have: it is associative, and a byte below a shifted number adds to it.
 use Prim.Native.Nat.{ℕ, zero, suc, _+_, _*_, _/_, _%_, _^_, _<_}
 use native.Mathlib.Nat.{add-zero, mul-assoc, mod-eq-of-lt, mul-add-mod-self-right}
 use native.Mathlib.Omega.{arith}

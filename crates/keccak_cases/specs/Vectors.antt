@@ -1,4 +1,4 @@
--- Published digests, computed by the definition. Assumes nothing.
+-- Published digests, computed by the definition.
 use mathlib.Core.Path.{_≡_, refl}
 use mathlib.Core.List.{[], _∷_}
 use Rattle.keccak_f.specs.Permutation.{keccakF}

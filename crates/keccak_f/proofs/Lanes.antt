@@ -1,5 +1,4 @@
 -- The lanes of each step by their places in the state: what the code writes at place i is the lane that the definition has there.
--- Assumes nothing.
 use Prim.Native.Nat.{ℕ, _+_, _*_, _/_, _%_, _<_}
 use native.Mathlib.Omega.{arith}
 use native.Mathlib.Numerals.{unary-clauses}

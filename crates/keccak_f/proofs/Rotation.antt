@@ -1,4 +1,4 @@
--- A rotation by shifts. Assumes nothing.
+-- A rotation by shifts.
 use Prim.Native.Nat.{ℕ, _+_, _-_, _*_, _/_, _%_, _^_, _<_}
 use native.Mathlib.Omega.{arith}
 use mathlib.Core.Path.{_≡_, sym, ap, ap₂, _∙_, subst}

@@ -1,4 +1,4 @@
--- The permutation gives 25 lanes. Assumes nothing.
+-- The permutation gives 25 lanes.
 use Prim.Native.Nat.{ℕ}
 use mathlib.Core.Path.{_≡_, refl}
 use mathlib.Core.List.{List}

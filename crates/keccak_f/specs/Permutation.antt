@@ -1,6 +1,6 @@
 -- Keccak-f[1600], from the Keccak team's summary of the reference, which the quotes are of (FIPS 202, section 3, says the same): 24 rounds of
 -- theta, rho, pi, chi and iota on a state of 25 lanes. A lane is a number below 2 ^ 64; ⊕, `bitAnd` and `complement` work on its bits. "All
--- the operations on the indices are done modulo 5." Assumes nothing.
+-- the operations on the indices are done modulo 5."
 use Prim.Native.Nat.{ℕ, _+_, _-_, _*_, _/_, _%_, _^_}
 use mathlib.Core.List.{List, [], _∷_}
 use lib.ListN.{getD, set}

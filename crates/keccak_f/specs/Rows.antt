@@ -1,4 +1,4 @@
--- The rows of a state, as the code works on them. Assumes nothing.
+-- The rows of a state, as the code works on them.
 use Prim.Native.Nat.{ℕ, _+_, _%_}
 use mathlib.Core.List.{List}
 use lib.ListN.{getD}

@@ -1,4 +1,4 @@
--- The two tables follow their rules. Assumes nothing.
+-- The two tables follow their rules.
 use Prim.Native.Nat.{ℕ, zero, suc, _+_, _-_, _*_, _/_, _%_, _^_}
 use mathlib.Core.Path.{_≡_, refl}
 use mathlib.Core.Bool.{cond}

@@ -1,4 +1,4 @@
--- A list by a rule for its elements, and an array that is written from the front by that rule. Assumes nothing.
+-- A list by a rule for its elements, and an array that is written from the front by that rule.
 use Prim.Native.Nat.{ℕ, zero, suc, _+_, _<_, _≤_}
 use native.Mathlib.Nat.{add-zero, add-suc, suc-add, zero-add}
 use native.Mathlib.Omega.{arith}

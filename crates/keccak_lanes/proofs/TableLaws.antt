@@ -1,4 +1,4 @@
--- What the code needs of its tables. Assumes nothing.
+-- What the code needs of its tables.
 use Prim.Native.Nat.{ℕ, _+_, _*_, _/_, _%_, _<_}
 use native.Mathlib.Omega.{arith}
 use mathlib.Core.Path.{_≡_, refl, ap, _∙_}

@@ -1,4 +1,4 @@
--- The steps of a round one after another, and the rounds. Assumes nothing.
+-- The steps of a round one after another, and the rounds.
 use Prim.Native.Nat.{ℕ, _+_, _<_}
 use native.Mathlib.Numerals.{add-one}
 use mathlib.Core.Path.{_≡_, ap, _∙_}

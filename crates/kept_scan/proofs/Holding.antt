@@ -1,4 +1,4 @@
--- Steps that are laid down with their text as it is, one after another. Assumes nothing.
+-- Steps that are laid down with their text as it is, one after another.
 use Prim.Native.Nat.{ℕ, _+_, _-_, _≤_, _<_}
 use native.Mathlib.Omega.{arith}
 use native.Mathlib.Nat.{add-zero}

@@ -1,4 +1,4 @@
--- Text that passes the quick check: put together, and left as it is. Assumes nothing.
+-- Text that passes the quick check: put together, and left as it is.
 use Prim.Native.Nat.{ℕ}
 use native.Mathlib.Omega.{arith}
 use mathlib.Core.Path.{_≡_, refl, sym, _∙_, ap}

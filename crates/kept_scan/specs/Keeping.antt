@@ -1,4 +1,4 @@
--- Laying tokens down whose text passes: what the functions answer. Assumes nothing.
+-- Laying tokens down whose text passes: what the functions answer.
 use Prim.Native.Nat.{ℕ, _≤_, _<_}
 use mathlib.Core.Path.{_≡_}
 use mathlib.Core.Bool.{Bool, true, false, not}

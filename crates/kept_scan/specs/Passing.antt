@@ -1,5 +1,5 @@
 -- Text that passes the quick check, codepoint by codepoint, and the steps of a label whose text passes. 02, Item 11: "text that needs no NFC is
--- left as it is". Assumes nothing.
+-- left as it is".
 use Prim.Native.Nat.{ℕ}
 use mathlib.Core.Bool.{Bool, true, not, _&&_}
 use mathlib.Core.List.{List, [], _∷_}

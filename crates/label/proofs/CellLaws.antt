@@ -1,4 +1,4 @@
--- Laws of the text of codepoints with tags beside them: what it is of the tokens, and of the walk over a work area. Assumes nothing.
+-- Laws of the text of codepoints with tags beside them: what it is of the tokens, and of the walk over a work area.
 use Prim.Native.Nat.{ℕ, _+_, _<_, _≤_}
 use native.Mathlib.Numerals.{add-one}
 use native.Mathlib.Omega.{arith}

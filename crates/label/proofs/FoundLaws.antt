@@ -1,4 +1,4 @@
--- The group that is found for a text, by its number. Assumes nothing.
+-- The group that is found for a text, by its number.
 use Prim.Native.Nat.{ℕ, suc, _+_}
 use native.Mathlib.Omega.{arith}
 use mathlib.Core.Path.{_≡_, refl}

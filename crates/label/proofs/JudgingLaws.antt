@@ -1,4 +1,4 @@
--- Laws of the judging: the text alone, its group, and the choice of the kind. Assumes nothing.
+-- Laws of the judging: the text alone, its group, and the choice of the kind.
 use Prim.Native.Nat.{ℕ, _+_, _-_, _≤_}
 use native.Mathlib.Omega.{arith}
 use mathlib.Core.Path.{_≡_, refl, sym, _∙_}

@@ -1,5 +1,4 @@
 -- The tokens of a label's steps are parted: without emoji there is at most one. Normalising keeps what the verdict asks of their kinds.
--- Assumes nothing.
 use Prim.Native.Nat.{ℕ, suc}
 use native.Mathlib.Omega.{arith}
 use mathlib.Core.Path.{_≡_, refl, sym, _∙_, ap}

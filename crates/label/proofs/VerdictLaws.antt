@@ -1,4 +1,4 @@
--- Laws of the verdict: which refusal comes first, and what the verdict on codepoints with tags says of the tokens. Assumes nothing.
+-- Laws of the verdict: which refusal comes first, and what the verdict on codepoints with tags says of the tokens.
 use Prim.Native.Nat.{ℕ, suc, _≤_}
 use native.Mathlib.Omega.{arith}
 use mathlib.Core.Path.{_≡_, refl, sym, _∙_, ap}

@@ -1,4 +1,4 @@
--- The text alone among codepoints with tags beside them (0 emoji, 1 first of a text token, 2 later in one). Assumes nothing.
+-- The text alone among codepoints with tags beside them (0 emoji, 1 first of a text token, 2 later in one).
 use Prim.Native.Nat.{ℕ, _≤_}
 use mathlib.Core.Path.{_≡_}
 use mathlib.Core.Bool.{cond}

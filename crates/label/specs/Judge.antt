@@ -1,5 +1,5 @@
 -- The rules on the tokens of a label, after 5, 6 and 7: refusals 8 to 14 and 16 "in order", and the kind. 01, "The rules of one label",
--- "Then, on these tokens". The place of these refusals is the number of the label. Assumes nothing.
+-- "Then, on these tokens". The place of these refusals is the number of the label.
 use Prim.Native.Nat.{ℕ}
 use mathlib.Core.Bool.{Bool, true, false, not, _&&_, cond}
 use mathlib.Core.List.{List, [], _∷_}

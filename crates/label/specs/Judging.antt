@@ -1,4 +1,4 @@
--- The judging of tokens in the steps that the code takes, over codepoints with tags beside them. Assumes nothing.
+-- The judging of tokens in the steps that the code takes, over codepoints with tags beside them.
 use Prim.Native.Nat.{ℕ}
 use mathlib.Core.Path.{_≡_}
 use mathlib.Core.Bool.{Bool, not, _&&_, _||_, cond}

@@ -1,4 +1,4 @@
--- The one label of the label call. Assumes nothing.
+-- The one label of the label call.
 use Prim.Native.Nat.{ℕ, _+_, _-_, _<_, _≤_}
 use native.Mathlib.Omega.{arith}
 use mathlib.Core.Path.{_≡_, refl, sym, ap, _∙_}

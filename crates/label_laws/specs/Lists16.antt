@@ -1,4 +1,4 @@
--- 02, Item 12: 16 "takes the place of 13": a group without a list is judged by 13 as before, one with a list by 16 alone. Assumes nothing.
+-- 02, Item 12: 16 "takes the place of 13": a group without a list is judged by 13 as before, one with a list by 16 alone.
 use Prim.Native.Nat.{ℕ}
 use mathlib.Core.Path.{_≡_}
 use mathlib.Core.Bool.{true, not, _&&_}

@@ -1,4 +1,4 @@
--- A group that holds all of a text is never one in which the text could be respelled. Assumes nothing.
+-- A group that holds all of a text is never one in which the text could be respelled.
 use mathlib.Core.Path.{_≡_, refl, sym, _∙_}
 use mathlib.Core.Bool.{Bool, true, false, true≢false}
 use mathlib.Core.List.{List, List·Memᴰ}

@@ -1,5 +1,5 @@
 -- "For a label that reaches this test, the source's early exit at a Unique character (in exactly one group, not confused) never changes the
--- answer": the loop of the source (ENSIP-15, "Wholes"), its exits included, answers as `confusable` does. Assumes nothing.
+-- answer": the loop of the source (ENSIP-15, "Wholes"), its exits included, answers as `confusable` does.
 use Prim.Native.Nat.{ℕ, suc}
 use native.Mathlib.Omega.{arith}
 use mathlib.Core.Path.{_≡_, refl, sym, ap, _∙_}

@@ -1,4 +1,4 @@
--- Laying steps down one after another, and that the tokens of the steps then stand in the work area. Assumes nothing.
+-- Laying steps down one after another, and that the tokens of the steps then stand in the work area.
 use Prim.Native.Nat.{ℕ, zero, suc, _+_, _≤_, _<_}
 use native.Mathlib.Nat.{zero-add, suc-add}
 use native.Mathlib.Omega.{arith}

@@ -1,4 +1,4 @@
--- The loop that puts codepoints and tags down: how far it is. Assumes nothing.
+-- The loop that puts codepoints and tags down: how far it is.
 use Prim.Native.Nat.{ℕ, zero, suc, _+_, _≤_, _<_}
 use native.Mathlib.Nat.{add-zero}
 use native.Mathlib.Omega.{arith}

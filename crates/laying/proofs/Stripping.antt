@@ -1,4 +1,4 @@
--- The loop that leaves FE0F out. Assumes nothing.
+-- The loop that leaves FE0F out.
 use Prim.Native.Nat.{ℕ, _+_, _≤_, _<_}
 use native.Mathlib.Omega.{arith}
 use native.Mathlib.Numerals.{add-one}

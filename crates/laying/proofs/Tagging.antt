@@ -1,4 +1,4 @@
--- Codepoints that are written straight into the first half of the work area, and the loop that tags them in the second. Assumes nothing.
+-- Codepoints that are written straight into the first half of the work area, and the loop that tags them in the second.
 use Prim.Native.Nat.{ℕ, zero, suc, _+_, _-_, _≤_, _<_}
 use native.Mathlib.Omega.{arith}
 use mathlib.Core.Path.{_≡_, refl, sym, _∙_, ap}

@@ -1,4 +1,4 @@
--- Laying text down, codepoint by codepoint. Assumes nothing.
+-- Laying text down, codepoint by codepoint.
 use Prim.Native.Nat.{ℕ, zero, suc, _+_, _-_, _≤_, _<_}
 use native.Mathlib.Omega.{arith}
 use mathlib.Core.Path.{_≡_, refl, _∙_, ap}

@@ -1,4 +1,4 @@
--- Laying tokens down step by step: what the steps of a label put into the work area. Assumes nothing.
+-- Laying tokens down step by step: what the steps of a label put into the work area.
 use Prim.Native.Nat.{ℕ, zero, suc, _+_, _-_, _≤_, _<_}
 use mathlib.Core.Path.{_≡_}
 use mathlib.Core.Bool.{Bool, true, false, not}

@@ -1,4 +1,4 @@
--- What is seen of each section comes to a table that is laid out, or to a fault. Assumes nothing.
+-- What is seen of each section comes to a table that is laid out, or to a fault.
 use Prim.Native.Nat.{ℕ, _≤_}
 use native.Mathlib.Omega.{arith}
 use mathlib.Core.Path.{_≡_, refl, sym, subst, _∙_}

@@ -1,4 +1,4 @@
--- What the layout pass sees of each section. Assumes nothing.
+-- What the layout pass sees of each section.
 use Prim.Native.Nat.{ℕ}
 use mathlib.Core.Path.{_≡_}
 use mathlib.Core.List.{List}

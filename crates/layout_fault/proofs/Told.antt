@@ -1,4 +1,4 @@
--- What the layout pass answers tells whether the words have a layout fault. Assumes nothing.
+-- What the layout pass answers tells whether the words have a layout fault.
 use Prim.Native.Nat.{ℕ}
 use mathlib.Core.Path.{_≡_}
 use mathlib.Core.List.{List}

@@ -1,4 +1,4 @@
--- Whether words have a layout fault, as a number. Assumes nothing.
+-- Whether words have a layout fault, as a number.
 use Prim.Native.Nat.{ℕ}
 use mathlib.Core.Bool.{cond}
 use mathlib.Core.List.{List}

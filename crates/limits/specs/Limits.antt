@@ -1,6 +1,6 @@
 -- The limits of the calls (01, "Refusal numbers", moved by 02, Item 5). Every other bound is derived from these by name. They are abbreviations: proofs compute
 -- with the numbers, by omega, and one that fails for another number shows itself. At the end stands what any numbers have to keep, by name for the proofs
--- that cite it. Assumes nothing.
+-- that cite it.
 use Prim.Native.Nat.{ℕ, _*_, _≤_}
 use native.Mathlib.Omega.{arith}
 

@@ -1,4 +1,4 @@
--- Digits of a number that is read. Assumes nothing.
+-- Digits of a number that is read.
 use Prim.Native.Nat.{ℕ, _+_, _-_, _*_, _^_, _≤_, _<_}
 use native.Mathlib.Omega.{arith}
 use mathlib.Core.Path.{_≡_, refl, sym, _∙_}

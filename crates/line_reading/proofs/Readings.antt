@@ -1,4 +1,4 @@
--- A line that is read word by word. Assumes nothing.
+-- A line that is read word by word.
 use Prim.Native.Nat.{ℕ, _+_, _-_, _*_, _≤_, _<_}
 use native.Mathlib.Omega.{arith}
 use native.Mathlib.Numerals.{add-one}

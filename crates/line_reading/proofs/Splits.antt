@@ -1,4 +1,4 @@
--- Where a byte stands first, and what that says of splitting there. Assumes nothing.
+-- Where a byte stands first, and what that says of splitting there.
 use Prim.Native.Nat.{ℕ, suc, _+_, _≤_, _<_}
 use native.Mathlib.Omega.{arith}
 use native.Mathlib.Numerals.{add-one}

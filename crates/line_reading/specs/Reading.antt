@@ -1,5 +1,5 @@
 -- What a line of the counter program is read as. 01, "Names at the counter": "one name a line as upper-case hex parted by single
--- spaces", "a line over 8,192 bytes or otherwise unreadable", "a number has 1 to 8 digits on input". Assumes nothing.
+-- spaces", "a line over 8,192 bytes or otherwise unreadable", "a number has 1 to 8 digits on input".
 use Prim.Native.Nat.{ℕ, zero, suc, _+_, _-_, _*_, _/_}
 use mathlib.Core.Bool.{Bool, _&&_, _||_, cond}
 use mathlib.Core.List.{List, [], _∷_, map}

@@ -1,4 +1,4 @@
--- The line for what the name call answered. Assumes nothing.
+-- The line for what the name call answered.
 use Prim.Native.Nat.{ℕ, _≤_}
 use mathlib.Core.Path.{_≡_, refl, ap}
 use mathlib.Core.Bool.{false}

@@ -1,4 +1,4 @@
--- A line that is written piece by piece: the room for each piece, and the end of the line. Assumes nothing.
+-- A line that is written piece by piece: the room for each piece, and the end of the line.
 use Prim.Native.Nat.{ℕ, suc, _+_, _-_, _*_, _^_, _≤_, _<_}
 use native.Mathlib.Omega.{arith}
 use mathlib.Core.Path.{_≡_}

@@ -1,4 +1,4 @@
--- A blank and the digits of a number. Assumes nothing.
+-- A blank and the digits of a number.
 use Prim.Native.Nat.{ℕ, _+_, _-_}
 use native.Mathlib.Omega.{arith}
 use mathlib.Core.List.{List, [], _∷_}

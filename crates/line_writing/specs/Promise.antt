@@ -1,4 +1,4 @@
--- What the functions of this crate ask, in the terms of Writing.antt. Assumes nothing.
+-- What the functions of this crate ask, in the terms of Writing.antt.
 use Prim.Native.Nat.{ℕ, _+_, _*_, _≤_}
 use mathlib.Core.List.{List}
 use lib.ListN.{length}

@@ -1,5 +1,5 @@
 -- The lines that the counter program writes. 01, "Names at the counter": the sample; "no leading zero on output"; "refusal, place and
--- the count of names after `end` are decimal". Assumes nothing.
+-- the count of names after `end` are decimal".
 use Prim.Native.Nat.{ℕ, _+_}
 use mathlib.Core.Bool.{cond}
 use mathlib.Core.List.{List, [], _∷_, _++_}

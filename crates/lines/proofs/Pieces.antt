@@ -1,4 +1,4 @@
--- The lines of input that comes in pieces. Assumes nothing.
+-- The lines of input that comes in pieces.
 use Prim.Native.Nat.{ℕ, suc, _+_, _-_, _≤_, _<_}
 use native.Mathlib.Omega.{arith}
 use native.Mathlib.Nat.{zero-add}

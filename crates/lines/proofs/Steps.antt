@@ -1,5 +1,5 @@
 -- The steps of the counter program: what is still to be written before each of them, and after it, whatever input is to come. So it
--- writes the output of the whole input, however that is cut into pieces. Assumes nothing.
+-- writes the output of the whole input, however that is cut into pieces.
 use Prim.Native.Nat.{ℕ, suc, _≤_, _<_}
 use native.Mathlib.Omega.{arith}
 use mathlib.Core.Path.{_≡_, sym, _∙_}

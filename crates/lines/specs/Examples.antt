@@ -1,4 +1,4 @@
--- The definitions on lines and inputs of each kind. Assumes nothing.
+-- The definitions on lines and inputs of each kind.
 use Prim.Native.Nat.{ℕ}
 use Prim.Native.String.{String}
 use mathlib.Core.Path.{_≡_, refl}

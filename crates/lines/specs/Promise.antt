@@ -1,4 +1,4 @@
--- What `take_line` promises, in the terms of Splitting.antt. Assumes nothing.
+-- What `take_line` promises, in the terms of Splitting.antt.
 use Prim.Native.Nat.{ℕ, _≤_, _<_}
 use mathlib.Core.Path.{_≡_}
 use mathlib.Core.List.{List, [], _∷_, _++_}

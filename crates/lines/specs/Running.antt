@@ -1,6 +1,6 @@
 -- The steps of the counter program over input that comes in pieces, as its loop takes them: from what is held of a line, what is left of
 -- a piece and the pieces to come to all that is still written. proofs/Steps.antt shows that this is the output of the whole input,
--- however it is cut. Assumes nothing.
+-- however it is cut.
 use Prim.Native.Nat.{ℕ, suc, _≤_}
 use mathlib.Core.Path.{_≡_}
 use mathlib.Core.List.{List, [], _∷_, _++_}

@@ -1,5 +1,5 @@
 -- How input is split into lines, whatever the pieces that it comes in. 01, "Names at the counter": "A line ends at byte 0A, which isn't
--- counted in its length, and the last one also at the end of input; nothing stands after a final 0A." Assumes nothing.
+-- counted in its length, and the last one also at the end of input; nothing stands after a final 0A."
 use Prim.Native.Nat.{ℕ, suc}
 use mathlib.Core.Bool.{cond}
 use mathlib.Core.List.{List, [], _∷_, _++_}

@@ -1,4 +1,4 @@
--- A list that is filled entry by entry: what is known when some stand in it. Assumes nothing.
+-- A list that is filled entry by entry: what is known when some stand in it.
 use Prim.Native.Nat.{ℕ, _≤_}
 use native.Mathlib.Omega.{arith}
 use mathlib.Core.Path.{_≡_, refl, sym, ap, _∙_}

@@ -1,4 +1,4 @@
--- The end of a call that fills a list, from what stands in it and what `finish` left. Assumes nothing.
+-- The end of a call that fills a list, from what stands in it and what `finish` left.
 use Prim.Native.Nat.{ℕ, _≤_, _<_}
 use native.Mathlib.Omega.{arith}
 use mathlib.Core.Path.{_≡_, refl, sym, ap, _∙_}

@@ -1,4 +1,4 @@
--- The calls of 02, Item 14, that fill a lent list: 33, and every word of the list and of the work area. Assumes nothing.
+-- The calls of 02, Item 14, that fill a lent list: 33, and every word of the list and of the work area.
 use Prim.Native.Nat.{ℕ, zero, suc, _+_, _*_}
 use native.Mathlib.Omega.{arith}
 use mathlib.Core.Path.{_≡_, refl}

@@ -1,4 +1,4 @@
--- The fields of an answer that a refusal of the name call or the label call is. Assumes nothing.
+-- The fields of an answer that a refusal of the name call or the label call is.
 use Prim.Native.Nat.{ℕ}
 use mathlib.Core.Path.{_≡_}
 use Rattle.answers.specs.Values.{numberOf, placeOf}

@@ -1,5 +1,5 @@
 -- 02, Item 14: "Refusal 14 is given exactly when that list isn't empty, and the label's own group never stands in it." On every table, at either
--- setting. Assumes nothing.
+-- setting.
 use Prim.Native.Nat.{ℕ, suc, _≤_, _<_}
 use native.Mathlib.Omega.{arith}
 use mathlib.Core.Path.{_≡_, refl, sym, ap, _∙_}

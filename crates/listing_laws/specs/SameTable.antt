@@ -1,5 +1,5 @@
 -- 02, Item 14, with demand 3: for a sound table and a book reached from a zeroed area by Item 7's calls with it, any settings and rooms, nothing is
--- listed for the same table. Assumes nothing.
+-- listed for the same table.
 use Prim.Native.Nat.{ℕ, suc, _≤_}
 use native.Mathlib.Omega.{arith}
 use mathlib.Core.Path.{_≡_, refl, sym, ap, _∙_}

@@ -1,5 +1,5 @@
 -- 02, Item 14: "list the slots whose name the new table refuses or files otherwise ..: each such slot once, ascending, no other slot". By the name
--- call with the new table, the setting off and enough room, on every table. Assumes nothing.
+-- call with the new table, the setting off and enough room, on every table.
 use Prim.Native.Nat.{ℕ, zero, suc, _+_, _≤_, _<_}
 use native.Mathlib.Omega.{arith}
 use mathlib.Core.Path.{_≡_, refl, sym, ap, _∙_}

@@ -1,4 +1,4 @@
--- Laws of the elements of a list: those that a test finds, where they stand, and what holds of each. Assumes nothing.
+-- Laws of the elements of a list: those that a test finds, where they stand, and what holds of each.
 use Prim.Native.Nat.{ℕ, zero, suc, _<_}
 use native.Mathlib.Omega.{arith}
 use mathlib.Core.Path.{_≡_, refl, sym, ap}

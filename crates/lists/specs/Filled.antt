@@ -1,4 +1,4 @@
--- "zeros after the answer": every word of a buffer of `room` words that holds an answer and nothing else. Assumes nothing.
+-- "zeros after the answer": every word of a buffer of `room` words that holds an answer and nothing else.
 use Prim.Native.Nat.{ℕ, _+_, _-_, _≤_}
 use native.Mathlib.Omega.{arith}
 use mathlib.Core.Path.{_≡_, refl}

@@ -1,4 +1,4 @@
--- Laws of the tests and functions of Lists.antt. Assumes nothing.
+-- Laws of the tests and functions of Lists.antt.
 use Prim.Native.Nat.{ℕ, suc, _+_, _*_, _≤_}
 use native.Mathlib.Nat.{mul-suc}
 use native.Mathlib.Omega.{arith}

@@ -1,6 +1,5 @@
 -- Tests and functions on lists that the definitions of the layers above share. They are like mathlib's, but over the native numbers and
 -- Booleans, with the test first. A recursive call that may not be wanted is bound by `let`, so that it is computed only where it is read.
--- Assumes nothing.
 use Prim.Native.Nat.{ℕ, zero, suc, _+_}
 use mathlib.Core.Bool.{Bool, true, false, not, _&&_, _||_, cond}
 use mathlib.Core.List.{List, [], _∷_, _++_}

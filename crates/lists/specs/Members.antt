@@ -1,4 +1,4 @@
--- The elements that `any`, `all` and `keep` speak of. Assumes nothing.
+-- The elements that `any`, `all` and `keep` speak of.
 use Prim.Native.Nat.{suc, _≤_}
 use native.Mathlib.Omega.{arith}
 use mathlib.Core.Path.{_≡_, refl, sym, ap, _∙_}

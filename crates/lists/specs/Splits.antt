@@ -1,4 +1,4 @@
--- Laws of splitting at a stop and joining with it. Assumes nothing.
+-- Laws of splitting at a stop and joining with it.
 use Prim.Native.Nat.{ℕ, _+_, _≤_}
 use native.Mathlib.Omega.{arith}
 use mathlib.Core.Path.{_≡_, refl, sym, ap, _∙_}

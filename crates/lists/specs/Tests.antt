@@ -1,4 +1,4 @@
--- Laws of tests, and of `mem`, `any` and `all` over lists that were joined, mapped or kept. Assumes nothing.
+-- Laws of tests, and of `mem`, `any` and `all` over lists that were joined, mapped or kept.
 use Prim.Native.Nat.{ℕ}
 use mathlib.Core.Path.{_≡_, refl, sym, _∙_, ap}
 use mathlib.Core.Bool.{Bool, true, false, not, _&&_, _||_, cond, false≢true}

@@ -1,4 +1,4 @@
--- A quoted text as the bytes that it stands for, each character below 80 hex being one byte. Assumes nothing.
+-- A quoted text as the bytes that it stands for, each character below 80 hex being one byte.
 use Prim.Native.Nat.{ℕ}
 use Prim.Native.Char.{code}
 use Prim.Native.String.{String, [] as none, _∷_ as _then_}

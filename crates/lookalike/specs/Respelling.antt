@@ -1,4 +1,4 @@
--- What the look-alike test answers of a character and of a text, over flags of groups. Assumes nothing.
+-- What the look-alike test answers of a character and of a text, over flags of groups.
 use Prim.Native.Nat.{ℕ}
 use mathlib.Core.Path.{_≡_}
 use mathlib.Core.Bool.{Bool, not}

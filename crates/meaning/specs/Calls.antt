@@ -1,4 +1,4 @@
--- Demand 3, first half, over two calls: the second is lent the first `length` words of the answer that the first left. Assumes nothing.
+-- Demand 3, first half, over two calls: the second is lent the first `length` words of the answer that the first left.
 use Prim.Native.Nat.{ℕ, _≤_}
 use native.Mathlib.Omega.{arith}
 use mathlib.Core.Path.{_≡_, refl, sym, ap, _∙_}

@@ -1,4 +1,4 @@
--- A closed instance of demand 3: two names by the small table, each normalised again, and the two joined. Assumes nothing.
+-- A closed instance of demand 3: two names by the small table, each normalised again, and the two joined.
 use Prim.Native.Nat.{ℕ}
 use native.Mathlib.Omega.{arith}
 use mathlib.Core.Path.{_≡_, refl}

@@ -1,4 +1,4 @@
--- 16 on the small table, in which no group has a list: no name is refused so. Assumes nothing.
+-- 16 on the small table, in which no group has a list: no name is refused so.
 use Prim.Native.Nat.{ℕ}
 use mathlib.Core.Path.{_≡_, refl}
 use mathlib.Core.Bool.{false}

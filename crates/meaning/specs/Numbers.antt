@@ -1,4 +1,4 @@
--- Which numbers each test can give; so the number 0 means "accepted". Assumes nothing.
+-- Which numbers each test can give; so the number 0 means "accepted".
 use Prim.Native.Nat.{ℕ, suc, _+_, _≤_}
 use native.Mathlib.Omega.{arith}
 use mathlib.Core.Path.{_≡_, refl, sym, _∙_}

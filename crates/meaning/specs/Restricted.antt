@@ -1,4 +1,4 @@
--- 02, Item 13: what the setting does, and what it leaves. Assumes nothing.
+-- 02, Item 13: what the setting does, and what it leaves.
 use Prim.Native.Nat.{ℕ, suc, _+_}
 use native.Mathlib.Omega.{arith}
 use mathlib.Core.Path.{_≡_, refl, sym, ap, _∙_}

@@ -1,5 +1,5 @@
 -- "Its answer buffer has as many words as the worked length may reach, so 15 never occurs there": with an answer buffer of at least
--- mostWorked words no name call and no label call answers 15, on any table. Assumes nothing.
+-- mostWorked words no name call and no label call answers 15, on any table.
 use Prim.Native.Nat.{ℕ, _≤_}
 use native.Mathlib.Omega.{arith}
 use mathlib.Core.Path.{_≡_, refl}

@@ -1,4 +1,4 @@
--- Laws of what the look-alike test remembers: how its slots are read and written. Assumes nothing.
+-- Laws of what the look-alike test remembers: how its slots are read and written.
 use Prim.Native.Nat.{ℕ, zero, suc, _+_, _-_, _*_, _<_, _≤_}
 use native.Mathlib.Omega.{arith}
 use mathlib.Core.Path.{_≡_, refl, sym, _∙_, ap}

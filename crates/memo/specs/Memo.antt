@@ -1,4 +1,4 @@
--- What the look-alike test remembers: the components of the wholes that it met last, each in a slot of its own. Assumes nothing.
+-- What the look-alike test remembers: the components of the wholes that it met last, each in a slot of its own.
 use Prim.Native.Nat.{ℕ, _+_, _*_, _≤_, _<_}
 use mathlib.Core.Path.{_≡_}
 use mathlib.Core.Bool.{Bool, _&&_, _||_}

@@ -1,4 +1,4 @@
--- The slots of a book one after another, and the ends of the call. Assumes nothing.
+-- The slots of a book one after another, and the ends of the call.
 use Prim.Native.Nat.{ℕ, zero, suc, _+_, _-_, _*_, _/_, _≤_, _<_}
 use native.Mathlib.Numerals.{add-one}
 use native.Mathlib.Omega.{arith}

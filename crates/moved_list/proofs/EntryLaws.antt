@@ -1,4 +1,4 @@
--- The words of an entry, and of all. Assumes nothing.
+-- The words of an entry, and of all.
 use Prim.Native.Nat.{ℕ, _*_, _≤_}
 use native.Mathlib.Omega.{arith}
 use mathlib.Core.Path.{_≡_, refl, sym}

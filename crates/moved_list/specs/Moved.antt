@@ -1,5 +1,5 @@
 -- 02, Item 14: "Given a book and a new table, list the slots whose name the new table refuses or files otherwise, two words each, the slot (from
--- 0) and the refusal ..: each such slot once, ascending, no other slot, the book unchanged." Assumes nothing.
+-- 0) and the refusal ..: each such slot once, ascending, no other slot, the book unchanged."
 use Prim.Native.Nat.{ℕ, suc}
 use mathlib.Core.Path.{refl}
 use mathlib.Core.Bool.{cond}

@@ -1,4 +1,4 @@
--- What the functions of this crate and the inner ones of `moved` answer. Assumes nothing.
+-- What the functions of this crate and the inner ones of `moved` answer.
 use Prim.Native.Nat.{ℕ, _≤_}
 use mathlib.Core.Path.{_≡_}
 use mathlib.Core.Bool.{true}

@@ -1,4 +1,4 @@
--- Refusals 1 to 4: the search for a codepoint that is no scalar value, and the ends of the tests. Assumes nothing.
+-- Refusals 1 to 4: the search for a codepoint that is no scalar value, and the ends of the tests.
 use Prim.Native.Nat.{ℕ, _+_, _<_, _≤_}
 use native.Mathlib.Numerals.{add-one}
 use native.Mathlib.Omega.{arith}

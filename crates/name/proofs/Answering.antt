@@ -1,4 +1,4 @@
--- What is told of a name and of a label before 15, and the ends of both calls. Assumes nothing.
+-- What is told of a name and of a label before 15, and the ends of both calls.
 use Prim.Native.Nat.{ℕ, _≤_}
 use mathlib.Core.Path.{_≡_, refl}
 use mathlib.Core.Bool.{Bool, true, false}

@@ -1,4 +1,4 @@
--- The labels of a name by the places where they end, and the writing of a label behind the words before it. Assumes nothing.
+-- The labels of a name by the places where they end, and the writing of a label behind the words before it.
 use Prim.Native.Nat.{ℕ, suc, _+_, _-_, _<_, _≤_}
 use native.Mathlib.Numerals.{add-one}
 use native.Mathlib.Omega.{arith}

@@ -1,4 +1,4 @@
--- What the code answers for refusals 1 to 4. Assumes nothing.
+-- What the code answers for refusals 1 to 4.
 use Prim.Native.Nat.{ℕ, _≤_}
 use mathlib.Core.Path.{_≡_}
 use mathlib.Core.List.{List}

@@ -1,4 +1,4 @@
--- What the calls answer, and each word of both buffers; and what is known before the end of a call. Assumes nothing.
+-- What the calls answer, and each word of both buffers; and what is known before the end of a call.
 use Prim.Native.Nat.{ℕ}
 use mathlib.Core.Path.{_≡_}
 use mathlib.Core.List.{List}

@@ -1,4 +1,4 @@
--- One label, refusals 5 to 14, 16 and 17, and the label call. 01, "Refusal numbers" and "The rules of one label". Assumes nothing.
+-- One label, refusals 5 to 14, 16 and 17, and the label call. 01, "Refusal numbers" and "The rules of one label".
 use Prim.Native.Nat.{ℕ, _+_}
 use mathlib.Core.Path.{refl}
 use mathlib.Core.Bool.{not, cond}

@@ -1,4 +1,4 @@
--- The name call. 01, "Refusal numbers", "The rules of one label" and "Proof held to the counter's standard". Assumes nothing.
+-- The name call. 01, "Refusal numbers", "The rules of one label" and "Proof held to the counter's standard".
 use Prim.Native.Nat.{ℕ, suc, _+_, _≤_}
 use mathlib.Core.Path.{refl}
 use mathlib.Core.List.{List, [], _∷_, map}

@@ -1,4 +1,4 @@
--- The labels of a name among its words, and in the answer buffer. Assumes nothing.
+-- The labels of a name among its words, and in the answer buffer.
 use Prim.Native.Nat.{ℕ, _+_, _-_, _*_, _≤_, _<_}
 use mathlib.Core.Path.{_≡_}
 use mathlib.Core.Bool.{Bool, true, not, cond}

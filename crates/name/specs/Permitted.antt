@@ -1,4 +1,4 @@
--- Laws of refusal 17: what a label gives behind 5 to 14 and 16, by the setting and its kind. Assumes nothing.
+-- Laws of refusal 17: what a label gives behind 5 to 14 and 16, by the setting and its kind.
 use Prim.Native.Nat.{ℕ}
 use native.Mathlib.Omega.{arith}
 use mathlib.Core.Path.{_≡_, refl, _∙_}

@@ -1,4 +1,4 @@
--- The three ways on from what the reader answers. Assumes nothing.
+-- The three ways on from what the reader answers.
 use Prim.Native.Nat.{ℕ, _+_, _<_, _≤_}
 use native.Mathlib.Omega.{arith}
 use mathlib.Core.Path.{_≡_, refl, sym, subst, _∙_}

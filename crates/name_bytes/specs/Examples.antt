@@ -1,4 +1,4 @@
--- The byte form on small inputs. In the table 61 and E9 are valid, and nothing else is there. Assumes nothing.
+-- The byte form on small inputs. In the table 61 and E9 are valid, and nothing else is there.
 use Prim.Native.Nat.{ℕ}
 use mathlib.Core.Path.{_≡_, refl}
 use mathlib.Core.List.{List, [], _∷_}

@@ -1,5 +1,4 @@
 -- The byte form of the name call. 02, Item 2: "A byte form of the name call gives 30 first, else the name call's answer on what was read."
--- Assumes nothing.
 use Prim.Native.Nat.{ℕ}
 use mathlib.Core.List.{List}
 use lib.ListN.{length, replicate}

@@ -1,4 +1,4 @@
--- What `wipe` promises. Assumes nothing.
+-- What `wipe` promises.
 use Prim.Native.Nat.{ℕ}
 use mathlib.Core.Path.{_≡_}
 use mathlib.Core.List.{List}

@@ -1,4 +1,4 @@
--- The labels of a name one after another: what is known when some have passed, and how it ends. Assumes nothing.
+-- The labels of a name one after another: what is known when some have passed, and how it ends.
 use Prim.Native.Nat.{ℕ, suc, _+_, _-_, _*_, _<_, _≤_}
 use native.Mathlib.Omega.{arith}
 use mathlib.Core.Path.{_≡_, refl, sym, ap, _∙_}

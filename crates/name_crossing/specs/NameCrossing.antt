@@ -1,4 +1,4 @@
--- What the name call and the label call promise with every answer as plain numbers: the definitions of the calls. Assumes nothing.
+-- What the name call and the label call promise with every answer as plain numbers: the definitions of the calls.
 use Prim.Native.Nat.{ℕ}
 use mathlib.Core.Path.{_≡_}
 use mathlib.Core.List.{List}

@@ -1,4 +1,4 @@
--- The loop that takes the octets of a label. Assumes nothing.
+-- The loop that takes the octets of a label.
 use Prim.Native.Nat.{ℕ, _+_, _<_}
 use native.Mathlib.Numerals.{add-one}
 use mathlib.Core.Path.{_≡_, sym, ap, _∙_}

@@ -1,4 +1,4 @@
--- The walk over the labels of a text from the right. Assumes nothing.
+-- The walk over the labels of a text from the right.
 use Prim.Native.Nat.{ℕ, zero, suc, _-_, _≤_, _<_}
 use native.Mathlib.Omega.{arith}
 use mathlib.Core.Path.{_≡_, refl, sym, ap, ap₂, _∙_}

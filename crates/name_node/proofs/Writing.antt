@@ -1,4 +1,4 @@
--- What the writer answers on one codepoint that is a scalar value: its octets, in an array of four bytes. Assumes nothing.
+-- What the writer answers on one codepoint that is a scalar value: its octets, in an array of four bytes.
 use Prim.Native.Nat.{ℕ, _≤_}
 use native.Mathlib.Omega.{arith}
 use mathlib.Core.Path.{_≡_, refl, sym, ap, _∙_, subst}

@@ -1,5 +1,5 @@
 -- The hash of labels (EIP-137). 02, Item 10: "32 zero bytes for no labels, otherwise Keccak-256 over the hash of the remaining labels followed by
--- Keccak-256 of the leftmost label's UTF-8 bytes." Assumes nothing.
+-- Keccak-256 of the leftmost label's UTF-8 bytes."
 use Prim.Native.Nat.{ℕ}
 use mathlib.Core.List.{List, [], _∷_, _++_}
 use lib.ListN.{replicate}

@@ -1,4 +1,4 @@
--- The UTF-8 of scalar values: it is written, and it is bytes. Assumes nothing.
+-- The UTF-8 of scalar values: it is written, and it is bytes.
 use Prim.Native.Nat.{ℕ, _+_, _/_, _<_, _≤_}
 use native.Mathlib.Omega.{arith}
 use mathlib.Core.Path.{_≡_, refl}

@@ -1,4 +1,4 @@
--- The ways on from what the name call answers. Assumes nothing.
+-- The ways on from what the name call answers.
 use Prim.Native.Nat.{ℕ, _≤_}
 use native.Mathlib.Omega.{arith}
 use mathlib.Core.Path.{_≡_, refl, sym, ap, _∙_, subst, subst⁻¹}

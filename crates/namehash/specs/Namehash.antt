@@ -1,4 +1,4 @@
--- The name hash of EIP-137 as a call. 02, Item 10: "Add the name hash of EIP-137". Assumes nothing.
+-- The name hash of EIP-137 as a call. 02, Item 10: "Add the name hash of EIP-137".
 use Prim.Native.Nat.{ℕ}
 use mathlib.Core.List.{List}
 use lib.ListN.{replicate}

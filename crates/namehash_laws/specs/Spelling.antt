@@ -1,4 +1,4 @@
--- 02, Item 10: "For a sound table and enough room, a normal form has the hash of the first spelling." Assumes nothing.
+-- 02, Item 10: "For a sound table and enough room, a normal form has the hash of the first spelling."
 use Prim.Native.Nat.{ℕ}
 use mathlib.Core.Path.{_≡_, refl, sym, ap, _∙_}
 use mathlib.Core.Bool.{not}

@@ -1,4 +1,4 @@
--- Nodes that EIP-137 gives, computed by the definition: of the empty name and of "eth"; what an answer is split into. Assumes nothing.
+-- Nodes that EIP-137 gives, computed by the definition: of the empty name and of "eth"; what an answer is split into.
 use mathlib.Core.Path.{_≡_, refl}
 use mathlib.Core.List.{[], _∷_, map}
 use lib.ListN.{replicate}

@@ -1,4 +1,4 @@
--- The loop that puts the tokens of the work area into normal form: what stands before is done, and what is left stands where it stood. Assumes nothing.
+-- The loop that puts the tokens of the work area into normal form: what stands before is done, and what is left stands where it stood.
 use Prim.Native.Nat.{ℕ, zero, suc, _+_, _-_, _≤_, _<_}
 use native.Mathlib.Omega.{arith}
 use native.Mathlib.Numerals.{add-one}

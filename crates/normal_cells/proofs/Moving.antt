@@ -1,4 +1,4 @@
--- Codepoints of the work area that move down: the loop, and what it makes of an emoji and of a text in normal form. Assumes nothing.
+-- Codepoints of the work area that move down: the loop, and what it makes of an emoji and of a text in normal form.
 use Prim.Native.Nat.{ℕ, _+_, _-_, _≤_, _<_}
 use native.Mathlib.Omega.{arith}
 use mathlib.Core.Path.{_≡_, refl, sym, _∙_, ap}

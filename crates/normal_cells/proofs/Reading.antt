@@ -1,4 +1,4 @@
--- A text token of the work area: where it ends. Assumes nothing.
+-- A text token of the work area: where it ends.
 use Prim.Native.Nat.{ℕ, suc, _+_, _≤_, _<_}
 use native.Mathlib.Omega.{arith}
 use native.Mathlib.Numerals.{add-one}

@@ -1,4 +1,4 @@
--- What the functions that put the tokens in the work area into normal form answer. Assumes nothing.
+-- What the functions that put the tokens in the work area into normal form answer.
 use Prim.Native.Nat.{ℕ, zero, suc, _+_, _-_, _≤_}
 use mathlib.Core.Path.{_≡_}
 use mathlib.Core.Bool.{cond}

@@ -1,4 +1,4 @@
--- What the fields of an answer on a normal form say. Assumes nothing.
+-- What the fields of an answer on a normal form say.
 use Rattle.normal_forms.specs.Forms.{FormValues}
 use Rattle.normal_crossing.specs.declared.WanlophengForm.{WanlophengForm}
 

@@ -1,4 +1,4 @@
--- The ends of the calls, each from what the steps before it leave. Assumes nothing.
+-- The ends of the calls, each from what the steps before it leave.
 use Prim.Native.Nat.{ℕ, _+_, _≤_, _<_}
 use native.Mathlib.Omega.{arith}
 use mathlib.Core.Path.{_≡_, refl, sym, ap, _∙_, subst}

@@ -1,4 +1,4 @@
--- What the loop over a text keeps: the rounds of the codepoints that are read are written. Assumes nothing.
+-- What the loop over a text keeps: the rounds of the codepoints that are read are written.
 use Prim.Native.Nat.{ℕ, _+_, _≤_, _<_}
 use native.Mathlib.Omega.{arith}
 use mathlib.Core.Path.{_≡_, sym, ap, _∙_}

@@ -1,4 +1,4 @@
--- The two calls on small inputs. In the table E0 is 61 300 and 1EA1 is 61 323, the classes of 300 and 323 are 230 and 220. Assumes nothing.
+-- The two calls on small inputs. In the table E0 is 61 300 and 1EA1 is 61 323, the classes of 300 and 323 are 230 and 220.
 use Prim.Native.Nat.{ℕ}
 use mathlib.Core.Path.{_≡_, refl}
 use mathlib.Core.List.{List, [], _∷_}

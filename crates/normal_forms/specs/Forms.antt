@@ -1,7 +1,7 @@
 -- The calls for NFD and NFC of a text, by a table, for which 01 does not ask. Refusal 1 is 01's layout fault. The others have numbers of
 -- their own, which neither 01 nor 02 gives: 50 for a text whose full decomposition is longer than the worked length may be, 51 for a work
 -- area and 52 for an answer buffer in which the full decomposition has no room, tried in this order. 52 is held to the length of the full
--- decomposition for NFC too, since that is made in the answer buffer. Assumes nothing.
+-- decomposition for NFC too, since that is made in the answer buffer.
 use Prim.Native.Nat.{ℕ}
 use mathlib.Core.Path.{refl}
 use mathlib.Core.Bool.{cond}

@@ -1,4 +1,4 @@
--- Refusal 13: "decompose the text; in every run of NSM all are different and there are at most 4, else 13". Assumes nothing.
+-- Refusal 13: "decompose the text; in every run of NSM all are different and there are at most 4, else 13".
 use Prim.Native.Nat.{ℕ}
 use mathlib.Core.Bool.{Bool, _&&_, cond}
 use mathlib.Core.List.{List, [], _∷_}

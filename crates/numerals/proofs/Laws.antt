@@ -1,4 +1,4 @@
--- The digits of a number: how many there are, and one more of them. Assumes nothing.
+-- The digits of a number: how many there are, and one more of them.
 use Prim.Native.Nat.{ℕ, zero, suc, _+_, _/_, _%_, _^_, _≤_, _<_}
 use native.Mathlib.Omega.{arith}
 use native.Mathlib.Nat.{div-lt-self, div-lt-iff-lt-mul, pow-suc, pow-zero, one-mul, mod-lt}

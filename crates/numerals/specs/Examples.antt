@@ -1,4 +1,4 @@
--- The definition on numbers of each kind, as the bytes of their digits. Assumes nothing.
+-- The definition on numbers of each kind, as the bytes of their digits.
 use mathlib.Core.Path.{_≡_, refl}
 use mathlib.Core.List.{[], _∷_, map}
 use Rattle.lists.specs.Text.{bytes}

@@ -1,5 +1,5 @@
 -- How a number is written. 01, "Names at the counter": "no leading zero on output"; "upper-case hex"; "Refusal, place and the count of
--- names after `end` are decimal." Assumes nothing.
+-- names after `end` are decimal."
 use Prim.Native.Nat.{ℕ, zero, suc, _+_, _/_, _%_, _≤_}
 use mathlib.Core.Bool.{cond}
 use mathlib.Core.List.{List, [], _∷_, _++_}

@@ -1,6 +1,6 @@
 -- Files of versions 1 and 2: the table that the sections of 01, or those of Item 9, give, with the sections that they lack empty, is the table that
 -- the file unpacks to. A group's record is read as Item 12 has it, by every reading here: "layout still looks at the words alone". 02, Items 9, 11 and
--- 12. Assumes nothing.
+-- 12.
 use Prim.Native.Nat.{ℕ, zero, suc, _≤_}
 use native.Mathlib.Omega.{arith}
 use mathlib.Core.Path.{_≡_, refl, sym, ap, _∙_}

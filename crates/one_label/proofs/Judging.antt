@@ -1,4 +1,4 @@
--- One label: where its refusal 5 stands, and what is judged of its tokens. Assumes nothing.
+-- One label: where its refusal 5 stands, and what is judged of its tokens.
 use Prim.Native.Nat.{ℕ, zero, suc, pred, _+_, _-_, _<_, _≤_}
 use native.Mathlib.Omega.{arith}
 use mathlib.Core.Path.{_≡_, refl, sym, ap, _∙_}

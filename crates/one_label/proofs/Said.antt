@@ -1,4 +1,4 @@
--- What a judgement says of its label. Assumes nothing.
+-- What a judgement says of its label.
 use Prim.Native.Nat.{ℕ, _+_, _-_, _≤_}
 use native.Mathlib.Omega.{arith}
 use mathlib.Core.Path.{_≡_, sym, ap, _∙_}

@@ -1,4 +1,4 @@
--- What the code answers for one label, refusals 5 to 14 and 16. Assumes nothing.
+-- What the code answers for one label, refusals 5 to 14 and 16.
 use Prim.Native.Nat.{ℕ, _+_, _≤_, _<_}
 use mathlib.Core.Path.{_≡_}
 use mathlib.Core.Bool.{false, not}

@@ -1,4 +1,4 @@
--- Laws of finding a composition pair among the records of a section. Assumes nothing.
+-- Laws of finding a composition pair among the records of a section.
 use Prim.Native.Nat.{ℕ, _+_, _*_, _/_, _≤_, _<_}
 use native.Mathlib.Omega.{arith}
 use mathlib.Core.Path.{_≡_, refl, sym, ap, subst, _∙_}

@@ -1,4 +1,4 @@
--- Composition pairs of two codepoints among the records, and what the code that finds them answers. Assumes nothing.
+-- Composition pairs of two codepoints among the records, and what the code that finds them answers.
 use Prim.Native.Nat.{ℕ, _+_}
 use mathlib.Core.Path.{_≡_}
 use mathlib.Core.Bool.{Bool, _&&_}

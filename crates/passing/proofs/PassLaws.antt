@@ -1,4 +1,4 @@
--- Laws of the test of one codepoint: it is decomposed, put in order and composed. Assumes nothing.
+-- Laws of the test of one codepoint: it is decomposed, put in order and composed.
 use Prim.Native.Nat.{ℕ, _+_, _≤_}
 use native.Mathlib.Omega.{arith}
 use mathlib.Core.Path.{_≡_, refl, sym, ap, _∙_}

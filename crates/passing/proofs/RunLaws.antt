@@ -1,4 +1,4 @@
--- Laws of the runs of codepoints that rule 8 asks. Assumes nothing.
+-- Laws of the runs of codepoints that rule 8 asks.
 use Prim.Native.Nat.{ℕ, suc, _+_, _-_, _*_, _≤_, _<_}
 use native.Mathlib.Numerals.{add-one}
 use native.Mathlib.Omega.{arith}

@@ -1,4 +1,4 @@
--- Rule 8, for one codepoint. Assumes nothing.
+-- Rule 8, for one codepoint.
 use Prim.Native.Nat.{ℕ}
 use mathlib.Core.Bool.{Bool, not, _&&_}
 use mathlib.Core.List.{List, [], _∷_}

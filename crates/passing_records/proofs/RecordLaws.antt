@@ -1,4 +1,4 @@
--- Laws of rule 8, record by record. Assumes nothing.
+-- Laws of rule 8, record by record.
 use Prim.Native.Nat.{ℕ}
 use mathlib.Core.Path.{_≡_, refl, sym, _∙_}
 use mathlib.Core.Bool.{Bool, true, false, not, _||_}

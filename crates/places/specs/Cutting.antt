@@ -1,5 +1,4 @@
 -- The scan of a part of a label: where the part ends behind a step, its steps are those of the label as far as there, on every table.
--- Assumes nothing.
 use Prim.Native.Nat.{ℕ, zero, suc, pred, _-_, _≤_, _<_}
 use native.Mathlib.Omega.{arith}
 use mathlib.Core.Path.{_≡_, refl, sym, _∙_, ap}

@@ -1,4 +1,4 @@
--- Places on closed steps: what is ignored first, between and last, and emoji side by side. Assumes nothing.
+-- Places on closed steps: what is ignored first, between and last, and emoji side by side.
 use mathlib.Core.Path.{_≡_, refl}
 use mathlib.Core.List.{List, [], _∷_}
 use mathlib.Core.Option.{none}

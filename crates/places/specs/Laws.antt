@@ -1,5 +1,5 @@
 -- Laws of the places: taking them off gives the tokens of today; they cover a label without gaps or overlap; and the first token of a label is
--- that of its own part of the input, with the others behind it. For every list of steps. Assumes nothing.
+-- that of its own part of the input, with the others behind it. For every list of steps.
 use Prim.Native.Nat.{ℕ, suc, _+_, _≤_, _<_}
 use native.Mathlib.Omega.{arith}
 use mathlib.Core.Path.{_≡_, refl, sym, ap, _∙_}

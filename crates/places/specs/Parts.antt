@@ -1,5 +1,5 @@
 -- Each token and its own part of the input: the first token of steps is that of the steps in front alone, and the others are those of the
--- steps behind. For every list of steps, then for every table and label. Assumes nothing.
+-- steps behind. For every list of steps, then for every table and label.
 use Prim.Native.Nat.{ℕ, suc, _+_, _-_, _≤_, _<_}
 use native.Mathlib.Omega.{arith}
 use mathlib.Core.Path.{_≡_, refl, sym, ap, _∙_}

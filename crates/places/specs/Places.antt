@@ -1,5 +1,5 @@
 -- Tokens with their places. 02, Item 9: "Each token now records where its input starts and ends, ignored codepoints counting to the token
--- before them, or to the first one if none is before." Assumes nothing.
+-- before them, or to the first one if none is before."
 use Prim.Native.Nat.{ℕ, suc, _+_}
 use mathlib.Core.List.{List, [], _∷_, _++_}
 use mathlib.Core.Option.{Option, none, some}

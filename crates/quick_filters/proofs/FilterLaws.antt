@@ -1,4 +1,4 @@
--- Laws of filters. Assumes nothing.
+-- Laws of filters.
 use Prim.Native.Nat.{ℕ, _+_, _≤_, _<_}
 use native.Mathlib.Omega.{arith}
 use mathlib.Core.Path.{_≡_, refl, sym, _∙_}

@@ -1,4 +1,4 @@
--- Laws of the index of places by their words. Assumes nothing.
+-- Laws of the index of places by their words.
 use Prim.Native.Nat.{ℕ, _+_, _-_, _%_, _≤_, _<_}
 use native.Mathlib.Omega.{arith}
 use mathlib.Core.Path.{_≡_, refl, sym, _∙_, ap}

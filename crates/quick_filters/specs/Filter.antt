@@ -1,4 +1,4 @@
--- Filters: sets of 32,768 bits, three for each member. Where one of its bits is clear, a codepoint is no member. Assumes nothing.
+-- Filters: sets of 32,768 bits, three for each member. Where one of its bits is clear, a codepoint is no member.
 use Prim.Native.Nat.{ℕ, _+_, _*_, _/_, _%_, _≤_}
 use mathlib.Core.Path.{_≡_}
 use mathlib.Core.Bool.{Bool, true, false, _&&_}

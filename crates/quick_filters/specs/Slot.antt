@@ -1,5 +1,5 @@
 -- An index of places in a part by the two words that stand there: a slot holds one more than the place of the first word, or 0. A search starts
--- at the slot that the words give and goes on to the next while slots are full. Assumes nothing.
+-- at the slot that the words give and goes on to the next while slots are full.
 use Prim.Native.Nat.{ℕ, _+_, _-_, _*_, _/_, _%_, _<_}
 use mathlib.Core.Path.{_≡_}
 use mathlib.Core.Logic.{_⊎_}

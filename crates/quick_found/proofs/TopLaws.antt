@@ -1,4 +1,4 @@
--- What is found, put together. Assumes nothing.
+-- What is found, put together.
 use Prim.Native.Nat.{ℕ, _<_}
 use native.Mathlib.Omega.{arith}
 use mathlib.Core.Path.{_≡_, refl, sym, _∙_, ap, subst}

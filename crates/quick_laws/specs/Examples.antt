@@ -1,5 +1,5 @@
 -- A small table, a set of codepoints outside of which nothing is asked, and texts: the law is not empty, and each of its conditions is
--- needed. Assumes nothing.
+-- needed.
 use Prim.Native.Nat.{ℕ}
 use mathlib.Core.Path.{_≡_, refl}
 use mathlib.Core.Bool.{Bool, true, false, not, _&&_}

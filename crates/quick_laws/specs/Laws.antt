@@ -1,4 +1,4 @@
--- Text that needs no NFC is left as it is (UAX 15, the quick check), on every table. Assumes nothing.
+-- Text that needs no NFC is left as it is (UAX 15, the quick check), on every table.
 use Prim.Native.Nat.{ℕ, _<_}
 use mathlib.Core.Path.{_≡_, sym, ap, _∙_}
 use mathlib.Core.Bool.{Bool, true, false}

@@ -1,5 +1,5 @@
 -- A codepoint that is its own NFC, on any table: a mark is its own full decomposition, and the full decomposition of a starter is a starter
--- that takes in all that follows, one by one. Assumes nothing.
+-- that takes in all that follows, one by one.
 use Prim.Native.Nat.{ℕ, suc, _≤_, _<_}
 use native.Mathlib.Omega.{arith}
 use mathlib.Core.Path.{_≡_, refl, sym, ap, _∙_}

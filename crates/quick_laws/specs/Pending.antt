@@ -1,4 +1,4 @@
--- A starter takes in what follows it although marks that compose with nothing were ordered in between, on any table. Assumes nothing.
+-- A starter takes in what follows it although marks that compose with nothing were ordered in between, on any table.
 use Prim.Native.Nat.{ℕ, _≤_, _<_}
 use native.Mathlib.Omega.{arith}
 use mathlib.Core.Path.{_≡_, refl, ap, _∙_}

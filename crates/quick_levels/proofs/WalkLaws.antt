@@ -1,4 +1,4 @@
--- Laws of the walks over the records of a part. Assumes nothing.
+-- Laws of the walks over the records of a part.
 use Prim.Native.Nat.{ℕ, zero, suc, _+_, _≤_, _<_}
 use native.Mathlib.Omega.{arith}
 use mathlib.Core.Path.{_≡_, refl, sym, _∙_, ap, subst}

@@ -1,4 +1,4 @@
--- What the walks over the decompositions find, each of them for every record. Assumes nothing.
+-- What the walks over the decompositions find, each of them for every record.
 use Prim.Native.Nat.{ℕ, _+_, _≤_, _<_}
 use mathlib.Core.Path.{_≡_}
 use mathlib.Core.Bool.{Bool, true, false}

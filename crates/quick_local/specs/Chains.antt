@@ -1,5 +1,5 @@
 -- Rule 8 from what the walks see: the full decomposition of a codepoint outside the set starts with one that is no second item, stands in order and
--- is composed again. Assumes nothing.
+-- is composed again.
 use Prim.Native.Nat.{ℕ, zero, suc, _-_, _≤_}
 use native.Mathlib.Omega.{arith}
 use mathlib.Core.Path.{_≡_, refl, sym, ap, _∙_}

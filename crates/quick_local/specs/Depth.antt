@@ -1,5 +1,5 @@
 -- Rule 6 from what the walks see: heads that ascend are distinct, and records over records that stand in three levels decompose fully in four
--- rounds. Assumes nothing.
+-- rounds.
 use Prim.Native.Nat.{ℕ, zero, suc, _-_, _<_}
 use native.Mathlib.Omega.{arith}
 use mathlib.Core.Path.{_≡_, refl, ap, _∙_}

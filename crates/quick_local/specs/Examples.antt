@@ -1,4 +1,4 @@
--- A small table of which the walks see enough, and ones that lack a part and break a rule. Assumes nothing.
+-- A small table of which the walks see enough, and ones that lack a part and break a rule.
 use Prim.Native.Nat.{ℕ}
 use mathlib.Core.Path.{_≡_, refl}
 use mathlib.Core.Bool.{true, false}

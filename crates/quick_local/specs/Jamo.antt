@@ -1,4 +1,4 @@
--- Hangul on any table: a syllable's jamo have class 0 and compose to it again. Assumes nothing.
+-- Hangul on any table: a syllable's jamo have class 0 and compose to it again.
 use Prim.Native.Nat.{ℕ, _+_, _-_, _*_, _/_, _%_, _≤_, _<_}
 use native.Mathlib.Omega.{arith}
 use mathlib.Core.Path.{_≡_, refl}

@@ -1,5 +1,4 @@
 -- What walks over the sections see is enough for rules 6 to 8 on every table, read from words or not. Proofs are in the files beside this one.
--- Assumes nothing.
 use Prim.Native.Nat.{ℕ}
 use mathlib.Core.Path.{_≡_}
 use mathlib.Core.Bool.{true}

@@ -1,5 +1,5 @@
 -- What walks over the sections of a table can see, a few steps a word, from which rules 6 to 8 follow. It may fail where they hold.
--- 02, Item 11: "The fast path is taken only where the set isn't empty and that pass found rules 6 to 8 to hold". Assumes nothing.
+-- 02, Item 11: "The fast path is taken only where the set isn't empty and that pass found rules 6 to 8 to hold".
 use Prim.Native.Nat.{ℕ}
 use mathlib.Core.Path.{_≡_}
 use mathlib.Core.Bool.{Bool, true, false, not}

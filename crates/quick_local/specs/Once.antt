@@ -1,4 +1,4 @@
--- Rule 7 from what the walks see. Assumes nothing.
+-- Rule 7 from what the walks see.
 use Prim.Native.Nat.{ℕ, suc}
 use native.Mathlib.Omega.{arith}
 use mathlib.Core.Path.{_≡_, refl, _∙_}

@@ -1,4 +1,4 @@
--- `Local` by tests that compute, for closed tables. Assumes nothing.
+-- `Local` by tests that compute, for closed tables.
 use Prim.Native.Nat.{ℕ, _≤_}
 use native.Mathlib.Omega.{arith}
 use mathlib.Core.Path.{_≡_}

@@ -1,4 +1,4 @@
--- Laws of the set's entries, and of the order of classes. Assumes nothing.
+-- Laws of the set's entries, and of the order of classes.
 use Prim.Native.Nat.{ℕ, zero, suc, _+_, _-_, _%_, _≤_, _<_}
 use native.Mathlib.Omega.{arith}
 use native.Mathlib.Numerals.{add-one}

@@ -1,4 +1,4 @@
--- Laws of what is asked of each decomposition. Assumes nothing.
+-- Laws of what is asked of each decomposition.
 use Prim.Native.Nat.{ℕ, zero, suc, _+_, _≤_, _<_}
 use native.Mathlib.Omega.{arith}
 use mathlib.Core.Path.{_≡_, refl, sym, _∙_, ap}

@@ -1,4 +1,4 @@
--- What is asked of a decomposition for rules 7 and 8, and what the code keeps while it asks. Assumes nothing.
+-- What is asked of a decomposition for rules 7 and 8, and what the code keeps while it asks.
 use Prim.Native.Nat.{ℕ, _+_, _≤_, _<_}
 use mathlib.Core.Path.{_≡_}
 use mathlib.Core.Bool.{Bool, true, false}

@@ -1,4 +1,4 @@
--- Laws of second items. Assumes nothing.
+-- Laws of second items.
 use Prim.Native.Nat.{ℕ, _<_}
 use native.Mathlib.Omega.{arith}
 use mathlib.Core.Path.{_≡_, refl, sym, _∙_}

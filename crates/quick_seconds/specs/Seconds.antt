@@ -1,4 +1,4 @@
--- What is asked of a second item, and what the code keeps while it asks. Assumes nothing.
+-- What is asked of a second item, and what the code keeps while it asks.
 use Prim.Native.Nat.{ℕ, _<_}
 use mathlib.Core.Path.{_≡_}
 use mathlib.Core.Bool.{Bool, true, false}

@@ -1,4 +1,4 @@
--- What the answer of the code stands for. Assumes nothing.
+-- What the answer of the code stands for.
 use Prim.Native.Nat.{ℕ}
 use mathlib.Core.Bool.{Bool, cond}
 use mathlib.Core.Option.{Option, none, some}

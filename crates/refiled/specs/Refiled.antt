@@ -1,5 +1,5 @@
 -- 02, Item 14: how a new table files a name: "whose name the new table refuses or files otherwise, .. the refusal (0 if filed otherwise, 42 or 43
--- if that form is empty or too long for a slot; 15 cannot arise)". Assumes nothing.
+-- if that form is empty or too long for a slot; 15 cannot arise)".
 use Prim.Native.Nat.{ℕ}
 use mathlib.Core.Bool.{cond}
 use mathlib.Core.List.{List}

@@ -1,4 +1,4 @@
--- The labels of a filed name one after another, and what they come to. Assumes nothing.
+-- The labels of a filed name one after another, and what they come to.
 use Prim.Native.Nat.{ℕ, suc, _+_, _-_, _*_, _≤_, _<_}
 use native.Mathlib.Omega.{arith}
 use mathlib.Core.Path.{_≡_, refl, sym, ap, _∙_}

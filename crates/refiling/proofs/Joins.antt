@@ -1,4 +1,4 @@
--- Answers joined by stops are a name exactly where each is the label in its place, whatever stops stand in them. Assumes nothing.
+-- Answers joined by stops are a name exactly where each is the label in its place, whatever stops stand in them.
 use Prim.Native.Nat.{ℕ, suc, _+_, _≤_}
 use native.Mathlib.Omega.{arith}
 use mathlib.Core.Path.{_≡_, refl, sym, ap, _∙_}

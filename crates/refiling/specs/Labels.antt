@@ -1,4 +1,4 @@
--- The judging of a filed name in the steps that the code takes, label by label. Assumes nothing.
+-- The judging of a filed name in the steps that the code takes, label by label.
 use Prim.Native.Nat.{ℕ, suc, _+_, _-_, _≤_}
 use mathlib.Core.Path.{_≡_}
 use mathlib.Core.Bool.{Bool, _&&_}

@@ -1,4 +1,4 @@
--- The line for a line of input, from what its parts promise. Assumes nothing.
+-- The line for a line of input, from what its parts promise.
 use Prim.Native.Nat.{ℕ, _≤_}
 use native.Mathlib.Omega.{arith}
 use mathlib.Core.Path.{_≡_, refl, ap, subst, _∙_}

@@ -1,4 +1,4 @@
--- What the counter program writes for a line of input. 01, "Names at the counter". Assumes nothing.
+-- What the counter program writes for a line of input. 01, "Names at the counter".
 use Prim.Native.Nat.{ℕ, _+_, _*_}
 use mathlib.Core.List.{List}
 use Rattle.limits.specs.Limits.{mostWorked, leastWork}

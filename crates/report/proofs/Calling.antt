@@ -1,4 +1,4 @@
--- The ways out of the call, from what the name was judged and what was written. Assumes nothing.
+-- The ways out of the call, from what the name was judged and what was written.
 use Prim.Native.Nat.{ℕ, _-_, _<_, _≤_}
 use native.Mathlib.Omega.{arith}
 use mathlib.Core.Path.{_≡_, refl, sym, ap, _∙_, subst}

@@ -1,4 +1,4 @@
--- The labels of an accepted name are walked: 5, 6 and 7 let them pass. Assumes nothing.
+-- The labels of an accepted name are walked: 5, 6 and 7 let them pass.
 use Prim.Native.Nat.{ℕ, suc, _+_, _≤_}
 use native.Mathlib.Omega.{arith}
 use mathlib.Core.Path.{_≡_, refl, ap, _∙_}

@@ -1,4 +1,4 @@
--- The call. 02, Item 9: "Refusals are 1 to 14, then 32 for too little room; it answers the length"; Item 12 puts 16 in the place of 13, Item 13 puts 17 after 14. Assumes nothing.
+-- The call. 02, Item 9: "Refusals are 1 to 14, then 32 for too little room; it answers the length"; Item 12 puts 16 in the place of 13, Item 13 puts 17 after 14.
 use Prim.Native.Nat.{ℕ}
 use mathlib.Core.Bool.{cond}
 use mathlib.Core.List.{List}

@@ -1,4 +1,4 @@
--- What the report promises with its answer as plain numbers: the definition of the call. Assumes nothing.
+-- What the report promises with its answer as plain numbers: the definition of the call.
 use Prim.Native.Nat.{ℕ}
 use mathlib.Core.List.{List}
 use lib.ListN.{length}

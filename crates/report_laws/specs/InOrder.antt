@@ -1,5 +1,5 @@
 -- 02, Item 9: "The lines of an accepted name are in input order, and the places in each label cover it without gaps or overlap." For every
--- table and every accepted name. Assumes nothing.
+-- table and every accepted name.
 use Prim.Native.Nat.{ℕ, _+_, _≤_, _<_}
 use native.Mathlib.Omega.{arith}
 use mathlib.Core.Path.{_≡_, refl, sym, ap, _∙_}

@@ -1,4 +1,4 @@
--- Lines on a closed table that escapes 200D and FFFFFFFF. Assumes nothing.
+-- Lines on a closed table that escapes 200D and FFFFFFFF.
 use mathlib.Core.Path.{_≡_, refl}
 use mathlib.Core.Bool.{true, false}
 use mathlib.Core.List.{[], _∷_}

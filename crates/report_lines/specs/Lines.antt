@@ -1,6 +1,6 @@
 -- One line of the report. 02, Item 9: "a line per token, ended by 0A: `text` or `emoji`, start, end .., then its codepoints (NFC or stripped) in
 -- upper-case hex, all parted by single spaces and with decimal places. Codepoints in the table's new should-escape section (pairs) are put
--- in braces." Assumes nothing.
+-- in braces."
 use Prim.Native.Nat.{ℕ}
 use mathlib.Core.Bool.{Bool, cond}
 use mathlib.Core.List.{List, [], _∷_, _++_}

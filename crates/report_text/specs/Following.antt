@@ -1,4 +1,4 @@
--- The line of the first token in front of the others of a label, and the lines of a label in front of those of the labels behind it. Assumes nothing.
+-- The line of the first token in front of the others of a label, and the lines of a label in front of those of the labels behind it.
 use Prim.Native.Nat.{ℕ, _+_}
 use native.Mathlib.Omega.{arith}
 use mathlib.Core.Path.{_≡_, refl, ap, _∙_}

@@ -1,6 +1,6 @@
 -- The bytes of the report. 02, Item 9: "a report into a lent byte buffer, a line per token, ended by 0A: `text` or `emoji`, start, end (the
 -- place after its last; both in the whole name), then its codepoints (NFC or stripped) in upper-case hex, all parted by single spaces and
--- with decimal places. Codepoints in the table's new should-escape section (pairs) are put in braces." Assumes nothing.
+-- with decimal places. Codepoints in the table's new should-escape section (pairs) are put in braces."
 use Prim.Native.Nat.{ℕ, _+_}
 use mathlib.Core.List.{List, [], _∷_, _++_}
 use lib.ListN.{length}

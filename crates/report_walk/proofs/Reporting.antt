@@ -1,4 +1,4 @@
--- The lines of a label token by token, and of a name label by label: what is written, and what is left. Assumes nothing.
+-- The lines of a label token by token, and of a name label by label: what is written, and what is left.
 use Prim.Native.Nat.{ℕ, _+_, _-_, _≤_, _<_}
 use native.Mathlib.Omega.{arith}
 use mathlib.Core.Path.{_≡_, refl, sym, ap, _∙_}

@@ -1,4 +1,4 @@
--- What the writer of the report asks. Assumes nothing.
+-- What the writer of the report asks.
 use Prim.Native.Nat.{ℕ, _≤_}
 use mathlib.Core.Path.{_≡_}
 use mathlib.Core.Bool.{true, false}

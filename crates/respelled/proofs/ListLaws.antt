@@ -1,4 +1,4 @@
--- The groups that the flags of the look-alike test list, and the ends of the call. Assumes nothing.
+-- The groups that the flags of the look-alike test list, and the ends of the call.
 use Prim.Native.Nat.{ℕ, zero, suc, _+_, _-_, _*_, _≤_, _<_}
 use native.Mathlib.Omega.{arith}
 use mathlib.Core.Path.{_≡_, refl, sym, ap, _∙_}

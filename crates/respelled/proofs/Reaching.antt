@@ -1,4 +1,4 @@
--- Which labels reach the look-alike test, and what stands in their lists. Assumes nothing.
+-- Which labels reach the look-alike test, and what stands in their lists.
 use Prim.Native.Nat.{ℕ, suc, _+_, _≤_, _<_}
 use native.Mathlib.Omega.{arith}
 use mathlib.Core.Path.{_≡_, refl, sym, ap, _∙_}

@@ -1,4 +1,4 @@
--- What the call promises, in the terms of Respelled.antt. Assumes nothing.
+-- What the call promises, in the terms of Respelled.antt.
 use Prim.Native.Nat.{ℕ}
 use mathlib.Core.List.{List}
 use lib.ListN.{length}

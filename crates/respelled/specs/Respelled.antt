@@ -1,5 +1,5 @@
 -- 02, Item 14: "for a label that reaches the look-alike test, list every group in which it could be respelled, ascending, each once; without a
--- confused character, and for kinds emoji and ASCII, there is none. Refusals there: the label call's before 14, then 33." Assumes nothing.
+-- confused character, and for kinds emoji and ASCII, there is none. Refusals there: the label call's before 14, then 33."
 use Prim.Native.Nat.{ℕ, suc}
 use mathlib.Core.Path.{refl}
 use mathlib.Core.Bool.{Bool, _||_, cond}

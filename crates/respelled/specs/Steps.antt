@@ -1,4 +1,4 @@
--- What the inner functions of this crate answer. Assumes nothing.
+-- What the inner functions of this crate answer.
 use Prim.Native.Nat.{ℕ, _≤_}
 use mathlib.Core.Path.{_≡_}
 use mathlib.Core.Bool.{false, _||_}

@@ -1,4 +1,4 @@
--- A small table that keeps what the laws ask, and texts on it: the laws are not empty. Assumes nothing.
+-- A small table that keeps what the laws ask, and texts on it: the laws are not empty.
 use Prim.Native.Nat.{ℕ}
 use mathlib.Core.Path.{_≡_, refl}
 use mathlib.Core.Bool.{true}

@@ -1,5 +1,5 @@
 -- The laws of decomposition, composition and NFC on tables that keep rule 6 of soundness, as they are used above. Proofs are in the files
--- beside this one. Assumes nothing.
+-- beside this one.
 use Prim.Native.Nat.{ℕ, _≤_, _<_}
 use mathlib.Core.Path.{_≡_}
 use mathlib.Core.Bool.{true}

@@ -1,4 +1,4 @@
--- What two codepoints compose to decomposes to what they decompose to, on a table that keeps rule 6. Assumes nothing.
+-- What two codepoints compose to decomposes to what they decompose to, on a table that keeps rule 6.
 use Prim.Native.Nat.{ℕ, _+_, _≤_}
 use native.Mathlib.Omega.{arith}
 use mathlib.Core.Path.{_≡_, refl, sym, _∙_}

@@ -1,4 +1,4 @@
--- On a table that keeps rule 6, decomposing what was composed gives the decomposition back, so that NFC twice is NFC. Assumes nothing.
+-- On a table that keeps rule 6, decomposing what was composed gives the decomposition back, so that NFC twice is NFC.
 use Prim.Native.Nat.{ℕ, _<_}
 use native.Mathlib.Omega.{arith}
 use mathlib.Core.Path.{_≡_, refl, sym, ap, _∙_}

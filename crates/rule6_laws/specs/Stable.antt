@@ -1,4 +1,4 @@
--- Decomposition on a table that keeps rule 6: it ends, in codepoints that decompose no further. Assumes nothing.
+-- Decomposition on a table that keeps rule 6: it ends, in codepoints that decompose no further.
 use Prim.Native.Nat.{ℕ, _+_, _-_, _/_, _%_, _≤_, _<_}
 use native.Mathlib.Omega.{arith}
 use mathlib.Core.Path.{_≡_, refl, sym, ap, _∙_}

@@ -1,4 +1,4 @@
--- Where the walks see enough, rule 8 holds as the soundness check asks it. Assumes nothing.
+-- Where the walks see enough, rule 8 holds as the soundness check asks it.
 use mathlib.Core.Path.{_≡_}
 use mathlib.Core.Bool.{true, false}
 use mathlib.Core.Logic.{inr}

@@ -1,4 +1,4 @@
--- Rule 8 is asked of heads, second items and Hangul; where rule 6 holds it says the same of every number. Assumes nothing.
+-- Rule 8 is asked of heads, second items and Hangul; where rule 6 holds it says the same of every number.
 use Prim.Native.Nat.{ℕ, _+_, _-_, _*_, _/_, _%_, _≤_}
 use native.Mathlib.Omega.{arith}
 use mathlib.Core.Path.{_≡_, refl, sym, ap, _∙_}

@@ -1,4 +1,4 @@
--- Laws of rule 2: the codepoints of ranges and groups, and the rule by its codepoints. Assumes nothing.
+-- Laws of rule 2: the codepoints of ranges and groups, and the rule by its codepoints.
 use Prim.Native.Nat.{ℕ, zero, suc, _+_, _-_, _/_, _<_, _≤_}
 use native.Mathlib.Omega.{arith}
 use mathlib.Core.Path.{_≡_, refl, sym, _∙_, ap}

@@ -1,4 +1,4 @@
--- Under rule 1 the heads of decompositions and what is reached from codepoints by rounds are codepoints up to 10FFFF. Assumes nothing.
+-- Under rule 1 the heads of decompositions and what is reached from codepoints by rounds are codepoints up to 10FFFF.
 use Prim.Native.Nat.{ℕ, _+_, _-_, _/_, _%_, _<_, _≤_}
 use native.Mathlib.Omega.{arith}
 use mathlib.Core.Path.{_≡_, refl, sym, _∙_, ap}

@@ -1,4 +1,4 @@
--- Rule 2 by its codepoints, one by one. Assumes nothing.
+-- Rule 2 by its codepoints, one by one.
 use Prim.Native.Nat.{ℕ}
 use mathlib.Core.Bool.{Bool, not, _||_, cond}
 use mathlib.Core.List.{List}

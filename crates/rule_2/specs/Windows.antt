@@ -1,4 +1,4 @@
--- A test of every number below a bound. Assumes nothing.
+-- A test of every number below a bound.
 use Prim.Native.Nat.{ℕ, _/_, _<_}
 use mathlib.Core.Path.{_≡_}
 use mathlib.Core.Bool.{Bool, true, false}

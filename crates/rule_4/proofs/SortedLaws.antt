@@ -1,4 +1,4 @@
--- Sequences whose first items do not fall, none of them FE0F: where a search among them may start, and where it may end. Assumes nothing.
+-- Sequences whose first items do not fall, none of them FE0F: where a search among them may start, and where it may end.
 use Prim.Native.Nat.{ℕ, _+_, _<_}
 use native.Mathlib.Omega.{arith}
 use mathlib.Core.Path.{_≡_, refl, sym, _∙_, ap}

@@ -1,4 +1,4 @@
--- Laws of sequences stripped of FE0F. Assumes nothing.
+-- Laws of sequences stripped of FE0F.
 use Prim.Native.Nat.{ℕ, _+_, _-_, _<_, _≤_}
 use native.Mathlib.Numerals.{add-one}
 use native.Mathlib.Omega.{arith}

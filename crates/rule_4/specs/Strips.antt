@@ -1,4 +1,4 @@
--- What the check asks of emoji sequences, given by their items with FE0F among them. Assumes nothing.
+-- What the check asks of emoji sequences, given by their items with FE0F among them.
 use Prim.Native.Nat.{ℕ, _≤_, _<_}
 use mathlib.Core.Path.{_≡_}
 use mathlib.Core.Bool.{Bool, true, false, not, _&&_}

@@ -1,4 +1,4 @@
--- Laws of rule 5, for items with FE0F among them. Assumes nothing.
+-- Laws of rule 5, for items with FE0F among them.
 use Prim.Native.Nat.{ℕ, _+_, _<_, _≤_}
 use native.Mathlib.Numerals.{add-one}
 use mathlib.Core.Path.{_≡_, sym, _∙_, ap, refl}

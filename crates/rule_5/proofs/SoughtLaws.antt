@@ -1,4 +1,4 @@
--- Laws of a search for a sequence by its first item. Assumes nothing.
+-- Laws of a search for a sequence by its first item.
 use Prim.Native.Nat.{ℕ, zero, suc, _+_, _<_, _≤_}
 use native.Mathlib.Omega.{arith}
 use mathlib.Core.Path.{_≡_, sym, _∙_, ap}

@@ -1,4 +1,4 @@
--- What rule 5 asks of emoji sequences, given by their items with FE0F among them. Assumes nothing.
+-- What rule 5 asks of emoji sequences, given by their items with FE0F among them.
 use Prim.Native.Nat.{ℕ}
 use mathlib.Core.Bool.{Bool, not, _&&_, _||_}
 use mathlib.Core.List.{List}

@@ -1,4 +1,4 @@
--- The section of emoji sequences, in which rule 5 looks for some. Assumes nothing.
+-- The section of emoji sequences, in which rule 5 looks for some.
 use Prim.Native.Nat.{ℕ}
 use mathlib.Core.List.{List}
 use Rattle.table.specs.Table.{Table}

@@ -1,4 +1,4 @@
--- Laws of rule 6, head by head. Assumes nothing.
+-- Laws of rule 6, head by head.
 use Prim.Native.Nat.{ℕ, zero, suc, _+_, _-_, _≤_, _/_, _%_}
 use native.Mathlib.Omega.{arith}
 use mathlib.Core.Path.{_≡_, refl, sym, _∙_, ap}

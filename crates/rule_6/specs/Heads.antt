@@ -1,4 +1,4 @@
--- Rule 6, head by head. Assumes nothing.
+-- Rule 6, head by head.
 use Prim.Native.Nat.{ℕ, _+_}
 use mathlib.Core.Bool.{Bool, not, _&&_, _||_}
 use mathlib.Core.List.{List, [], _∷_}

@@ -1,4 +1,4 @@
--- Laws of rule 7, record by record. Assumes nothing.
+-- Laws of rule 7, record by record.
 use Prim.Native.Nat.{ℕ, suc, _+_, _<_, _≤_}
 use native.Mathlib.Omega.{arith}
 use mathlib.Core.Path.{_≡_, refl, _∙_, ap}

@@ -1,4 +1,4 @@
--- Rule 7, decomposition by decomposition. Assumes nothing.
+-- Rule 7, decomposition by decomposition.
 use Prim.Native.Nat.{ℕ}
 use mathlib.Core.Bool.{Bool, not, _&&_, _||_}
 use mathlib.Core.List.{List, map}

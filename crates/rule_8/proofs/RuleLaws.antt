@@ -1,4 +1,4 @@
--- Laws of rule 8, part by part. Assumes nothing.
+-- Laws of rule 8, part by part.
 use mathlib.Core.Path.{_≡_, refl, ap, _∙_}
 use mathlib.Core.Bool.{Bool, true, false, not, _&&_, _||_, cond}
 use mathlib.Core.List.{List, [], _∷_, map}

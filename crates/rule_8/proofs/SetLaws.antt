@@ -1,4 +1,4 @@
--- The set is empty exactly where its section has no words. Assumes nothing.
+-- The set is empty exactly where its section has no words.
 use Prim.Native.Nat.{ℕ, _-_}
 use native.Mathlib.Omega.{arith}
 use mathlib.Core.Path.{_≡_, refl, _∙_}

@@ -1,4 +1,4 @@
--- The test of a scalar value. Assumes nothing.
+-- The test of a scalar value.
 use Prim.Native.Nat.{ℕ, _<_, _≤_}
 use mathlib.Core.Path.{_≡_, refl}
 use mathlib.Core.Bool.{Bool, true, false, not}

@@ -1,4 +1,4 @@
--- Unicode scalar values: "a number over 10FFFF or in D800 to DFFF" is none (refusal 4). Assumes nothing.
+-- Unicode scalar values: "a number over 10FFFF or in D800 to DFFF" is none (refusal 4).
 use Prim.Native.Nat.{ℕ}
 use mathlib.Core.Bool.{Bool, not, _&&_}
 use lib.Dec.{leb}

@@ -1,4 +1,4 @@
--- What the tokens of a label's steps are made of: the steps' codepoints and tags, one after another. Assumes nothing.
+-- What the tokens of a label's steps are made of: the steps' codepoints and tags, one after another.
 use Prim.Native.Nat.{ℕ, _≤_}
 use mathlib.Core.Path.{_≡_, refl, sym, _∙_, ap}
 use mathlib.Core.Bool.{Bool, not, _||_}

@@ -1,4 +1,4 @@
--- One step of the scan, and the loop over the steps of a label. Assumes nothing.
+-- One step of the scan, and the loop over the steps of a label.
 use Prim.Native.Nat.{ℕ, _+_, _-_, _≤_, _<_}
 use native.Mathlib.Omega.{arith}
 use mathlib.Core.Path.{_≡_, refl, sym, _∙_}

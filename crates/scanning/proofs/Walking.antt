@@ -1,4 +1,4 @@
--- The steps of a label one after another: the step at a place, and the steps before it. Assumes nothing.
+-- The steps of a label one after another: the step at a place, and the steps before it.
 use Prim.Native.Nat.{ℕ, zero, suc, pred, _+_, _-_, _≤_, _<_}
 use native.Mathlib.Omega.{arith}
 use native.Mathlib.Numerals.{add-one}

@@ -1,4 +1,4 @@
--- What the steps of the scan answer, and the scan itself. Assumes nothing.
+-- What the steps of the scan answer, and the scan itself.
 use Prim.Native.Nat.{ℕ, _≤_, _<_}
 use mathlib.Core.Path.{_≡_}
 use mathlib.Core.Bool.{not}

@@ -1,4 +1,4 @@
--- What the tests 1 to 4 leave of the call, and its two ends. Assumes nothing.
+-- What the tests 1 to 4 leave of the call, and its two ends.
 use Prim.Native.Nat.{ℕ}
 use mathlib.Core.Path.{_≡_, refl}
 use mathlib.Core.Bool.{Bool, true, false}

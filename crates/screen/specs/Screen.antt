@@ -1,5 +1,5 @@
 -- The screen call. 02, Item 1: "Add the beautified form of source document 000 .. Refusals and their order are as for the name call, and 15 is
--- judged on the screen form." Assumes nothing.
+-- judged on the screen form."
 use Prim.Native.Nat.{ℕ}
 use mathlib.Core.List.{List}
 use lib.ListN.{length}

@@ -1,4 +1,4 @@
--- The screen form of a label, token by token. Assumes nothing.
+-- The screen form of a label, token by token.
 use Prim.Native.Nat.{ℕ, _+_, _-_, _*_, _≤_, _<_}
 use native.Mathlib.Omega.{arith}
 use mathlib.Core.Path.{_≡_, refl, sym, ap, _∙_}

@@ -1,4 +1,4 @@
--- What the writer of a label answers. Assumes nothing.
+-- What the writer of a label answers.
 use Prim.Native.Nat.{ℕ, _+_, _*_, _≤_}
 use mathlib.Core.Bool.{Bool, true}
 use mathlib.Core.List.{List}

@@ -1,5 +1,5 @@
 -- The name call and the screen call are one call with two forms, on every table; by a sound table an answer buffer of twice as many words as the
--- worked length may reach holds every screen form. Assumes nothing.
+-- worked length may reach holds every screen form.
 use Prim.Native.Nat.{ℕ, _*_, _≤_}
 use native.Mathlib.Omega.{arith}
 use mathlib.Core.Path.{_≡_, refl}

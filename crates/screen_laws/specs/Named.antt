@@ -1,4 +1,4 @@
--- The emoji of a label are records of the table: the one that the finder named. On every table. Assumes nothing.
+-- The emoji of a label are records of the table: the one that the finder named. On every table.
 use Prim.Native.Nat.{ℕ, zero, suc, _+_, _≤_}
 use native.Mathlib.Omega.{arith}
 use mathlib.Core.Path.{_≡_, refl}

@@ -1,4 +1,4 @@
--- The screen form of an accepted label is a rendering of its tokens, where 39E stands for 3BE; what its codepoints are and how many. Assumes nothing.
+-- The screen form of an accepted label is a rendering of its tokens, where 39E stands for 3BE; what its codepoints are and how many.
 use Prim.Native.Nat.{ℕ, suc, _+_, _*_, _≤_}
 use native.Mathlib.Omega.{arith}
 use mathlib.Core.Path.{_≡_, refl, sym, ap, _∙_}

@@ -1,5 +1,5 @@
 -- 02, Item 1: "Wanted with it: for a sound table that maps 39E to 3BE alone, where 39E is not valid and stands in no emoji sequence, normalising the
--- screen form with enough room gives the name's normal form." With the same setting, and with the same kinds. Assumes nothing.
+-- screen form with enough room gives the name's normal form." With the same setting, and with the same kinds.
 use Prim.Native.Nat.{ℕ, suc, _+_, _*_, _≤_}
 use native.Mathlib.Omega.{arith}
 use mathlib.Core.Path.{_≡_, refl, sym, ap, _∙_, subst}

@@ -1,4 +1,4 @@
--- The screen form of a text word by word, and of a token. Assumes nothing.
+-- The screen form of a text word by word, and of a token.
 use Prim.Native.Nat.{ℕ, suc, _+_, _-_, _≤_, _<_}
 use native.Mathlib.Omega.{arith}
 use native.Mathlib.Numerals.{add-one}

@@ -1,4 +1,4 @@
--- What the writers of a token of the screen form answer. Assumes nothing.
+-- What the writers of a token of the screen form answer.
 use Prim.Native.Nat.{ℕ, _+_, _≤_}
 use native.Mathlib.Omega.{arith}
 use mathlib.Core.Path.{_≡_}

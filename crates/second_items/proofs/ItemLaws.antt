@@ -1,4 +1,4 @@
--- Laws of second items, record by record. Assumes nothing.
+-- Laws of second items, record by record.
 use Prim.Native.Nat.{ℕ, _<_}
 use native.Mathlib.Omega.{arith}
 use mathlib.Core.Path.{_≡_, refl, sym, ap, _∙_}

@@ -1,4 +1,4 @@
--- The second items of composition pairs, decomposition by decomposition. Assumes nothing.
+-- The second items of composition pairs, decomposition by decomposition.
 use Prim.Native.Nat.{ℕ}
 use mathlib.Core.Path.{_≡_}
 use mathlib.Core.Bool.{Bool, true, not, _&&_, _||_}

@@ -1,4 +1,4 @@
--- What the lookups over one section answer, said of a laid-out table. Assumes nothing.
+-- What the lookups over one section answer, said of a laid-out table.
 use Prim.Native.Nat.{ℕ}
 use native.Mathlib.Omega.{arith}
 use mathlib.Core.Path.{_≡_, _∙_}

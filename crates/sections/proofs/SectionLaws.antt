@@ -1,4 +1,4 @@
--- What the words of a laid-out table hold: the places of its sections, and the entries that each section's words spell. Assumes nothing.
+-- What the words of a laid-out table hold: the places of its sections, and the entries that each section's words spell.
 use Prim.Native.Nat.{ℕ, zero, suc, _+_, _-_, _≤_, _<_}
 use native.Mathlib.Omega.{arith}
 use native.Mathlib.Numerals.{add-one}

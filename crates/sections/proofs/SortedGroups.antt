@@ -1,4 +1,4 @@
--- A walk over groups whose pairs may be known to be sorted. Assumes nothing.
+-- A walk over groups whose pairs may be known to be sorted.
 use Prim.Native.Nat.{ℕ, _+_, _<_}
 use mathlib.Core.Path.{_≡_}
 use mathlib.Core.Bool.{Bool, true}

@@ -1,4 +1,4 @@
--- A small table that is laid out with every flag up, as the layout pass finds it, and so with every flag down. Assumes nothing.
+-- A small table that is laid out with every flag up, as the layout pass finds it, and so with every flag down.
 use Prim.Native.Nat.{ℕ}
 use native.Mathlib.Omega.{arith}
 use mathlib.Core.Path.{_≡_, refl}

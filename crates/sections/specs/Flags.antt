@@ -10,7 +10,7 @@
 --   wholes: `wholeOf`, the first whole (whole_of);
 --   escape, quick check: `shouldEscape`, `inQuickCheck` (should_escape, in_quick_check).
 -- So it is left to show that the flags are free: what is laid out with some of them up is laid out with all of them down and no mark set, and
--- the same answers are due. Assumes nothing.
+-- the same answers are due.
 use Prim.Native.Nat.{ℕ}
 use native.Mathlib.Omega.{arith}
 use mathlib.Core.Path.{subst}

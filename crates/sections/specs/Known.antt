@@ -1,4 +1,4 @@
--- What the layout pass found of the sections. A lookup may rely on it; where a thing was not found, nothing is said. Assumes nothing.
+-- What the layout pass found of the sections. A lookup may rely on it; where a thing was not found, nothing is said.
 use Prim.Native.Nat.{ℕ, _+_}
 use mathlib.Core.Path.{_≡_}
 use mathlib.Core.Bool.{Bool, true, false}

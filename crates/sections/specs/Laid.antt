@@ -1,4 +1,4 @@
--- How the code sees a table: its words and the places of the sections among them. Assumes nothing.
+-- How the code sees a table: its words and the places of the sections among them.
 use Prim.Native.Nat.{ℕ, _+_}
 use mathlib.Core.Path.{_≡_}
 use mathlib.Core.Bool.{true, false, _&&_, cond}

@@ -1,4 +1,4 @@
--- What is seen of one section, by what the walk over it answers. Assumes nothing.
+-- What is seen of one section, by what the walk over it answers.
 use Prim.Native.Nat.{ℕ, _-_, _≤_, _<_}
 use native.Mathlib.Omega.{arith}
 use mathlib.Core.Path.{_≡_, refl, sym, _∙_}

@@ -1,4 +1,4 @@
--- What is seen of a section of records. Assumes nothing.
+-- What is seen of a section of records.
 use Prim.Native.Nat.{ℕ}
 use mathlib.Core.Path.{_≡_}
 use mathlib.Core.Bool.{true}

@@ -1,4 +1,4 @@
--- What the layout pass hands on of what it sees. Assumes nothing.
+-- What the layout pass hands on of what it sees.
 use mathlib.Core.Bool.{Bool, _&&_}
 use Rattle.sections.specs.declared.Sections.{Sections}
 use Rattle.sections.specs.declared.Sorted.{Sorted}

@@ -1,6 +1,6 @@
 -- 02, Item 12: "Without the flag 16 is not given": with no group that has a list no call answers 16, on any table. Of the name call and the label call
 -- it is said in `meaning` `Numbers`; here of every other call that has their refusals, each by its own definition: the screen form, the report, the
--- name from bytes, the name hash, the book's calls, and both lists of Item 14. Assumes nothing.
+-- name from bytes, the name hash, the book's calls, and both lists of Item 14.
 use Prim.Native.Nat.{ℕ, suc}
 use native.Mathlib.Omega.{arith}
 use mathlib.Core.Path.{_≡_, refl, sym, _∙_}

@@ -1,5 +1,5 @@
 -- 02, Item 12, over the whole verdict of a label: 16 exactly where 5 to 12 do not apply, the group found has a list, and some compound sequence of the
--- joined normal text is not in it. Every table. Assumes nothing.
+-- joined normal text is not in it. Every table.
 use Prim.Native.Nat.{ℕ, _+_, _≤_}
 use native.Mathlib.Omega.{arith}
 use mathlib.Core.Path.{_≡_, refl, sym, _∙_}

@@ -1,5 +1,5 @@
 -- 02, Item 12: the list of a group of any table: "flag 4, allowed only beside flag 2, says that the group's record ends .. in such a list: a count of
--- 0 to 64, then records (count 2 to 8, items)". So 13 is not asked of a group with a list, and "a run of over 7 marks is never listed". Assumes nothing.
+-- 0 to 64, then records (count 2 to 8, items)". So 13 is not asked of a group with a list, and "a run of over 7 marks is never listed".
 use Prim.Native.Nat.{ℕ, zero, suc, _≤_, _<_}
 use native.Mathlib.Omega.{arith}
 use mathlib.Core.Path.{_≡_, refl, sym, ap, _∙_}

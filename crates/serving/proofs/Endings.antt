@@ -1,4 +1,4 @@
--- What is written once the input has ended. Assumes nothing.
+-- What is written once the input has ended.
 use Prim.Native.Nat.{ℕ, suc, _+_, _-_, _≤_}
 use native.Mathlib.Omega.{arith}
 use native.Mathlib.Numerals.{add-one}

@@ -1,4 +1,4 @@
--- What is lent to the end of the counter program's output. Assumes nothing.
+-- What is lent to the end of the counter program's output.
 use Prim.Native.Nat.{ℕ, _+_, _≤_, _^_}
 use mathlib.Core.Path.{_≡_}
 use mathlib.Core.List.{List}

@@ -1,4 +1,4 @@
--- For each clause of each rule of the soundness check a closed table that breaks it, and sound tables beside them. Assumes nothing.
+-- For each clause of each rule of the soundness check a closed table that breaks it, and sound tables beside them.
 use Prim.Native.Nat.{ℕ, zero, suc}
 use mathlib.Core.Path.{_≡_, refl}
 use mathlib.Core.Bool.{Bool, not, cond}

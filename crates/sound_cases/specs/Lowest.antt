@@ -1,5 +1,5 @@
 -- Tables that break two rules: the lower number is answered. A layout fault is 0. A version that calls every table sound differs from the
--- check on each of these. Assumes nothing.
+-- check on each of these.
 use Prim.Native.Nat.{ℕ}
 use native.Mathlib.Omega.{arith}
 use mathlib.Core.Path.{_≡_, refl}

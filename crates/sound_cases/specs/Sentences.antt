@@ -1,4 +1,4 @@
--- Rule 6 is asked of heads and of the ends of class entries; it says the same of every codepoint. Assumes nothing.
+-- Rule 6 is asked of heads and of the ends of class entries; it says the same of every codepoint.
 use Prim.Native.Nat.{ℕ, _+_, _≤_}
 use native.Mathlib.Omega.{arith}
 use mathlib.Core.Path.{_≡_, refl, sym}

@@ -1,4 +1,4 @@
--- Laws of the check as a whole. Assumes nothing.
+-- Laws of the check as a whole.
 use Prim.Native.Nat.{ℕ, suc}
 use mathlib.Core.Path.{_≡_, refl, sym, _∙_}
 use mathlib.Core.Bool.{Bool, true, false, not, cond}

@@ -1,4 +1,4 @@
--- The rules in two parts: "the lowest number of these that is broken", of rules 1 to 5 and of rules 6 to 8. Assumes nothing.
+-- The rules in two parts: "the lowest number of these that is broken", of rules 1 to 5 and of rules 6 to 8.
 use Prim.Native.Nat.{ℕ}
 use mathlib.Core.Bool.{Bool, not, cond}
 use mathlib.Core.List.{List, [], _∷_}

@@ -1,4 +1,4 @@
--- Laws of choosing decomposition records, window by window. Assumes nothing.
+-- Laws of choosing decomposition records, window by window.
 use Prim.Native.Nat.{ℕ, zero, suc, _+_, _-_, _*_, _<_, _≤_}
 use native.Mathlib.Numerals.{add-one}
 use native.Mathlib.Omega.{arith}

@@ -1,4 +1,4 @@
--- Laws of sets that are cleared and filled, and how many records a section has. Assumes nothing.
+-- Laws of sets that are cleared and filled, and how many records a section has.
 use Prim.Native.Nat.{ℕ, zero, suc, _-_, _*_, _<_, _≤_}
 use native.Mathlib.Omega.{arith}
 use mathlib.Core.Path.{_≡_, refl, _∙_, ap}

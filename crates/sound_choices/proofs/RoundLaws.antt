@@ -1,4 +1,4 @@
--- A round, window by window: what the records replace, the jamo of syllables, and what stays. Assumes nothing.
+-- A round, window by window: what the records replace, the jamo of syllables, and what stays.
 use Prim.Native.Nat.{ℕ, zero, suc, _+_, _-_, _/_, _%_, _<_, _≤_}
 use native.Mathlib.Omega.{arith}
 use mathlib.Core.Path.{_≡_, refl, sym, _∙_, ap}

@@ -1,4 +1,4 @@
--- Walks over decomposition records that count them. Assumes nothing.
+-- Walks over decomposition records that count them.
 use Prim.Native.Nat.{ℕ, zero, suc, _+_, _*_, _<_, _≤_}
 use native.Mathlib.Numerals.{add-one}
 use native.Mathlib.Omega.{arith}

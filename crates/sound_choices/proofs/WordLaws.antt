@@ -1,4 +1,4 @@
--- Laws of the words of a set, 32 places each: what a round keeps of a whole word. Assumes nothing.
+-- Laws of the words of a set, 32 places each: what a round keeps of a whole word.
 use Prim.Native.Nat.{ℕ, zero, suc, _+_, _-_, _*_, _/_, _%_, _^_, _<_, _≤_}
 use native.Mathlib.Omega.{arith}
 use mathlib.Core.Path.{_≡_, refl, sym, _∙_, ap, ap₂}

@@ -1,4 +1,4 @@
--- Choosing decomposition records, window by window. Assumes nothing.
+-- Choosing decomposition records, window by window.
 use Prim.Native.Nat.{ℕ, _+_, _-_, _<_}
 use mathlib.Core.Path.{_≡_}
 use mathlib.Core.Bool.{Bool, not, _&&_}

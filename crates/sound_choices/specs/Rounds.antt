@@ -1,5 +1,5 @@
 -- Rounds of single replacement of many codepoints at once. Of a list of codepoints two things are kept: for a window of codepoints the set
--- of those in it, and for each round the decomposition records that replace a codepoint of the list. Assumes nothing.
+-- of those in it, and for each round the decomposition records that replace a codepoint of the list.
 use Prim.Native.Nat.{ℕ, zero, suc, _+_, _*_, _%_, _<_, _≤_}
 use mathlib.Core.Path.{_≡_}
 use mathlib.Core.Bool.{Bool, true, false, not, _&&_, cond}

@@ -1,4 +1,4 @@
--- Laws of the sections that name scalar values. Assumes nothing.
+-- Laws of the sections that name scalar values.
 use mathlib.Core.Path.{_≡_, refl, sym, ap, _∙_}
 use mathlib.Core.Bool.{Bool, true, false, _&&_}
 use Rattle.lists.specs.Lists.{all}

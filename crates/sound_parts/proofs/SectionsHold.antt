@@ -1,4 +1,4 @@
--- The records of the sections of a laid-out table. Assumes nothing.
+-- The records of the sections of a laid-out table.
 use Prim.Native.Nat.{ℕ}
 use native.Mathlib.Omega.{arith}
 use mathlib.Core.Path.{_≡_}

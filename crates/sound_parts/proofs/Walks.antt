@@ -1,4 +1,4 @@
--- Walks over the words of a section that ask something of every entry, or look for one. Assumes nothing.
+-- Walks over the words of a section that ask something of every entry, or look for one.
 use Prim.Native.Nat.{ℕ, zero, suc, _+_, _-_, _<_, _≤_}
 use native.Mathlib.Omega.{arith}
 use mathlib.Core.Path.{_≡_, refl, sym, _∙_, ap}

@@ -1,4 +1,4 @@
--- What the check asks of the words of one section, and how those words hold the records of a table. Assumes nothing.
+-- What the check asks of the words of one section, and how those words hold the records of a table.
 use Prim.Native.Nat.{ℕ, _+_, _<_, _≤_}
 use mathlib.Core.Path.{_≡_}
 use mathlib.Core.Bool.{Bool, true, _&&_}

@@ -1,4 +1,4 @@
--- Laws of what is reached after some rounds. Assumes nothing.
+-- Laws of what is reached after some rounds.
 use Prim.Native.Nat.{ℕ, zero, suc, _+_, _-_, _*_, _/_, _%_, _<_, _≤_}
 use native.Mathlib.Numerals.{add-one}
 use native.Mathlib.Omega.{arith}

@@ -1,4 +1,4 @@
--- What is reached after some rounds, window by window. Assumes nothing.
+-- What is reached after some rounds, window by window.
 use Prim.Native.Nat.{ℕ, _+_, _*_, _%_, _<_, _≤_}
 use mathlib.Core.Path.{_≡_}
 use mathlib.Core.Bool.{true, false}

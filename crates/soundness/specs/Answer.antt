@@ -1,4 +1,4 @@
--- What the answers mean: "sound" is that the words are laid out and no rule is broken, 0 that they are not laid out. Assumes nothing.
+-- What the answers mean: "sound" is that the words are laid out and no rule is broken, 0 that they are not laid out.
 use Prim.Native.Nat.{ℕ, suc, _≤_}
 use native.Mathlib.Omega.{arith}
 use mathlib.Core.Path.{_≡_, refl, sym}

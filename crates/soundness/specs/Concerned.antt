@@ -1,4 +1,4 @@
--- What rule 8 asks, kind by kind of the codepoints that it can concern. Assumes nothing.
+-- What rule 8 asks, kind by kind of the codepoints that it can concern.
 use Prim.Native.Nat.{ℕ, zero, suc, _+_, _≤_, _<_}
 use native.Mathlib.Omega.{arith}
 use mathlib.Core.Path.{_≡_, refl, sym, ap, _∙_}

@@ -1,4 +1,4 @@
--- Rules 6 and 7, on decompositions. Each has a meaning of its own on any table. Assumes nothing.
+-- Rules 6 and 7, on decompositions. Each has a meaning of its own on any table.
 use Prim.Native.Nat.{ℕ}
 use mathlib.Core.Bool.{Bool, false, not, _&&_, _||_}
 use mathlib.Core.List.{List, [], _∷_, map}

@@ -1,5 +1,5 @@
 -- Rule 8, on the quick-check set. 02, Item 11: "if it isn't empty, it holds every codepoint that isn't its own NFC and every one whose full
--- decomposition starts with the second item of a composition pair, Hangul included." Assumes nothing.
+-- decomposition starts with the second item of a composition pair, Hangul included."
 use Prim.Native.Nat.{ℕ, _+_, _-_, _*_}
 use mathlib.Core.Bool.{Bool, not, _&&_, _||_}
 use mathlib.Core.List.{List, [], _∷_, _++_, map}

@@ -1,4 +1,4 @@
--- Rule 1: "Every codepoint named, those inside pairs and triples included, is a Unicode scalar value." Assumes nothing.
+-- Rule 1: "Every codepoint named, those inside pairs and triples included, is a Unicode scalar value."
 use Prim.Native.Nat.{ℕ}
 use mathlib.Core.Bool.{Bool, _&&_, _||_}
 use mathlib.Core.List.{List, [], _++_}

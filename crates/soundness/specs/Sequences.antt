@@ -1,4 +1,4 @@
--- Rules 4 and 5, on emoji sequences. Assumes nothing.
+-- Rules 4 and 5, on emoji sequences.
 use Prim.Native.Nat.{ℕ}
 use mathlib.Core.Bool.{Bool, true, false, not, _&&_, _||_}
 use mathlib.Core.List.{List, [], _∷_, _++_, map}

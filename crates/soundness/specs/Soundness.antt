@@ -1,4 +1,4 @@
--- The soundness check. 01: "The answer is "sound", or the lowest number of these that is broken (layout fault: 0)." Assumes nothing.
+-- The soundness check. 01: "The answer is "sound", or the lowest number of these that is broken (layout fault: 0)."
 use Prim.Native.Nat.{ℕ}
 use mathlib.Core.Bool.{not}
 use mathlib.Core.List.{List, [], _∷_}

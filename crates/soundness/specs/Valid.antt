@@ -1,4 +1,4 @@
--- Rules 2 and 3. Assumes nothing.
+-- Rules 2 and 3.
 use Prim.Native.Nat.{ℕ, zero, suc, _-_}
 use mathlib.Core.Bool.{Bool, not, _&&_}
 use mathlib.Core.List.{List, [], _∷_, _++_}

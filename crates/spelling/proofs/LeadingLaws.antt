@@ -1,4 +1,4 @@
--- Laws of rule 11 over codepoints with tags beside them: what it says of the tokens, and of the walk over a work area. Assumes nothing.
+-- Laws of rule 11 over codepoints with tags beside them: what it says of the tokens, and of the walk over a work area.
 use Prim.Native.Nat.{ℕ, _+_, _<_, _≤_}
 use native.Mathlib.Omega.{arith}
 use mathlib.Core.Path.{_≡_, refl, sym, _∙_}

@@ -1,4 +1,4 @@
--- Laws of the walks over a label's spelling, for refusals 8 to 10. Assumes nothing.
+-- Laws of the walks over a label's spelling, for refusals 8 to 10.
 use Prim.Native.Nat.{ℕ, _+_, _-_, _<_, _≤_}
 use native.Mathlib.Omega.{arith}
 use mathlib.Core.Path.{_≡_, refl, sym}

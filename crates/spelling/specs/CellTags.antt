@@ -1,4 +1,4 @@
--- What rule 11 asks of codepoints and the tags beside them (0 emoji, 1 first of a text token, 2 later in one). Assumes nothing.
+-- What rule 11 asks of codepoints and the tags beside them (0 emoji, 1 first of a text token, 2 later in one).
 use Prim.Native.Nat.{ℕ}
 use mathlib.Core.Bool.{Bool, false, _&&_, _||_}
 use mathlib.Core.List.{List, [], _∷_}

@@ -1,5 +1,5 @@
 -- Refusals 8 to 11, and what makes a text ASCII. 01, "Refusal numbers" and "The rules of one label". Each definition of a refusal says that
--- it applies. Assumes nothing.
+-- it applies.
 use Prim.Native.Nat.{ℕ}
 use mathlib.Core.Bool.{Bool, false, _&&_, _||_}
 use mathlib.Core.List.{List, [], _∷_}

@@ -1,4 +1,4 @@
--- Walks over pairs and triples, four of them at a time. Assumes nothing.
+-- Walks over pairs and triples, four of them at a time.
 use Prim.Native.Nat.{ℕ, _+_, _-_, _<_}
 use native.Mathlib.Omega.{arith}
 use mathlib.Core.Path.{_≡_, refl, sym, _∙_}

@@ -1,4 +1,4 @@
--- How often a reader of records may step: any bound that is enough gives the same. Assumes nothing.
+-- How often a reader of records may step: any bound that is enough gives the same.
 use Prim.Native.Nat.{ℕ, zero, suc, _≤_}
 use native.Mathlib.Omega.{arith}
 use mathlib.Core.Path.{_≡_, refl, ap}

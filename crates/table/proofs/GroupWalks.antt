@@ -1,4 +1,4 @@
--- Laws of a walk over the groups of a part. Assumes nothing.
+-- Laws of a walk over the groups of a part.
 use Prim.Native.Nat.{ℕ, _+_, _<_, _≤_}
 use native.Mathlib.Omega.{arith}
 use mathlib.Core.Path.{_≡_, ap}

@@ -1,4 +1,4 @@
--- Laws of the walk that measures the list of a group. Assumes nothing.
+-- Laws of the walk that measures the list of a group.
 use Prim.Native.Nat.{ℕ, zero, suc, _+_, _-_, _<_, _≤_}
 use native.Mathlib.Omega.{arith}
 use mathlib.Core.Path.{_≡_, refl, sym, _∙_, ap}

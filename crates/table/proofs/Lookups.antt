@@ -1,4 +1,4 @@
--- What the lookups over a section's words have to do with those in a table. Assumes nothing.
+-- What the lookups over a section's words have to do with those in a table.
 use Prim.Native.Nat.{ℕ, zero, suc, _+_, _-_, _<_, _≤_}
 use native.Mathlib.Numerals.{add-one, unary-clauses}
 use native.Mathlib.Omega.{arith}

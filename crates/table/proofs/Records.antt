@@ -1,4 +1,4 @@
--- A walk over the records of a section: what stands at a place where words are left, and that none are left where no record is. Assumes nothing.
+-- A walk over the records of a section: what stands at a place where words are left, and that none are left where no record is.
 use Prim.Native.Nat.{ℕ, zero, suc, _+_, _-_, _<_, _≤_}
 use native.Mathlib.Omega.{arith}
 use mathlib.Core.Path.{_≡_, refl, sym, _∙_, ap}

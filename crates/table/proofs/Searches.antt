@@ -1,4 +1,4 @@
--- Searches for a head and for a whole, and what their answers say. Assumes nothing.
+-- Searches for a head and for a whole, and what their answers say.
 use Prim.Native.Nat.{ℕ, zero, suc, _+_, _-_, _<_, _≤_}
 use native.Mathlib.Omega.{arith}
 use mathlib.Core.Path.{_≡_, refl, sym, _∙_, ap}

@@ -1,4 +1,4 @@
--- The groups as the code walks them: over the words of their section. Assumes nothing.
+-- The groups as the code walks them: over the words of their section.
 use Prim.Native.Nat.{ℕ, _+_, _-_, _≤_}
 use mathlib.Core.Path.{_≡_}
 use mathlib.Core.Bool.{Bool, true, cond}

@@ -1,4 +1,4 @@
--- From words to a table, or nothing where the words have a layout fault. 01, "The table", second paragraph; 02, Items 9, 11 and 12. Assumes nothing.
+-- From words to a table, or nothing where the words have a layout fault. 01, "The table", second paragraph; 02, Items 9, 11 and 12.
 use Prim.Native.Nat.{ℕ, zero, suc, _/_, _%_}
 use mathlib.Core.Bool.{Bool, true, false, not, _&&_, _||_}
 use mathlib.Core.List.{List, [], _∷_}

@@ -1,4 +1,4 @@
--- Lookups in a table: "Where entries overlap, the first one counts." Assumes nothing.
+-- Lookups in a table: "Where entries overlap, the first one counts."
 use Prim.Native.Nat.{ℕ}
 use mathlib.Core.Bool.{Bool, _&&_}
 use mathlib.Core.List.{List}

@@ -1,4 +1,4 @@
--- Lookups over the words of one section, without a table in between, and how a walk over its records stands. Assumes nothing.
+-- Lookups over the words of one section, without a table in between, and how a walk over its records stands.
 use Prim.Native.Nat.{ℕ, _+_, _≤_, _<_}
 use mathlib.Core.Path.{_≡_}
 use mathlib.Core.Bool.{Bool, true, false, _&&_, _||_, cond}

@@ -1,4 +1,4 @@
--- A part of the words of a table, by its place. Assumes nothing.
+-- A part of the words of a table, by its place.
 use Prim.Native.Nat.{ℕ, _+_, _-_, _≤_}
 use mathlib.Core.List.{List}
 use mathlib.Core.Option.{Option, none, some}

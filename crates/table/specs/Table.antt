@@ -1,4 +1,4 @@
--- A name table as a record of fourteen lists. 01, "The table", second paragraph; 02, Items 9, 11 and 12. Assumes nothing.
+-- A name table as a record of fourteen lists. 01, "The table", second paragraph; 02, Items 9, 11 and 12.
 use Prim.Native.Nat.{ℕ}
 use mathlib.Core.Bool.{Bool}
 use mathlib.Core.List.{List}

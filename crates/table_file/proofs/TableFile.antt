@@ -1,4 +1,4 @@
--- The words of the table, from what unpacking its file promises. Assumes nothing.
+-- The words of the table, from what unpacking its file promises.
 use Prim.Native.Nat.{ℕ, suc, _+_, _*_, _≤_, _<_}
 use native.Mathlib.Omega.{arith}
 use mathlib.Core.Path.{_≡_, refl, ap}

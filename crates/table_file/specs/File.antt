@@ -1,4 +1,4 @@
--- The words of the table of the counter program, by the bytes of its file. 01, "Names at the counter". Assumes nothing.
+-- The words of the table of the counter program, by the bytes of its file. 01, "Names at the counter".
 use Prim.Native.Nat.{ℕ, _/_}
 use mathlib.Core.Bool.{cond}
 use mathlib.Core.List.{List}

@@ -1,4 +1,4 @@
--- What the function of this crate promises. Assumes nothing.
+-- What the function of this crate promises.
 use Prim.Native.Nat.{ℕ, _-_, _≤_}
 use mathlib.Core.Path.{_≡_}
 use mathlib.Core.List.{List}

@@ -1,4 +1,4 @@
--- Taking a piece of input, line by line. Assumes nothing.
+-- Taking a piece of input, line by line.
 use Prim.Native.Nat.{ℕ, _+_, _-_, _≤_}
 use native.Mathlib.Omega.{arith}
 use mathlib.Core.Path.{_≡_, refl, sym, ap, subst, _∙_}

@@ -1,4 +1,4 @@
--- Tests that hold together, and those that one of two makes hold. Assumes nothing.
+-- Tests that hold together, and those that one of two makes hold.
 use mathlib.Core.Path.{_≡_, refl}
 use mathlib.Core.Bool.{Bool, true, false, _&&_, _||_, false≢true}
 

@@ -1,4 +1,4 @@
--- What the tests on Hangul say of a codepoint's range. Assumes nothing.
+-- What the tests on Hangul say of a codepoint's range.
 use Prim.Native.Nat.{ℕ, _≤_, _<_, _-_, _%_}
 use mathlib.Core.Path.{_≡_}
 use mathlib.Core.Bool.{true, _&&_}

@@ -1,4 +1,4 @@
--- What the code that finds a combining class answers. Assumes nothing.
+-- What the code that finds a combining class answers.
 use Prim.Native.Nat.{ℕ, _≤_}
 use mathlib.Core.Path.{_≡_}
 use Rattle.table.specs.Table.{Table}

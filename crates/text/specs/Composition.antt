@@ -1,4 +1,4 @@
--- Canonical composition (UAX 15; Unicode Standard D117) and NFC. Assumes nothing.
+-- Canonical composition (UAX 15; Unicode Standard D117) and NFC.
 use Prim.Native.Nat.{ℕ}
 use mathlib.Core.Bool.{Bool, true, false, not, _&&_, cond}
 use mathlib.Core.List.{List, [], _∷_, _++_}

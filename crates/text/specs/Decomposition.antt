@@ -1,6 +1,5 @@
 -- Combining classes and full decomposition. 01, "What the unit hands over" (Hangul "before any table entry"), "The table"
 -- (classes) and "The rules of one label" ("Full decomposition is four rounds of single replacement, then canonical ordering").
--- Assumes nothing.
 use Prim.Native.Nat.{ℕ, _-_}
 use mathlib.Core.Bool.{_||_, cond}
 use mathlib.Core.List.{List, [], _∷_}

@@ -1,5 +1,5 @@
 -- Hangul by the Unicode Standard's arithmetic (section 3.12). 01: "a syllable goes to all its jamo at once"; "Jamo here are
--- 1100 to 1112, 1161 to 1175 and 11A8 to 11C2." Assumes nothing.
+-- 1100 to 1112, 1161 to 1175 and 11A8 to 11C2."
 use Prim.Native.Nat.{ℕ, _+_, _-_, _*_, _/_, _%_}
 use mathlib.Core.Bool.{Bool, _&&_, _||_, cond}
 use mathlib.Core.List.{List, [], _∷_}

@@ -1,4 +1,4 @@
--- The quick check for NFC (UAX 15). 02, Item 11: "text that needs no NFC is left as it is". Assumes nothing.
+-- The quick check for NFC (UAX 15). 02, Item 11: "text that needs no NFC is left as it is".
 use Prim.Native.Nat.{ℕ}
 use mathlib.Core.Path.{_≡_}
 use mathlib.Core.Bool.{Bool, true, false, not, _&&_, _||_}

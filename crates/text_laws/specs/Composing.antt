@@ -1,4 +1,4 @@
--- Composition on any table: what it keeps, and its length. Assumes nothing.
+-- Composition on any table: what it keeps, and its length.
 use Prim.Native.Nat.{ℕ, suc, _+_, _≤_, _<_}
 use native.Mathlib.Omega.{arith}
 use mathlib.Core.Path.{_≡_, refl, _∙_}

@@ -1,5 +1,5 @@
 -- The laws of decomposition, canonical ordering, composition and NFC that hold on every table, as they are used above. `Shaped` is what
--- every table that was read from words keeps to. Proofs are in the files beside this one. Assumes nothing.
+-- every table that was read from words keeps to. Proofs are in the files beside this one.
 use Prim.Native.Nat.{ℕ, _≤_, _<_}
 use native.Mathlib.Omega.{arith}
 use mathlib.Core.Path.{_≡_}

@@ -1,5 +1,5 @@
 -- What composition pairs are, on any table: a pair is a Hangul pair or has a record, its result is a starter, and its second item is one
--- of `isSecond`. Assumes nothing.
+-- of `isSecond`.
 use Prim.Native.Nat.{ℕ}
 use mathlib.Core.Path.{_≡_, refl, sym, _∙_}
 use mathlib.Core.Bool.{Bool, true, false, not, _&&_, _||_, false≢true}

@@ -1,4 +1,4 @@
--- What every table that was read from words keeps to: from 1 to 4 items in a decomposition, classes of at most 255. Assumes nothing.
+-- What every table that was read from words keeps to: from 1 to 4 items in a decomposition, classes of at most 255.
 use Prim.Native.Nat.{ℕ, zero, suc, _≤_}
 use native.Mathlib.Omega.{arith}
 use mathlib.Core.Path.{_≡_, refl, sym, _∙_}

@@ -1,4 +1,4 @@
--- Decomposition before ordering, on any table: rounds go codepoint by codepoint, and how long they make a text. Assumes nothing.
+-- Decomposition before ordering, on any table: rounds go codepoint by codepoint, and how long they make a text.
 use Prim.Native.Nat.{ℕ, _-_, _*_, _%_, _≤_}
 use native.Mathlib.Omega.{arith}
 use mathlib.Core.Path.{_≡_, refl, sym, ap, _∙_}

@@ -1,4 +1,4 @@
--- Hangul composition and decomposition undo each other. Assumes nothing.
+-- Hangul composition and decomposition undo each other.
 use Prim.Native.Nat.{ℕ, _+_, _-_, _*_, _/_, _%_, _≤_, _<_}
 use native.Mathlib.Omega.{arith}
 use mathlib.Core.Path.{_≡_, refl, ap, _∙_}

@@ -1,4 +1,4 @@
--- What stands at one place of a label. Assumes nothing.
+-- What stands at one place of a label.
 use Prim.Native.Nat.{ℕ, _-_, _≤_}
 use native.Mathlib.Omega.{arith}
 use mathlib.Core.Path.{_≡_, refl, sym, ap, _∙_, subst}

@@ -1,4 +1,4 @@
--- The steps of a token, from the left: what the token has come to, and where it ends. Assumes nothing.
+-- The steps of a token, from the left: what the token has come to, and where it ends.
 use Prim.Native.Nat.{ℕ, suc, _+_, _-_, _≤_, _<_}
 use native.Mathlib.Omega.{arith}
 use native.Mathlib.Numerals.{add-one}

@@ -1,4 +1,4 @@
--- What stands at a place of a label, and where a token ends. Assumes nothing.
+-- What stands at a place of a label, and where a token ends.
 use Prim.Native.Nat.{ℕ}
 use mathlib.Core.Path.{_≡_}
 use mathlib.Core.List.{List, [], _∷_}

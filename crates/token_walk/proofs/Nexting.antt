@@ -1,4 +1,4 @@
--- The token of its own part of the input, scanned and put into normal form; and what is left behind it. Assumes nothing.
+-- The token of its own part of the input, scanned and put into normal form; and what is left behind it.
 use Prim.Native.Nat.{ℕ, suc, _+_, _≤_, _<_}
 use native.Mathlib.Omega.{arith}
 use mathlib.Core.Path.{_≡_, refl, sym, ap, _∙_}

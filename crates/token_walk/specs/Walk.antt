@@ -1,4 +1,4 @@
--- What the walk over the tokens of a label answers. Assumes nothing.
+-- What the walk over the tokens of a label answers.
 use Prim.Native.Nat.{ℕ, _≤_}
 use mathlib.Core.Path.{_≡_}
 use mathlib.Core.List.{List}

@@ -1,4 +1,4 @@
--- The step at one codepoint, by the answers of the lookups. Assumes nothing.
+-- The step at one codepoint, by the answers of the lookups.
 use Prim.Native.Nat.{ℕ}
 use native.Mathlib.Omega.{arith}
 use mathlib.Core.Path.{_≡_, refl, sym, _∙_}

@@ -1,5 +1,5 @@
 -- How tokens stand in the work area: their codepoints in its first mostWorked words, and beside them, in the next mostWorked, a tag for
--- each: 0 for emoji, 1 for the first codepoint of a text token, 2 for a later one. Assumes nothing.
+-- each: 0 for emoji, 1 for the first codepoint of a text token, 2 for a later one.
 use Prim.Native.Nat.{ℕ, _≤_}
 use mathlib.Core.Path.{_≡_}
 use mathlib.Core.List.{List, [], _∷_, map}

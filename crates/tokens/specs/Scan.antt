@@ -1,4 +1,4 @@
--- The scan of a label into steps. 01, "The rules of one label", "Tokens". Assumes nothing.
+-- The scan of a label into steps. 01, "The rules of one label", "Tokens".
 use Prim.Native.Nat.{ℕ, zero, suc, pred, _+_}
 use mathlib.Core.Bool.{cond}
 use mathlib.Core.List.{List, [], _∷_}

@@ -1,4 +1,4 @@
--- What the step at one codepoint answers. Assumes nothing.
+-- What the step at one codepoint answers.
 use Prim.Native.Nat.{ℕ, _+_, _≤_, _<_}
 use mathlib.Core.Path.{_≡_}
 use mathlib.Core.List.{List, [], _∷_}

@@ -1,4 +1,4 @@
--- Tokens. 01, "The rules of one label", "Tokens", and "Refusal numbers", the worked length. Assumes nothing.
+-- Tokens. 01, "The rules of one label", "Tokens", and "Refusal numbers", the worked length.
 use Prim.Native.Nat.{ℕ, _+_}
 use mathlib.Core.Bool.{Bool, true, false}
 use mathlib.Core.List.{List, [], _∷_, _++_, map}

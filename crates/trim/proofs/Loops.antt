@@ -1,4 +1,4 @@
--- The turns of the two loops, and what the part behind the blanks at the front is, as it is lent. Assumes nothing.
+-- The turns of the two loops, and what the part behind the blanks at the front is, as it is lent.
 use Prim.Native.Nat.{ℕ, zero, suc, _+_, _-_, _<_, _≤_}
 use native.Mathlib.Numerals.{add-one}
 use native.Mathlib.Omega.{arith}

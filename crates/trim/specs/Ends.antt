@@ -1,4 +1,4 @@
--- Laws of taking elements off the ends of a list while they pass a test. Assumes nothing.
+-- Laws of taking elements off the ends of a list while they pass a test.
 use Prim.Native.Nat.{suc, _≤_}
 use native.Mathlib.Omega.{arith}
 use mathlib.Core.Path.{_≡_, refl, ap}

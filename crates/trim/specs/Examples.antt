@@ -1,4 +1,4 @@
--- Inputs and the parts that remain, and where they start. Assumes nothing.
+-- Inputs and the parts that remain, and where they start.
 use Prim.Native.Nat.{ℕ}
 use mathlib.Core.Path.{_≡_, refl}
 use mathlib.Core.List.{List, [], _∷_, map}

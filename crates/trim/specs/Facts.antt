@@ -1,5 +1,5 @@
 -- What holds of the part that remains: the middle is untouched, what was taken off is blanks, nothing is left to trim, and it is the
--- input's from `startOf` on. Assumes nothing.
+-- input's from `startOf` on.
 use Prim.Native.Nat.{ℕ, _≤_}
 use native.Mathlib.Omega.{arith}
 use mathlib.Core.Path.{_≡_, refl, sym, ap, _∙_}

@@ -1,5 +1,5 @@
 -- Trimmed input (02, Item 4): "Give back the part of the caller's slice that remains when 9, A, D and 20 are taken off both ends, and
--- nothing off the middle. An input of blanks gives an empty part." Assumes nothing.
+-- nothing off the middle. An input of blanks gives an empty part."
 use Prim.Native.Nat.{ℕ}
 use mathlib.Core.Path.{_≡_}
 use mathlib.Core.Bool.{Bool}

@@ -1,4 +1,4 @@
--- The ends of the unpack call, each from what `inspect` said of the file. Assumes nothing.
+-- The ends of the unpack call, each from what `inspect` said of the file.
 use Prim.Native.Nat.{ℕ, _+_, _-_, _*_, _≤_, _<_}
 use native.Mathlib.Omega.{arith}
 use mathlib.Core.Path.{_≡_, subst}

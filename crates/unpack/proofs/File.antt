@@ -1,4 +1,4 @@
--- What a file's words are, told by its length and its first five bytes. Assumes nothing.
+-- What a file's words are, told by its length and its first five bytes.
 use Prim.Native.Nat.{ℕ, suc, _+_, _*_, _≤_, _<_}
 use native.Mathlib.Omega.{arith}
 use mathlib.Core.Path.{_≡_, refl, subst}

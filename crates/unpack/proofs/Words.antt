@@ -1,4 +1,4 @@
--- The words of a run of bytes: how many there are, and one more of them. Assumes nothing.
+-- The words of a run of bytes: how many there are, and one more of them.
 use Prim.Native.Nat.{ℕ, zero, suc, _+_, _*_, _≤_, _<_}
 use native.Mathlib.Omega.{arith}
 use mathlib.Core.Path.{_≡_, refl, ap}

@@ -1,5 +1,5 @@
 -- Wrong programs that the definition of the unpack call rules out, each on an input that is named. A program is seen as what it
--- answers, and what it leaves in the buffer, for a file and a buffer. Assumes nothing.
+-- answers, and what it leaves in the buffer, for a file and a buffer.
 use Prim.Native.Nat.{ℕ, suc}
 use native.Mathlib.Omega.{arith}
 use mathlib.Core.Path.{_≡_, sym, ap, _∙_}

@@ -1,4 +1,4 @@
--- Unpacking a table file. 01, "The table", first paragraph; 02, Items 9, 11 and 12. Assumes nothing.
+-- Unpacking a table file. 01, "The table", first paragraph; 02, Items 9, 11 and 12.
 use Prim.Native.Nat.{ℕ, _+_, _*_}
 use mathlib.Core.Bool.{cond}
 use mathlib.Core.List.{List, [], _∷_, _++_}

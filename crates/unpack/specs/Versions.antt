@@ -1,5 +1,5 @@
 -- 02, Item 12: "Files that use it have version 4 (unpacked like 3)": a file of version 4 gives the words of the file of version 3 with the same bytes
--- behind the version, and the same refusals. Assumes nothing.
+-- behind the version, and the same refusals.
 use Prim.Native.Nat.{ℕ}
 use mathlib.Core.Path.{_≡_, refl}
 use mathlib.Core.List.{List, _∷_}

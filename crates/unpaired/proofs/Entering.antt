@@ -1,4 +1,4 @@
--- Laws of making the index, and of asking it. Assumes nothing.
+-- Laws of making the index, and of asking it.
 use Prim.Native.Nat.{ℕ, zero, suc, _+_, _*_, _/_, _%_, _≤_, _<_}
 use native.Mathlib.Omega.{arith}
 use mathlib.Core.Path.{_≡_, refl, sym, ap, subst, _∙_}

@@ -1,4 +1,4 @@
--- Laws of the test of a composition pair, and of the set of the records that are none. Assumes nothing.
+-- Laws of the test of a composition pair, and of the set of the records that are none.
 use Prim.Native.Nat.{ℕ, _+_, _-_, _*_, _/_, _≤_, _<_}
 use native.Mathlib.Omega.{arith}
 use mathlib.Core.Path.{_≡_, refl, sym, _∙_, ap}

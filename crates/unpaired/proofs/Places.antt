@@ -1,4 +1,4 @@
--- Laws of records by their places among the words of a section. Assumes nothing.
+-- Laws of records by their places among the words of a section.
 use Prim.Native.Nat.{ℕ, _+_, _-_, _*_, _/_, _≤_, _<_}
 use native.Mathlib.Omega.{arith}
 use mathlib.Core.Path.{_≡_, refl, ap, _∙_}

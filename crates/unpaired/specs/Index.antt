@@ -1,5 +1,5 @@
 -- An index of the decompositions of two items: for a pair of codepoints, where the records stand that may have it as items. It takes bits
--- and words of the set that a call lends. Assumes nothing.
+-- and words of the set that a call lends.
 use Prim.Native.Nat.{ℕ, _+_, _*_, _/_, _%_, _≤_, _<_}
 use mathlib.Core.Path.{_≡_}
 use mathlib.Core.Logic.{_⊎_}

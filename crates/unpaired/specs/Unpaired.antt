@@ -1,5 +1,5 @@
 -- What a call found of its table: a bit for each record that is no composition pair, that rule 8 holds, and an index of the records; and what
--- the functions that keep them answer. Assumes nothing.
+-- the functions that keep them answer.
 use Prim.Native.Nat.{ℕ, _+_, _*_, _/_, _<_}
 use mathlib.Core.Path.{_≡_}
 use mathlib.Core.Bool.{Bool, true, false, not, _&&_, cond}

@@ -1,4 +1,4 @@
--- The ends of the two calls, from what stands at the front before 31 is judged. Assumes nothing.
+-- The ends of the two calls, from what stands at the front before 31 is judged.
 use Prim.Native.Nat.{ℕ, _-_, _<_, _≤_}
 use native.Mathlib.Omega.{arith}
 use mathlib.Core.Path.{_≡_, refl, ap, subst, _∙_}

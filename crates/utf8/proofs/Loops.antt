@@ -1,4 +1,4 @@
--- The turns of the two loops: what was read or written so far, and what is left. Assumes nothing.
+-- The turns of the two loops: what was read or written so far, and what is left.
 use Prim.Native.Nat.{ℕ, suc, _+_, _-_, _*_, _<_, _≤_}
 use native.Mathlib.Numerals.{add-one}
 use native.Mathlib.Omega.{arith}

@@ -1,5 +1,5 @@
 -- "Either way round gives back what went in", over two calls: what one call gave, without the zeros behind it, is handed to the other, which has
--- room for it. Assumes nothing.
+-- room for it.
 use Prim.Native.Nat.{ℕ, _≤_}
 use native.Mathlib.Omega.{arith}
 use mathlib.Core.Path.{_≡_, refl}

@@ -1,4 +1,4 @@
--- What a caller learns from an answer of the reader or of the writer. Assumes nothing.
+-- What a caller learns from an answer of the reader or of the writer.
 use Prim.Native.Nat.{ℕ, _≤_, _<_}
 use native.Mathlib.Omega.{arith}
 use mathlib.Core.Path.{_≡_, refl, sym, ap, _∙_}

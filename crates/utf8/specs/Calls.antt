@@ -1,4 +1,4 @@
--- The two calls. 02, Item 2: "no room is 31, after 30"; 4 comes "before 31". Assumes nothing.
+-- The two calls. 02, Item 2: "no room is 31, after 30"; 4 comes "before 31".
 use Prim.Native.Nat.{ℕ}
 use mathlib.Core.Bool.{cond}
 use mathlib.Core.List.{List}

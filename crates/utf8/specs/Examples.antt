@@ -1,4 +1,4 @@
--- Byte strings and what is read, each kind of fault by its name; and codepoints and what is written. Assumes nothing.
+-- Byte strings and what is read, each kind of fault by its name; and codepoints and what is written.
 use Prim.Native.Nat.{ℕ}
 use mathlib.Core.Path.{_≡_, refl}
 use mathlib.Core.List.{List, [], _∷_, map}

@@ -1,4 +1,4 @@
--- What the functions of this crate promise, in the terms of the scheme and of Calls.antt. Assumes nothing.
+-- What the functions of this crate promise, in the terms of the scheme and of Calls.antt.
 use Prim.Native.Nat.{ℕ}
 use mathlib.Core.Path.{_≡_}
 use mathlib.Core.List.{List}

@@ -1,4 +1,4 @@
--- What the lead and the tails of a sequence say of the scalar value whose octets start the rest, for each length mark. Assumes nothing.
+-- What the lead and the tails of a sequence say of the scalar value whose octets start the rest, for each length mark.
 use Prim.Native.Nat.{ℕ, zero, suc, _+_, _*_, _/_, _%_, _<_, _≤_}
 use native.Mathlib.Omega.{arith}
 use mathlib.Core.Path.{_≡_, sym, ap, _∙_}

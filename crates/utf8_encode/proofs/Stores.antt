@@ -1,4 +1,4 @@
--- Elements stored one behind the other, as far as there is room. Assumes nothing.
+-- Elements stored one behind the other, as far as there is room.
 use Prim.Native.Nat.{ℕ, _+_, _/_, _<_, _≤_}
 use native.Mathlib.Numerals.{add-one}
 use native.Mathlib.Omega.{arith}

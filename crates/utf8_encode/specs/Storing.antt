@@ -1,4 +1,4 @@
--- What the functions of this crate promise: elements put behind what was done, as far as there is room. Assumes nothing.
+-- What the functions of this crate promise: elements put behind what was done, as far as there is room.
 use Prim.Native.Nat.{ℕ, _+_, _≤_}
 use mathlib.Core.Path.{_≡_}
 use mathlib.Core.List.{List, [], _∷_, _++_}

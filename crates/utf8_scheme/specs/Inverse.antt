@@ -1,5 +1,5 @@
 -- Reading is the only inverse of the table of RFC 3629: bytes start with the octets of at most one scalar value, and that is the one that
--- `first` finds. Assumes nothing.
+-- `first` finds.
 use Prim.Native.Nat.{ℕ, zero, suc, _+_, _*_, _/_, _%_, _<_, _≤_}
 use native.Mathlib.Omega.{arith}
 use mathlib.Core.Path.{_≡_, refl, sym, ap, _∙_}

@@ -1,4 +1,4 @@
--- How reading goes on: past a sequence that starts the rest, or no further. Assumes nothing.
+-- How reading goes on: past a sequence that starts the rest, or no further.
 use Prim.Native.Nat.{ℕ, zero, suc, _+_, _-_, _≤_}
 use native.Mathlib.Omega.{arith}
 use mathlib.Core.Path.{_≡_, refl, ap, _∙_}

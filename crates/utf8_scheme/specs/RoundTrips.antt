@@ -1,5 +1,5 @@
 -- "Either way round gives back what went in." Every byte string that is read is the encoding of exactly one list of codepoints, and where
--- one is refused, what stands before the place is an encoding and no sequence starts there. Assumes nothing.
+-- one is refused, what stands before the place is an encoding and no sequence starts there.
 use Prim.Native.Nat.{ℕ, zero, suc, _+_, _-_, _≤_}
 use native.Mathlib.Omega.{arith}
 use mathlib.Core.Path.{_≡_, refl, sym, ap, _∙_}

@@ -1,5 +1,4 @@
 -- What one step of the walk over a section tells: the section is well formed where a record comes next and the rest behind it is.
--- Assumes nothing.
 use Prim.Native.Nat.{ℕ, suc, _+_, _-_, _≤_, _<_}
 use native.Mathlib.Omega.{arith}
 use native.Mathlib.Numerals.{add-one}

@@ -1,4 +1,4 @@
--- How the layout pass walks the wholes: the size of the one that comes next. Assumes nothing.
+-- How the layout pass walks the wholes: the size of the one that comes next.
 use Prim.Native.Nat.{ℕ, _+_}
 use mathlib.Core.Bool.{Bool, cond}
 use mathlib.Core.List.{List}

@@ -1,4 +1,4 @@
--- `is_barred`: the setting is off, or the kind decides. Assumes nothing.
+-- `is_barred`: the setting is off, or the kind decides.
 use borrow.Author.Needs.{needs}
 use Rattle.answers.proofs.Barring.{barred-off, barred-emoji, barred-ascii, barred-group}
 use Rattle.answers.proofs.is_barred.Statement.{statement}

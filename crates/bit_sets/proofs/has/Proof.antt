@@ -1,4 +1,4 @@
--- `bit_sets::has` meets its contract: a shift and a remainder read the bit. Assumes nothing.
+-- `bit_sets::has` meets its contract: a shift and a remainder read the bit.
 use native.Mathlib.Omega.{arith}
 use Rattle.bit_sets.proofs.PutLaws.{has-shifted}
 use borrow.Author.Needs.{needs}

@@ -1,4 +1,4 @@
--- `bit_sets::put` meets its contract: the bit of d is set, and no other changes. Assumes nothing.
+-- `bit_sets::put` meets its contract: the bit of d is set, and no other changes.
 use native.Mathlib.Omega.{arith}
 use Rattle.bit_sets.proofs.PutLaws.{put-one}
 use borrow.Author.Needs.{needs}

@@ -1,4 +1,4 @@
--- `bit_sets::put_point` meets its contract. Assumes nothing.
+-- `bit_sets::put_point` meets its contract.
 use native.Mathlib.Omega.{arith}
 use Rattle.bit_sets.proofs.PutLaws.{put-none, put-same, point-place, point-before, point-behind}
 use borrow.Author.Needs.{needs}

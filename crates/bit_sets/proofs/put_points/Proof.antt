@@ -1,4 +1,4 @@
--- `bit_sets::put_points` meets its contract, item by item. Assumes nothing.
+-- `bit_sets::put_points` meets its contract, item by item.
 use Prim.Native.Nat.{ℕ, _+_, _-_}
 use mathlib.Core.Path.{_∙_}
 use lib.ListN.{getD, drop-of-length-le, length, drop}

@@ -1,4 +1,4 @@
--- `book_fields`: the values of each case. Assumes nothing.
+-- `book_fields`: the values of each case.
 use mathlib.Core.Path.{sym, ap}
 use borrow.Author.Needs.{needs}
 use Rattle.book_answers.specs.Promise.{bookValues}

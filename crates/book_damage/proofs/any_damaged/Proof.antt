@@ -1,4 +1,4 @@
--- `any_damaged`: none of the first i slots is damaged. Assumes nothing.
+-- `any_damaged`: none of the first i slots is damaged.
 use Prim.Native.Nat.{_-_}
 use native.Mathlib.Omega.{arith}
 use denote.Ref.{now}

@@ -1,4 +1,4 @@
--- `is_damaged`: the two kinds of damage, one after the other. Assumes nothing.
+-- `is_damaged`: the two kinds of damage, one after the other.
 use mathlib.Core.Path.{sym, _∙_}
 use borrow.Author.Needs.{needs}
 use Rattle.book_damage.proofs.Damages.{either-damage, last-damage}

@@ -1,4 +1,4 @@
--- `name_twice`: none of the first i slots has a name that stands again behind it. Assumes nothing.
+-- `name_twice`: none of the first i slots has a name that stands again behind it.
 use Prim.Native.Nat.{_-_}
 use native.Mathlib.Omega.{arith}
 use denote.Ref.{now}

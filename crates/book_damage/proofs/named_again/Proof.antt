@@ -1,4 +1,4 @@
--- `named_again`: the slots behind the first are searched for its name. Assumes nothing.
+-- `named_again`: the slots behind the first are searched for its name.
 use Prim.Native.Nat.{_≤_}
 use native.Mathlib.Omega.{arith}
 use borrow.Author.Needs.{needs}

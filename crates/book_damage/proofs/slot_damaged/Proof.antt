@@ -1,4 +1,4 @@
--- `slot_damaged`: each return is one end of the tests. Assumes nothing.
+-- `slot_damaged`: each return is one end of the tests.
 use native.Mathlib.Omega.{arith}
 use denote.Ref.{now}
 use borrow.Author.Needs.{needs}

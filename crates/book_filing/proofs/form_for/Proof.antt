@@ -1,4 +1,4 @@
--- `form_for`: 40 and 41, then the form. Assumes nothing.
+-- `form_for`: 40 and 41, then the form.
 use denote.Ref.{now}
 use borrow.Author.Needs.{needs}
 use Rattle.book_filing.proofs.FormLaws.{other-size-files, damaged-files, whole-files}

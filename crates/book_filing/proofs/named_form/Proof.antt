@@ -1,4 +1,4 @@
--- `named_form`: what the name call answered, then 42 and 43. Assumes nothing.
+-- `named_form`: what the name call answered, then 42 and 43.
 use native.Mathlib.Omega.{arith}
 use denote.Ref.{now}
 use borrow.Author.Needs.{needs}

@@ -1,4 +1,4 @@
--- `file_form`: 42, 43, or the form. Assumes nothing.
+-- `file_form`: 42, 43, or the form.
 use denote.Ref.{now}
 use Rattle.book_forms.proofs.FileableLaws.{empty-form, long-form, form-stands}
 use Rattle.book_forms.proofs.file_form.Statement.{statement}

@@ -1,4 +1,4 @@
--- `open`: 40, 41, or the slots. Assumes nothing.
+-- `open`: 40, 41, or the slots.
 use denote.Ref.{now}
 use borrow.Author.Needs.{needs}
 use Rattle.book_forms.proofs.OpenLaws.{other-size, is-damaged, is-whole}

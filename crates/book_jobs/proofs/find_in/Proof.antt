@@ -1,4 +1,4 @@
--- `find_in`: the account of the slot, or zeros. Assumes nothing.
+-- `find_in`: the account of the slot, or zeros.
 use mathlib.Core.Path.{sym, ap, _∙_}
 use borrow.Author.Needs.{needs}
 use Rattle.book_slots.specs.Walks.{placeIs}

@@ -1,4 +1,4 @@
--- `forget_in`: the slot is cleared, or there is none. Assumes nothing.
+-- `forget_in`: the slot is cleared, or there is none.
 use mathlib.Core.Path.{sym, ap, _∙_}
 use borrow.Author.Needs.{needs}
 use Rattle.book_slots.specs.Walks.{placeIs}

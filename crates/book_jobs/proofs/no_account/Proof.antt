@@ -1,4 +1,4 @@
--- `no_account`: eight zeros. Assumes nothing.
+-- `no_account`: eight zeros.
 use mathlib.Core.Path.{refl}
 use Rattle.book_answers.specs.Calls.{noAccount}
 use Rattle.book_jobs.proofs.no_account.Statement.{statement}

@@ -1,4 +1,4 @@
--- `save_in`: the slot is written, or there is none. Assumes nothing.
+-- `save_in`: the slot is written, or there is none.
 use mathlib.Core.Path.{sym, ap, _∙_}
 use borrow.Author.Needs.{needs}
 use Rattle.book_slots.specs.Walks.{placeIs}

@@ -1,4 +1,4 @@
--- `account_at`: the words of the account are copied. Assumes nothing.
+-- `account_at`: the words of the account are copied.
 use mathlib.Core.Path.{refl}
 use denote.Ref.{now}
 use borrow.Author.Needs.{needs}

@@ -1,4 +1,4 @@
--- `clear_at`: the words of one slot are cleared. Assumes nothing.
+-- `clear_at`: the words of one slot are cleared.
 use denote.Ref.{now}
 use borrow.Author.Needs.{needs}
 use Rattle.book_slots.specs.Book.{emptySlot}

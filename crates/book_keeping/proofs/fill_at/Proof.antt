@@ -1,4 +1,4 @@
--- `fill_at`: the words of one slot are written. Assumes nothing.
+-- `fill_at`: the words of one slot are written.
 use denote.Ref.{now}
 use borrow.Author.Needs.{needs}
 use Rattle.book_keeping.proofs.Writing.{put-at}

@@ -1,4 +1,4 @@
--- `fill_slot`: the form, then the account. Assumes nothing.
+-- `fill_slot`: the form, then the account.
 use native.Mathlib.Omega.{arith}
 use lib.ListN.{length-take, length-drop}
 use denote.Ref.{now}

@@ -1,4 +1,4 @@
--- `put_form`: the form, then its length in front. Assumes nothing.
+-- `put_form`: the form, then its length in front.
 use denote.Ref.{now}
 use borrow.Author.Needs.{needs}
 use Rattle.book_keeping.proofs.Writing.{form-put}

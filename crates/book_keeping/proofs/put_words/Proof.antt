@@ -1,4 +1,4 @@
--- `put_words`: copied, then cleared behind. Assumes nothing.
+-- `put_words`: copied, then cleared behind.
 use denote.Ref.{now}
 use borrow.Author.Needs.{needs}
 use Rattle.book_keeping.proofs.Writing.{put-filled}

@@ -1,4 +1,4 @@
--- `reset`: both buffers, then the slots. Assumes nothing.
+-- `reset`: both buffers, then the slots.
 use denote.Ref.{now}
 use borrow.Author.Needs.{needs}
 use Rattle.book_reset.proofs.ResetLaws.{reset-other, reset-done}

@@ -1,4 +1,4 @@
--- `wanlopheng_soundness`: the promise of the check, as two numbers. Assumes nothing.
+-- `wanlopheng_soundness`: the promise of the check, as two numbers.
 use mathlib.Core.Path.{_∙_, ap}
 use borrow.Author.Needs.{needs}
 use Rattle.fields.specs.Fields.{soundnessNumbers}

@@ -1,4 +1,4 @@
--- `wanlopheng_unpack`: the promise of `unpack`, with its values in the fields. Assumes nothing.
+-- `wanlopheng_unpack`: the promise of `unpack`, with its values in the fields.
 use mathlib.Core.Path.{_∙_}
 use borrow.Author.Needs.{needs}
 use Rattle.boundary.proofs.wanlopheng_unpack.Statement.{statement}

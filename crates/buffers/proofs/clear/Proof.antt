@@ -1,4 +1,4 @@
--- `clear`: after i turns the first i words are 0, and the others as they were. Assumes nothing.
+-- `clear`: after i turns the first i words are 0, and the others as they were.
 use Prim.Native.Nat.{_-_}
 use lib.ListN.{length, replicate}
 use native.Mathlib.Omega.{arith}

@@ -1,4 +1,4 @@
--- `clear_bytes`: after i turns the first i bytes are 0, and the others as they were. Assumes nothing.
+-- `clear_bytes`: after i turns the first i bytes are 0, and the others as they were.
 use Prim.Native.Nat.{_-_}
 use lib.ListN.{length, replicate}
 use native.Mathlib.Omega.{arith}

@@ -1,4 +1,4 @@
--- `copy_bytes`: after i turns the first i bytes are those of `text`, and the others as they were. Assumes nothing.
+-- `copy_bytes`: after i turns the first i bytes are those of `text`, and the others as they were.
 use Prim.Native.Nat.{_-_, _≤_}
 use lib.ListN.{length, take}
 use native.Mathlib.Omega.{arith}

@@ -1,4 +1,4 @@
--- `copy_into`: after i turns the first i words are those of `src`, and the others as they were. Assumes nothing.
+-- `copy_into`: after i turns the first i words are those of `src`, and the others as they were.
 use Prim.Native.Nat.{_-_, _≤_}
 use lib.ListN.{length, take}
 use native.Mathlib.Omega.{arith}

@@ -1,4 +1,4 @@
--- `same`: after i turns the first i words are the same. Assumes nothing.
+-- `same`: after i turns the first i words are the same.
 use Prim.Native.Nat.{_-_}
 use mathlib.Core.Path.{sym}
 use lib.ListN.{length}

@@ -1,4 +1,4 @@
--- `buffers::wipe` meets its contract: every word is 0, so the one that is read back is too. Assumes nothing.
+-- `buffers::wipe` meets its contract: every word is 0, so the one that is read back is too.
 use mathlib.Core.Path.{refl}
 use native.Mathlib.Omega.{arith}
 use Rattle.buffers.proofs.Wiping.{wipe-inside, wipe-read}

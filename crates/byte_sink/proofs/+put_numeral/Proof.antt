@@ -1,4 +1,4 @@
--- `put_numeral`: one digit, or the digits of the quotient and then that of the remainder. The measure is the number. Assumes nothing.
+-- `put_numeral`: one digit, or the digits of the quotient and then that of the remainder. The measure is the number.
 use Prim.Native.Nat.{ℕ, _/_, _≤_, _<_}
 use native.Mathlib.Nat.{div-lt-self}
 use native.Mathlib.Omega.{arith}

@@ -1,4 +1,4 @@
--- `put`: a store, or no room for one. Assumes nothing.
+-- `put`: a store, or no room for one.
 use Rattle.byte_sink.proofs.Adding.{put-full, put-stored, put-over}
 use borrow.Author.Needs.{needs}
 use Rattle.byte_sink.proofs.put.Statement.{statement}

@@ -1,4 +1,4 @@
--- `put_word`: after i turns the first i bytes are put. Assumes nothing.
+-- `put_word`: after i turns the first i bytes are put.
 use Prim.Native.Nat.{_-_}
 use native.Mathlib.Omega.{arith}
 use mathlib.Core.Path.{refl}

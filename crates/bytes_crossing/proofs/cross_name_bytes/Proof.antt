@@ -1,4 +1,4 @@
--- `cross_name_bytes`: the fields are the values of the byte form's answer. Assumes nothing.
+-- `cross_name_bytes`: the fields are the values of the byte form's answer.
 use mathlib.Core.Path.{_∙_}
 use borrow.Author.Needs.{needs}
 use Rattle.bytes_crossing.proofs.cross_name_bytes.Statement.{statement}

@@ -1,5 +1,5 @@
 use mathlib.Core.Path.{sym, _∙_}
--- `sweep` meets its contract, by the laws of a sweep. Assumes nothing.
+-- `sweep` meets its contract, by the laws of a sweep.
 use Prim.Native.Nat.{_-_}
 use native.Mathlib.Omega.{arith}
 use mathlib.Core.Logic.{⊎-elim, inl, inr}

@@ -1,4 +1,4 @@
--- `components::components` meets its contract, by the laws of a walk over two lists of members. Assumes nothing.
+-- `components::components` meets its contract, by the laws of a walk over two lists of members.
 use Prim.Native.Nat.{_+_, _-_}
 use native.Mathlib.Omega.{arith}
 use mathlib.Core.Logic.{⊎-elim, inl, inr}

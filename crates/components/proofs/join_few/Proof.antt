@@ -1,4 +1,4 @@
--- `components::join_few` meets its contract: the members are put in order. Assumes nothing.
+-- `components::join_few` meets its contract: the members are put in order.
 use Prim.Native.Nat.{_+_, _-_}
 use lib.ListN.{length, replicate}
 use borrow.Rule.Slice.PartMut.{postOf}

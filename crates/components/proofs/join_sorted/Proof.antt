@@ -1,4 +1,4 @@
--- `components::join_sorted` meets its contract: claims are set for the groups, and their owners joined. Assumes nothing.
+-- `components::join_sorted` meets its contract: claims are set for the groups, and their owners joined.
 use Rattle.components.proofs.JoinLaws.{claims-none, sorted-joins}
 use borrow.Author.Needs.{needs}
 use Rattle.components.proofs.join_sorted.Statement.{statement}

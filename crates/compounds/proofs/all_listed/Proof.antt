@@ -1,4 +1,4 @@
--- `compounds::all_listed` meets its contract: the text up to a place asks for nothing that the list lacks. Assumes nothing.
+-- `compounds::all_listed` meets its contract: the text up to a place asks for nothing that the list lacks.
 use Prim.Native.Nat.{_-_}
 use native.Mathlib.Omega.{arith}
 use mathlib.Core.Path.{sym, _∙_}

@@ -1,4 +1,4 @@
--- `compounds::compounds_fit` meets its contract: the list is looked for only where the group is whitelisted. Assumes nothing.
+-- `compounds::compounds_fit` meets its contract: the list is looked for only where the group is whitelisted.
 use mathlib.Core.Path.{_∙_}
 use borrow.Author.Tests.{not-true, not-false}
 use Rattle.table.specs.Layout.{theTable}

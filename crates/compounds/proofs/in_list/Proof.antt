@@ -1,4 +1,4 @@
--- `compounds::in_list` meets its contract, by the laws of the search in a list. Assumes nothing.
+-- `compounds::in_list` meets its contract, by the laws of the search in a list.
 use Prim.Native.Nat.{_-_}
 use native.Mathlib.Omega.{arith}
 use mathlib.Core.Path.{sym, _∙_}

@@ -1,4 +1,4 @@
--- `compounds::list_in` meets its contract, by the laws of the walk to the list of a group. Assumes nothing.
+-- `compounds::list_in` meets its contract, by the laws of the walk to the list of a group.
 use Prim.Native.Nat.{_-_}
 use native.Mathlib.Omega.{arith}
 use lib.ListN.{length}

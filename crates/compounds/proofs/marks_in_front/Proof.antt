@@ -1,4 +1,4 @@
--- `compounds::marks_in_front` meets its contract. Assumes nothing.
+-- `compounds::marks_in_front` meets its contract.
 use Prim.Native.Nat.{_-_}
 use native.Mathlib.Omega.{arith}
 use mathlib.Core.Path.{sym, _∙_}

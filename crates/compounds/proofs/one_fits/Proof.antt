@@ -1,4 +1,4 @@
--- `compounds::one_fits` meets its contract, test by test. Assumes nothing.
+-- `compounds::one_fits` meets its contract, test by test.
 use native.Mathlib.Omega.{arith}
 use mathlib.Core.Path.{sym, _∙_}
 use Rattle.table.specs.Layout.{sequences, theTable}

@@ -1,4 +1,4 @@
--- `make_filter` meets its contract: every bit is left as it is, or those of the wholes are put into a cleared set. Assumes nothing.
+-- `make_filter` meets its contract: every bit is left as it is, or those of the wholes are put into a cleared set.
 use native.Mathlib.Omega.{arith}
 use mathlib.Core.Path.{_∙_, ap}
 use lib.ListN.{length, length-replicate}

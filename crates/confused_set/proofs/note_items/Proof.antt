@@ -1,4 +1,4 @@
--- `note_items` meets its contract, item by item. Assumes nothing.
+-- `note_items` meets its contract, item by item.
 use Prim.Native.Nat.{ℕ, _-_}
 use native.Mathlib.Omega.{arith}
 use lib.ListN.{getD, drop-of-length-le, length, drop}

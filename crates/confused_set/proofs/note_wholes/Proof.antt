@@ -1,4 +1,4 @@
--- `note_wholes` meets its contract, by the laws of a walk over the wholes. Assumes nothing.
+-- `note_wholes` meets its contract, by the laws of a walk over the wholes.
 use Prim.Native.Nat.{_-_}
 use native.Mathlib.Omega.{arith}
 use mathlib.Core.Path.{_∙_}

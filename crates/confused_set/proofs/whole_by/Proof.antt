@@ -1,4 +1,4 @@
--- `whole_by` meets its contract: a clear bit answers, or the wholes are walked. Assumes nothing.
+-- `whole_by` meets its contract: a clear bit answers, or the wholes are walked.
 use native.Mathlib.Omega.{arith}
 use mathlib.Core.Path.{sym, _∙_}
 use borrow.Author.Tests.{not-true}

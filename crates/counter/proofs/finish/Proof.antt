@@ -1,4 +1,4 @@
--- `finish`: what is held is in its buffer, and so is what is written. Assumes nothing.
+-- `finish`: what is held is in its buffer, and so is what is written.
 use mathlib.Core.Path.{sym, _∙_}
 use lib.Seq.{length-take-le}
 use Rattle.lines.proofs.Pieces.{holding-within}

@@ -1,4 +1,4 @@
--- `load`: the words that were read are in their buffer. Assumes nothing.
+-- `load`: the words that were read are in their buffer.
 use Rattle.counter.proofs.Loading.{loaded}
 use borrow.Author.Needs.{needs}
 use Rattle.counter.proofs.load.Statement.{statement}

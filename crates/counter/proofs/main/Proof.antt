@@ -1,4 +1,4 @@
--- `main`: the table's words are in their buffer. Assumes nothing.
+-- `main`: the table's words are in their buffer.
 use mathlib.Core.Path.{sym}
 use lib.Seq.{length-take-le}
 use Rattle.counter.proofs.Loading.{loaded-words}

@@ -1,4 +1,4 @@
--- `read_piece`: at most as many bytes came as io's buffer has. Assumes nothing.
+-- `read_piece`: at most as many bytes came as io's buffer has.
 use lib.ListN.{length-take}
 use Rattle.counter.proofs.Pieces.{takes-read}
 use native.Mathlib.Omega.{arith}

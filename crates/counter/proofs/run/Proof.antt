@@ -1,4 +1,4 @@
--- `run`: each turn adds no more names than a piece has bytes, so their count fits. Assumes nothing.
+-- `run`: each turn adds no more names than a piece has bytes, so their count fits.
 use Prim.Native.Nat.{_+_, _*_, _^_, _≤_}
 use mathlib.Core.Path.{refl, sym}
 use Rattle.lines.specs.Promise.{Holding}

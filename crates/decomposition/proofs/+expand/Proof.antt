@@ -1,5 +1,5 @@
 -- The proof of the cycle of calls {expand}: the measure is the number of rounds. The loop keeps that the first i items of the single replacement
--- are written, each with one round less. Assumes nothing.
+-- are written, each with one round less.
 use native.Mathlib.Omega.{arith}
 use borrow.Author.Needs.{needs}
 use denote.Ref.{now}

@@ -1,4 +1,4 @@
--- `append_decomposed` meets its contract. Assumes nothing.
+-- `append_decomposed` meets its contract.
 use denote.Ref.{now}
 use Rattle.table.specs.Layout.{theTable}
 use Rattle.decomposition.specs.Rounds.{mostFrom}

@@ -1,4 +1,4 @@
--- `count` meets its contract. Assumes nothing.
+-- `count` meets its contract.
 use Rattle.decomposition.proofs.Replacing.{items-ordered, items-count, jamo-number}
 use borrow.Author.Needs.{needs}
 use Rattle.decomposition.proofs.count.Statement.{statement}

@@ -1,4 +1,4 @@
--- `decomposition::is_alone` meets its contract. Assumes nothing.
+-- `decomposition::is_alone` meets its contract.
 use native.Mathlib.Omega.{arith}
 use borrow.Author.Needs.{needs}
 use Rattle.decomposition.proofs.RoundLaws.{alone-other, alone-one}

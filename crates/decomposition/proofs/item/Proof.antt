@@ -1,4 +1,4 @@
--- `item` meets its contract. Assumes nothing.
+-- `item` meets its contract.
 use native.Mathlib.Omega.{arith}
 use Rattle.decomposition.proofs.Replacing.{items-in, items-at, jamo-in, jamo-is}
 use borrow.Author.Needs.{needs}

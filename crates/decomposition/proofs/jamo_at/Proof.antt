@@ -1,4 +1,4 @@
--- `jamo_at` meets its contract. Assumes nothing.
+-- `jamo_at` meets its contract.
 use borrow.Author.Needs.{needs}
 use Rattle.decomposition.proofs.Replacing.{jamo-first, jamo-second, jamo-third}
 use Rattle.decomposition.proofs.jamo_at.Statement.{statement}

@@ -1,4 +1,4 @@
--- `jamo_count` meets its contract. Assumes nothing.
+-- `jamo_count` meets its contract.
 use Rattle.decomposition.proofs.Replacing.{jamo-two, jamo-three}
 use Rattle.decomposition.proofs.jamo_count.Statement.{statement}
 use Rattle.decomposition.proofs.jamo_count.Tie as tie

@@ -1,4 +1,4 @@
--- `put` meets its contract. Assumes nothing.
+-- `put` meets its contract.
 use denote.Ref.{now}
 use Rattle.decomposition.proofs.RoundLaws.{append-none}
 use borrow.Author.Needs.{needs}

@@ -1,4 +1,4 @@
--- `replaced` meets its contract: the loop copies what is put, one by one. Assumes nothing.
+-- `replaced` meets its contract: the loop copies what is put, one by one.
 use Prim.Native.Nat.{_-_}
 use mathlib.Core.Path.{refl, sym}
 use native.Mathlib.Omega.{arith}

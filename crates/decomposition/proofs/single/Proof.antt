@@ -1,4 +1,4 @@
--- `single` meets its contract: each case of the code is a case of the definition. Assumes nothing.
+-- `single` meets its contract: each case of the code is a case of the definition.
 use mathlib.Core.Path.{sym, _∙_}
 use native.Mathlib.Omega.{arith}
 use Rattle.text.proofs.Syllables.{syllable}

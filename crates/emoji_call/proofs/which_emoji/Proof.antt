@@ -1,4 +1,4 @@
--- `which_emoji`: a layout fault, a match, or none. Assumes nothing.
+-- `which_emoji`: a layout fault, a match, or none.
 use borrow.Author.Needs.{needs}
 use Rattle.emoji_call.proofs.Telling.{told-fault, told-found, told-nothing}
 use Rattle.emoji_call.proofs.which_emoji.Statement.{statement}

@@ -1,4 +1,4 @@
--- `sequence`: what stands in the emoji section stands among the words of the table. Assumes nothing.
+-- `sequence`: what stands in the emoji section stands among the words of the table.
 use native.Mathlib.Omega.{arith}
 use Rattle.sections.proofs.SectionLaws.{laid-fits}
 use Rattle.finder.proofs.FindingLaws.{emoji-sequences}

@@ -1,4 +1,4 @@
--- `sequence_in`: after each turn the record is one of those that are left. Assumes nothing.
+-- `sequence_in`: after each turn the record is one of those that are left.
 use Prim.Native.Nat.{_-_}
 use native.Mathlib.Omega.{arith}
 use lib.ListN.{length}

@@ -1,4 +1,4 @@
--- `ending::finish`: the answer is too long, or is kept. Assumes nothing.
+-- `ending::finish`: the answer is too long, or is kept.
 use borrow.Author.Needs.{needs}
 use Rattle.ending.proofs.Finishing.{finish-over, finish-kept}
 use Rattle.ending.proofs.finish.Statement.{statement}

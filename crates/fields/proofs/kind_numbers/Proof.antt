@@ -1,4 +1,4 @@
--- `kind_numbers`: each arm's struct has the numbers of its case. Assumes nothing.
+-- `kind_numbers`: each arm's struct has the numbers of its case.
 use mathlib.Core.Path.{sym, ap}
 use Rattle.fields.specs.Fields.{kindNumbers}
 use Rattle.fields.proofs.FieldLaws.{group-numbers}

@@ -1,4 +1,4 @@
--- `label_fields`: the numbers of each case. Assumes nothing.
+-- `label_fields`: the numbers of each case.
 use Rattle.fields.proofs.FieldLaws.{label-accepted, label-refused}
 use borrow.Author.Needs.{needs}
 use Rattle.fields.proofs.label_fields.Statement.{statement}

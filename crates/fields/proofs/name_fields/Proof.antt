@@ -1,4 +1,4 @@
--- `name_fields`: the values of each case. Assumes nothing.
+-- `name_fields`: the values of each case.
 use mathlib.Core.Path.{sym, ap}
 use Rattle.answers.specs.Values.{nameValues}
 use Rattle.fields.proofs.FieldLaws.{name-refused}

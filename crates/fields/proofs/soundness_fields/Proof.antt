@@ -1,4 +1,4 @@
--- `soundness_fields`: each arm's struct has the numbers of its case. Assumes nothing.
+-- `soundness_fields`: each arm's struct has the numbers of its case.
 use mathlib.Core.Path.{sym, ap}
 use borrow.Author.Needs.{needs}
 use Rattle.answers.specs.declared.Soundness.{Soundness}

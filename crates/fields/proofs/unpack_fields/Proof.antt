@@ -1,4 +1,4 @@
--- `unpack_fields`: each arm's struct has the values of its case. Assumes nothing.
+-- `unpack_fields`: each arm's struct has the values of its case.
 use mathlib.Core.Path.{sym, ap}
 use Rattle.answers.specs.Values.{unpackValues}
 use borrow.Author.Needs.{needs}

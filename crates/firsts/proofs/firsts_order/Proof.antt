@@ -1,4 +1,4 @@
--- `firsts::firsts_order` meets its contract, by the laws of a walk over the section. The measure is the length of what is left. Assumes nothing.
+-- `firsts::firsts_order` meets its contract, by the laws of a walk over the section. The measure is the length of what is left.
 use Prim.Native.Nat.{_+_, _-_, _/_}
 use native.Mathlib.Omega.{arith}
 use borrow.Author.Needs.{needs}

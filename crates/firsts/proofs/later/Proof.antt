@@ -1,4 +1,4 @@
--- `firsts::later` meets its contract: a mark whose first item is below e is a place to start from. Assumes nothing.
+-- `firsts::later` meets its contract: a mark whose first item is below e is a place to start from.
 use native.Mathlib.Omega.{arith}
 use borrow.Author.Needs.{needs}
 use Rattle.firsts.proofs.Marked.{from-here, passing-mark}

@@ -1,5 +1,5 @@
 -- `firsts::seek` meets its contract: behind a mark, records whose first item is below e are passed. The measure is the length of what is
--- left. Assumes nothing.
+-- left.
 use Prim.Native.Nat.{_-_}
 use native.Mathlib.Omega.{arith}
 use borrow.Author.Needs.{needs}

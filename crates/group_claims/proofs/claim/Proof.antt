@@ -1,4 +1,4 @@
--- `claim` meets its contract. Assumes nothing.
+-- `claim` meets its contract.
 use native.Mathlib.Omega.{arith}
 use mathlib.Core.Path.{refl}
 use mathlib.Core.Logic.{inl, inr}

@@ -1,4 +1,4 @@
--- `first` meets its contract: the numbers are in order. Assumes nothing.
+-- `first` meets its contract: the numbers are in order.
 use native.Mathlib.Omega.{arith}
 use Rattle.sorting.proofs.OrderLaws.{order-at}
 use borrow.Author.Needs.{needs}

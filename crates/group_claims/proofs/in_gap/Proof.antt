@@ -1,4 +1,4 @@
--- `in_gap` meets its contract, by the law of two masks. Assumes nothing.
+-- `in_gap` meets its contract, by the law of two masks.
 use native.Mathlib.Omega.{arith}
 use mathlib.Core.Bool.{false≢true}
 use Rattle.sorting.proofs.OrderLaws.{if-most}

@@ -1,5 +1,5 @@
 use mathlib.Core.Path.{sym, _∙_}
--- `take_groups` meets its contract, by the laws of a walk over the groups. Assumes nothing.
+-- `take_groups` meets its contract, by the laws of a walk over the groups.
 use Prim.Native.Nat.{_-_}
 use native.Mathlib.Omega.{arith}
 use lib.ListN.{length}

@@ -1,4 +1,4 @@
--- `take_pair` meets its contract, by the place of the lower end. Assumes nothing.
+-- `take_pair` meets its contract, by the place of the lower end.
 use native.Mathlib.Omega.{arith}
 use mathlib.Core.Path.{refl}
 use Rattle.group_claims.proofs.ClaimLaws.{between, take-past, take-over, take-hit}

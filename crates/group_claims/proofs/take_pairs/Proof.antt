@@ -1,4 +1,4 @@
--- `take_pairs` meets its contract, by the laws of a walk over pairs. Assumes nothing.
+-- `take_pairs` meets its contract, by the laws of a walk over pairs.
 use Prim.Native.Nat.{_-_}
 use native.Mathlib.Omega.{arith}
 use mathlib.Core.Path.{sym, _∙_}

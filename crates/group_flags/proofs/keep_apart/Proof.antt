@@ -1,4 +1,4 @@
--- `keep_apart` meets its contract, by the laws of a walk over two lists of flags. Assumes nothing.
+-- `keep_apart` meets its contract, by the laws of a walk over two lists of flags.
 use Prim.Native.Nat.{_-_}
 use native.Mathlib.Omega.{arith}
 use mathlib.Core.Path.{_∙_}

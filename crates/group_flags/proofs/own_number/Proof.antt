@@ -1,4 +1,4 @@
--- `own_number` meets its contract, by the laws of a walk over the groups. Assumes nothing.
+-- `own_number` meets its contract, by the laws of a walk over the groups.
 use Prim.Native.Nat.{_-_}
 use native.Mathlib.Omega.{arith}
 use mathlib.Core.Path.{_∙_, sym}

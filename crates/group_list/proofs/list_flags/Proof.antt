@@ -1,4 +1,4 @@
--- `list_flags`: after each turn the numbers of the flags before the next stand in the list. Assumes nothing.
+-- `list_flags`: after each turn the numbers of the flags before the next stand in the list.
 use Prim.Native.Nat.{_+_, _-_, _≤_}
 use native.Mathlib.Omega.{arith}
 use mathlib.Core.Path.{_≡_}

@@ -1,4 +1,4 @@
--- `put_group`: the number of a group whose flag is set. Assumes nothing.
+-- `put_group`: the number of a group whose flag is set.
 use borrow.Author.Needs.{needs}
 use Rattle.group_list.proofs.PlaceLaws.{group-none, group-put}
 use Rattle.group_list.proofs.put_group.Statement.{statement}

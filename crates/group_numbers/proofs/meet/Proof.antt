@@ -1,4 +1,4 @@
--- `meet` meets its contract. Assumes nothing.
+-- `meet` meets its contract.
 use borrow.Author.Needs.{needs}
 use Rattle.group_numbers.proofs.NumberLaws.{met-alone, met-both}
 use Rattle.group_numbers.proofs.meet.Statement.{statement}

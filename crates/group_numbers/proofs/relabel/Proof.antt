@@ -1,4 +1,4 @@
--- `relabel` meets its contract, by the laws of a walk over the numbers. Assumes nothing.
+-- `relabel` meets its contract, by the laws of a walk over the numbers.
 use Prim.Native.Nat.{_-_}
 use native.Mathlib.Omega.{arith}
 use mathlib.Core.Logic.{⊎-elim}

@@ -1,4 +1,4 @@
--- `unite` meets its contract. Assumes nothing.
+-- `unite` meets its contract.
 use borrow.Author.Needs.{needs}
 use Rattle.group_numbers.proofs.NumberLaws.{unite-new, unite-old}
 use Rattle.group_numbers.proofs.unite.Statement.{statement}

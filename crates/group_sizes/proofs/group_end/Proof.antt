@@ -1,4 +1,4 @@
--- `group_sizes::group_end` meets its contract: a list that is due is measured. Assumes nothing.
+-- `group_sizes::group_end` meets its contract: a list that is due is measured.
 use native.Mathlib.Omega.{arith}
 use borrow.Author.Needs.{needs}
 use Rattle.table.proofs.ListSizes.{list-room}

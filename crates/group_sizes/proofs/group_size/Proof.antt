@@ -1,4 +1,4 @@
--- `group_sizes::group_size` meets its contract. Each test is one of the definition's; the pairs are walked as a part of their own. Assumes nothing.
+-- `group_sizes::group_size` meets its contract. Each test is one of the definition's; the pairs are walked as a part of their own.
 use Prim.Native.Nat.{_+_, _-_}
 use native.Mathlib.Omega.{arith}
 use mathlib.Core.Path.{_≡_, sym, _∙_}

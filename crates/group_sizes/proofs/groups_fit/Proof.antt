@@ -1,4 +1,4 @@
--- `group_sizes::groups_fit` meets its contract. The loop's invariant: the whole part is well formed exactly where the rest of it is, of as many groups as are left; and sorted exactly where it is so far and the rest is. The measure is the rest's length. Assumes nothing.
+-- `group_sizes::groups_fit` meets its contract. The loop's invariant: the whole part is well formed exactly where the rest of it is, of as many groups as are left; and sorted exactly where it is so far and the rest is. The measure is the rest's length.
 use Prim.Native.Nat.{_≤_, _<_, _-_}
 use native.Mathlib.Omega.{arith}
 use mathlib.Core.Path.{_≡_, refl, sym, _∙_}

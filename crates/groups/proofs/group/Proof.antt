@@ -1,4 +1,4 @@
--- `groups::group` meets its contract: 1, then 3, then the search. Assumes nothing.
+-- `groups::group` meets its contract: 1, then 3, then the search.
 use denote.Ref.{now}
 use borrow.Author.Needs.{needs}
 use Rattle.sections.specs.Laid.{Laid}

@@ -1,5 +1,4 @@
 -- `groups::group_in` meets its contract: the groups passed lack a character, the characters passed are held, and each question is counted.
--- Assumes nothing.
 use borrow.Author.Tests.{not-true, not-false}
 use Prim.Native.Nat.{_-_}
 use native.Mathlib.Omega.{arith}

@@ -1,4 +1,4 @@
--- `halving::class_apart` meets its contract, by the law of a search by halves. Assumes nothing.
+-- `halving::class_apart` meets its contract, by the law of a search by halves.
 use Rattle.halving.proofs.Halves.{class-none, class-some, class-over}
 use borrow.Author.Needs.{needs}
 use Rattle.halving.proofs.class_apart.Statement.{statement}

@@ -1,4 +1,4 @@
--- `halving::if_most` meets its contract, by the law of a mask. Assumes nothing.
+-- `halving::if_most` meets its contract, by the law of a mask.
 use native.Mathlib.Omega.{arith}
 use Rattle.halving.proofs.Halves.{masked}
 use borrow.Author.Needs.{needs}

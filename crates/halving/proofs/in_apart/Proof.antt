@@ -1,4 +1,4 @@
--- `halving::in_apart` meets its contract, by the law of a search by halves. Assumes nothing.
+-- `halving::in_apart` meets its contract, by the law of a search by halves.
 use Rattle.halving.proofs.Halves.{pairs-none, pairs-some}
 use borrow.Author.Needs.{needs}
 use Rattle.halving.proofs.in_apart.Statement.{statement}

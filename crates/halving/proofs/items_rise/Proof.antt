@@ -1,4 +1,4 @@
--- `halving::items_rise` meets its contract, by the laws of a walk over items. Assumes nothing.
+-- `halving::items_rise` meets its contract, by the laws of a walk over items.
 use Prim.Native.Nat.{_-_}
 use lib.ListN.{length}
 use Rattle.halving.proofs.Walks.{Rises, rises-start, rises-on, rises-stop}

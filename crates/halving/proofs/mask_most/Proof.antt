@@ -1,4 +1,4 @@
--- `halving::mask_most` meets its contract: a difference that wraps has the upper bits. Assumes nothing.
+-- `halving::mask_most` meets its contract: a difference that wraps has the upper bits.
 use native.Mathlib.Omega.{arith}
 use Rattle.halving.proofs.Halves.{mask-wrapped}
 use borrow.Author.Needs.{needs}

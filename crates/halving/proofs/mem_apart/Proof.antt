@@ -1,4 +1,4 @@
--- `halving::mem_apart` meets its contract, by the law of a search by halves. Assumes nothing.
+-- `halving::mem_apart` meets its contract, by the law of a search by halves.
 use Rattle.halving.proofs.Halves.{item-none, item-some}
 use borrow.Author.Needs.{needs}
 use Rattle.halving.proofs.mem_apart.Statement.{statement}

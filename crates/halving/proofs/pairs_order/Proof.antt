@@ -1,4 +1,4 @@
--- `halving::pairs_order` meets its contract, by the laws of a walk over entries. Assumes nothing.
+-- `halving::pairs_order` meets its contract, by the laws of a walk over entries.
 use Prim.Native.Nat.{_-_}
 use Rattle.lists.specs.Lists.{isSome}
 use Rattle.table.specs.Layout.{ranges}

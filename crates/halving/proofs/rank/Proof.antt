@@ -1,4 +1,4 @@
--- `halving::rank` meets its contract, by the laws of a search by halves. Assumes nothing.
+-- `halving::rank` meets its contract, by the laws of a search by halves.
 use Prim.Native.Nat.{_/_}
 use native.Mathlib.Omega.{arith}
 use Rattle.halving.proofs.Halves.{positive, if-most-least, Halving, halving-start, none-ranked, middle-fits, low-fits, halving-on, halving-stop}

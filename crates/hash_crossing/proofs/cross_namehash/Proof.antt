@@ -1,4 +1,4 @@
--- `cross_namehash`: the promise of the call, with its values in the fields. Assumes nothing.
+-- `cross_namehash`: the promise of the call, with its values in the fields.
 use mathlib.Core.Path.{_∙_}
 use borrow.Author.Needs.{needs}
 use Rattle.hash_crossing.proofs.cross_namehash.Statement.{statement}

@@ -1,4 +1,4 @@
--- `heads::heads_order` meets its contract, by the laws of a walk over a section. The measure is the length of what is left. Assumes nothing.
+-- `heads::heads_order` meets its contract, by the laws of a walk over a section. The measure is the length of what is left.
 use Prim.Native.Nat.{_+_, _-_, _≤_, _<_}
 use native.Mathlib.Omega.{arith}
 use borrow.Author.Needs.{needs}

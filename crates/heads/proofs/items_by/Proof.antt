@@ -1,4 +1,4 @@
--- `heads::items_by` meets its contract, by the laws of a search that starts at a mark. The measure is the length of what is left. Assumes nothing.
+-- `heads::items_by` meets its contract, by the laws of a search that starts at a mark. The measure is the length of what is left.
 use Prim.Native.Nat.{_-_}
 use native.Mathlib.Omega.{arith}
 use borrow.Author.Needs.{needs}

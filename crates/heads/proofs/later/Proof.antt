@@ -1,4 +1,4 @@
--- `heads::later` meets its contract: a mark whose head is not above c is a place to start from. Assumes nothing.
+-- `heads::later` meets its contract: a mark whose head is not above c is a place to start from.
 use borrow.Author.Needs.{needs}
 use Rattle.heads.proofs.MarkLaws.{start-mark}
 use Rattle.heads.proofs.later.Statement.{statement}

@@ -1,4 +1,4 @@
--- `heads::with_mark` meets its contract, test by test. Assumes nothing.
+-- `heads::with_mark` meets its contract, test by test.
 use borrow.Author.Needs.{needs}
 use Rattle.heads.proofs.MarkLaws.{mark-large, mark-set}
 use Rattle.heads.proofs.with_mark.Statement.{statement}

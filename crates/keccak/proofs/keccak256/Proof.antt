@@ -1,4 +1,4 @@
--- `keccak256`: the digest of a fresh sponge that took the slice. Assumes nothing.
+-- `keccak256`: the digest of a fresh sponge that took the slice.
 use mathlib.Core.Path.{ap, _∙_}
 use borrow.Author.Needs.{needs}
 use Rattle.keccak.specs.declared.sponge.Keccak256.{Keccak256}

@@ -1,4 +1,4 @@
--- `chi`: the rows before i are done, and i is the start of a row. Assumes nothing.
+-- `chi`: the rows before i are done, and i is the start of a row.
 use Prim.Native.Nat.{_+_, _≤_, _-_, _%_}
 use native.Mathlib.Omega.{arith}
 use mathlib.Core.Path.{_≡_, refl, ap, _∙_}

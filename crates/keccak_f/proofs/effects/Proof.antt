@@ -1,4 +1,4 @@
--- `effects`: the first x effects are written. Assumes nothing.
+-- `effects`: the first x effects are written.
 use Prim.Native.Nat.{_≤_, _-_}
 use native.Mathlib.Omega.{arith}
 use mathlib.Core.Path.{refl}

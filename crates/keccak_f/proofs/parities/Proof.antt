@@ -1,4 +1,4 @@
--- `parities`: the first x parities are written. Assumes nothing.
+-- `parities`: the first x parities are written.
 use Prim.Native.Nat.{_≤_, _-_}
 use native.Mathlib.Omega.{arith}
 use mathlib.Core.Path.{refl}

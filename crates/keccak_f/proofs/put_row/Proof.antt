@@ -1,4 +1,4 @@
--- `put_row`: five stores are the row put in. Assumes nothing.
+-- `put_row`: five stores are the row put in.
 use native.Mathlib.Omega.{arith}
 use borrow.Author.Needs.{needs}
 use Rattle.keccak_f.proofs.Lanes.{five-stores}

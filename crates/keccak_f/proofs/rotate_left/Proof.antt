@@ -1,4 +1,4 @@
--- `rotate_left`: the two shifts are a rotation. Assumes nothing.
+-- `rotate_left`: the two shifts are a rotation.
 use borrow.Author.Needs.{needs}
 use Rattle.keccak_f.proofs.Rotation.{shifts-rotate}
 use Rattle.keccak_f.proofs.rotate_left.Statement.{statement}

@@ -1,4 +1,4 @@
--- `row`: five lanes are the row. Assumes nothing.
+-- `row`: five lanes are the row.
 use native.Mathlib.Nat.{add-zero}
 use native.Mathlib.Omega.{arith}
 use borrow.Author.Needs.{needs}

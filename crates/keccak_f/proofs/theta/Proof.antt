@@ -1,4 +1,4 @@
--- `theta`: the rows before i are done, and i is the start of a row. Assumes nothing.
+-- `theta`: the rows before i are done, and i is the start of a row.
 use Prim.Native.Nat.{ℕ, _+_, _≤_, _-_, _%_}
 use native.Mathlib.Omega.{arith}
 use mathlib.Core.Path.{_≡_, refl, ap, _∙_}

@@ -1,4 +1,4 @@
--- `pi`: the first i lanes are written. Assumes nothing.
+-- `pi`: the first i lanes are written.
 use Prim.Native.Nat.{ℕ, _≤_, _-_}
 use native.Mathlib.Omega.{arith}
 use mathlib.Core.Path.{ap, refl}

@@ -1,4 +1,4 @@
--- `rho`: the first i lanes are written. Assumes nothing.
+-- `rho`: the first i lanes are written.
 use Prim.Native.Nat.{_≤_, _-_}
 use native.Mathlib.Omega.{arith}
 use mathlib.Core.Path.{refl, sym, _∙_}

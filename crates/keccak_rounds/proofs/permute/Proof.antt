@@ -1,4 +1,4 @@
--- `permute`: the rounds of the constants from i on are still to be done. Assumes nothing.
+-- `permute`: the rounds of the constants from i on are still to be done.
 use Prim.Native.Nat.{ℕ, _+_, _≤_, _-_}
 use native.Mathlib.Omega.{arith}
 use mathlib.Core.Path.{_≡_, refl, sym, ap, _∙_}

@@ -1,4 +1,4 @@
--- `round`: the five steps one after another. Assumes nothing.
+-- `round`: the five steps one after another.
 use borrow.Author.Needs.{needs}
 use Rattle.keccak_rounds.proofs.Rounds.{steps}
 use Rattle.keccak_rounds.proofs.round.Statement.{statement}

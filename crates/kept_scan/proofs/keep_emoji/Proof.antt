@@ -1,4 +1,4 @@
--- `keep_emoji` meets its contract: an emoji counts as it is laid down. Assumes nothing.
+-- `keep_emoji` meets its contract: an emoji counts as it is laid down.
 use mathlib.Core.Path.{refl}
 use borrow.Author.Needs.{needs}
 use Rattle.kept_scan.proofs.Holding.{emoji-given, emoji-kept}

@@ -1,4 +1,4 @@
--- `keep_one` meets its contract: each case of the step at one codepoint is kept or given up. Assumes nothing.
+-- `keep_one` meets its contract: each case of the step at one codepoint is kept or given up.
 use mathlib.Core.Path.{refl}
 use borrow.Author.Needs.{needs}
 use Rattle.scanning.proofs.Steps.{one-items}

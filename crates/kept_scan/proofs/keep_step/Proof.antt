@@ -1,4 +1,4 @@
--- `keep_step` meets its contract: an emoji where one is found, else one codepoint. Assumes nothing.
+-- `keep_step` meets its contract: an emoji where one is found, else one codepoint.
 use borrow.Author.Needs.{needs}
 use Rattle.scanning.proofs.Steps.{step-sequence}
 use Rattle.kept_scan.proofs.Stepping.{step-emoji, step-alone}

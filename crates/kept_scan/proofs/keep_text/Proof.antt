@@ -1,4 +1,4 @@
--- `keep_text` meets its contract: the codepoint is written to its place, and tagged. Assumes nothing.
+-- `keep_text` meets its contract: the codepoint is written to its place, and tagged.
 use native.Mathlib.Omega.{arith}
 use mathlib.Core.Path.{refl}
 use borrow.Author.Needs.{needs}

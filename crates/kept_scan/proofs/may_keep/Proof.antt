@@ -1,4 +1,4 @@
--- `may_keep` meets its contract: each test is passed. Assumes nothing.
+-- `may_keep` meets its contract: each test is passed.
 use mathlib.Core.Path.{sym, _∙_}
 use mathlib.Core.Bool.{false≢true}
 use borrow.Author.Needs.{needs}

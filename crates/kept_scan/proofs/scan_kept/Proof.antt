@@ -1,4 +1,4 @@
--- `scan_kept` meets its contract: the loop keeps the steps that are laid down, and those that are left. Assumes nothing.
+-- `scan_kept` meets its contract: the loop keeps the steps that are laid down, and those that are left.
 use Prim.Native.Nat.{_-_}
 use native.Mathlib.Omega.{arith}
 use lib.ListN.{length}

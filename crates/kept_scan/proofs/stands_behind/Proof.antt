@@ -1,4 +1,4 @@
--- `stands_behind` meets its contract. Assumes nothing.
+-- `stands_behind` meets its contract.
 use Rattle.kept_scan.proofs.Passes.{follows-starter, follows-mark}
 use Rattle.kept_scan.proofs.stands_behind.Statement.{statement}
 use Rattle.kept_scan.proofs.stands_behind.Tie as tie

@@ -1,4 +1,4 @@
--- `before_stop`: the scan's place, or the end of the part. Assumes nothing.
+-- `before_stop`: the scan's place, or the end of the part.
 use borrow.Author.Needs.{needs}
 use Rattle.label_call.proofs.OneLabel.{stop-disallowed, stop-tokens}
 use Rattle.label_call.proofs.before_stop.Statement.{statement}

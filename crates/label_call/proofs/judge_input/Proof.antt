@@ -1,4 +1,4 @@
--- `judge_input`: 1 to 4, then the label. Assumes nothing.
+-- `judge_input`: 1 to 4, then the label.
 use Rattle.memo.proofs.MemoLaws.{memo-new}
 use Rattle.name.proofs.Answering.{admits, label-admitted, label-not-admitted}
 use borrow.Author.Needs.{needs}

@@ -1,4 +1,4 @@
--- `judge_one`: a stop in the label, or the label as a whole. Assumes nothing.
+-- `judge_one`: a stop in the label, or the label as a whole.
 use native.Mathlib.Omega.{arith}
 use mathlib.Core.Path.{refl, sym, _∙_}
 use lib.ListN.{length-take}

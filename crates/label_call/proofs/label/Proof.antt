@@ -1,4 +1,4 @@
--- `label`: the two ends of the call. Assumes nothing.
+-- `label`: the two ends of the call.
 use borrow.Author.Needs.{needs}
 use borrow.Author.Tests.{not-true, not-false}
 use Rattle.name.proofs.Answering.{label-kept, label-over}

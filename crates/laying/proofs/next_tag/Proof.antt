@@ -1,4 +1,4 @@
--- `laying::next_tag` meets its contract. Assumes nothing.
+-- `laying::next_tag` meets its contract.
 use Prim.Native.Nat.{_-_}
 use native.Mathlib.Omega.{arith}
 use Rattle.laying.proofs.Texts.{next-some, next-none}

@@ -1,4 +1,4 @@
--- `laying::put_emoji` meets its contract: the stripped sequence is written to its place, and tagged with 0. Assumes nothing.
+-- `laying::put_emoji` meets its contract: the stripped sequence is written to its place, and tagged with 0.
 use native.Mathlib.Omega.{arith}
 use lib.ListN.{length-take}
 use Rattle.laying.proofs.Stripping.{emoji-over, emoji-put}

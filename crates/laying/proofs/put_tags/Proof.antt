@@ -1,4 +1,4 @@
--- `laying::put_tags` meets its contract: the loop keeps the codepoints that are tagged. Assumes nothing.
+-- `laying::put_tags` meets its contract: the loop keeps the codepoints that are tagged.
 use Prim.Native.Nat.{_-_}
 use borrow.Author.Needs.{needs}
 use Rattle.laying.proofs.Tagging.{Tagging, tag-start, tag-more, tag-stop, tag-over}

@@ -1,4 +1,4 @@
--- `laying::put_text` meets its contract: the decomposition is written to its place, and tagged. Assumes nothing.
+-- `laying::put_text` meets its contract: the decomposition is written to its place, and tagged.
 use native.Mathlib.Omega.{arith}
 use lib.ListN.{length-take}
 use Rattle.laying.proofs.Texts.{text-over, text-put}

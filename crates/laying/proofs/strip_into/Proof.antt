@@ -1,4 +1,4 @@
--- `laying::strip_into` meets its contract: the loop keeps what is left of the codepoints read. Assumes nothing.
+-- `laying::strip_into` meets its contract: the loop keeps what is left of the codepoints read.
 use Prim.Native.Nat.{_-_}
 use mathlib.Core.Path.{_∙_, ap}
 use lib.ListN.{length}

@@ -1,4 +1,4 @@
--- `layout::layout` meets its contract. The table is there where the words are few enough, the last section ends with them and all sections are well formed. Assumes nothing.
+-- `layout::layout` meets its contract. The table is there where the words are few enough, the last section ends with them and all sections are well formed.
 use native.Mathlib.Omega.{arith}
 use mathlib.Core.Path.{_≡_, sym, _∙_}
 use Rattle.sections.specs.Laid.{sectionsOf, lastEnd, AllFit}

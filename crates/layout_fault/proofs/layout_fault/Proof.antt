@@ -1,4 +1,4 @@
--- `layout_fault`: each arm tells what the layout pass answered. Assumes nothing.
+-- `layout_fault`: each arm tells what the layout pass answered.
 use Rattle.layout_fault.proofs.Told.{fault-told, found-told}
 use borrow.Author.Needs.{needs}
 use Rattle.layout_fault.proofs.layout_fault.Statement.{statement}

@@ -1,4 +1,4 @@
--- `moved_fields`: the values of each case. Assumes nothing.
+-- `moved_fields`: the values of each case.
 use mathlib.Core.Path.{sym, ap}
 use borrow.Author.Needs.{needs}
 use Rattle.moved_list.specs.Promise.{movedValues}

@@ -1,4 +1,4 @@
--- `respelled_fields`: the values of each case. Assumes nothing.
+-- `respelled_fields`: the values of each case.
 use mathlib.Core.Path.{sym, ap}
 use borrow.Author.Needs.{needs}
 use Rattle.respelled.specs.Promise.{respelledValues}

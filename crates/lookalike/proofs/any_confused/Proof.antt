@@ -1,4 +1,4 @@
--- `lookalike::any_confused` meets its contract, by the laws of a walk over the text. Assumes nothing.
+-- `lookalike::any_confused` meets its contract, by the laws of a walk over the text.
 use Prim.Native.Nat.{_-_}
 use mathlib.Core.Path.{sym, _∙_}
 use lib.ListN.{length}

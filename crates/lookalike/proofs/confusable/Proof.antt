@@ -1,5 +1,5 @@
 -- `lookalike::confusable` meets its contract: the first look shows that the text is not, or the flags that are left say whether some group can spell it
--- otherwise. Assumes nothing.
+-- otherwise.
 use mathlib.Core.Path.{refl, sym}
 use Rattle.sections.proofs.SectionLaws.{laid-reads}
 use Rattle.lookalike.proofs.RespellingLaws.{respelt-size, respelt-seen, respelt-unseen}

@@ -1,4 +1,4 @@
--- `lookalike::is_confused` meets its contract: a whole was found or not. Assumes nothing.
+-- `lookalike::is_confused` meets its contract: a whole was found or not.
 use Rattle.table.proofs.Searches.{whole-there, whole-missing}
 use Rattle.confusable.specs.Confusable.{isConfused}
 use borrow.Author.Needs.{needs}

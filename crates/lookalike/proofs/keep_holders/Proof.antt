@@ -1,4 +1,4 @@
--- `lookalike::keep_holders` meets its contract: the other list has the flags of the groups that hold the character. Assumes nothing.
+-- `lookalike::keep_holders` meets its contract: the other list has the flags of the groups that hold the character.
 use mathlib.Core.Path.{_∙_, ap}
 use lib.ListN.{length}
 use Rattle.table.specs.Layout.{theTable}

@@ -1,4 +1,4 @@
--- `lookalike::keep_others` meets its contract: the numbers are 1 for the groups that hold the character, and else 2. Assumes nothing.
+-- `lookalike::keep_others` meets its contract: the numbers are 1 for the groups that hold the character, and else 2.
 use mathlib.Core.Path.{sym, _∙_, ap}
 use lib.ListN.{length}
 use Rattle.table.specs.Layout.{theTable}

@@ -1,4 +1,4 @@
--- `lookalike::looks_plain` meets its contract: no character is confused, or no group is left. Assumes nothing.
+-- `lookalike::looks_plain` meets its contract: no character is confused, or no group is left.
 use mathlib.Core.Path.{sym, _∙_}
 use mathlib.Core.Bool.{false≢true}
 use borrow.Author.Tests.{not-true}

@@ -1,4 +1,4 @@
--- `lookalike::respellings` meets its contract, by that of the walk with the filter that is made. Assumes nothing.
+-- `lookalike::respellings` meets its contract, by that of the walk with the filter that is made.
 use mathlib.Core.Path.{refl}
 use borrow.Author.Needs.{needs}
 use Rattle.lookalike.proofs.respellings.Statement.{statement}

@@ -1,4 +1,4 @@
--- `lookalike::respellings_by` meets its contract, by the laws of a walk over the text. Assumes nothing.
+-- `lookalike::respellings_by` meets its contract, by the laws of a walk over the text.
 use Prim.Native.Nat.{_-_}
 use native.Mathlib.Omega.{arith}
 use mathlib.Core.Path.{_∙_, sym}

@@ -1,4 +1,4 @@
--- `lookalike::rule_out` meets its contract: of an unconfused character the groups that hold it are kept, of a confused one the others. Assumes nothing.
+-- `lookalike::rule_out` meets its contract: of an unconfused character the groups that hold it are kept, of a confused one the others.
 use Rattle.table.specs.Layout.{theTable}
 use Rattle.sections.proofs.SectionLaws.{laid-reads}
 use Rattle.table.proofs.Searches.{whole-there, whole-missing}

@@ -1,4 +1,4 @@
--- `lookalike::ruled_out` meets its contract, by the laws of a walk over the text. Assumes nothing.
+-- `lookalike::ruled_out` meets its contract, by the laws of a walk over the text.
 use Prim.Native.Nat.{_+_, _-_}
 use mathlib.Core.Path.{sym, _∙_}
 use mathlib.Core.Bool.{false≢true}

@@ -1,4 +1,4 @@
--- `fill` meets its contract: the components stand behind the key. Assumes nothing.
+-- `fill` meets its contract: the components stand behind the key.
 use native.Mathlib.Omega.{arith}
 use lib.ListN.{length-take, length-drop}
 use Rattle.sections.proofs.SectionLaws.{laid-fits, laid-small}

@@ -1,4 +1,4 @@
--- `find` meets its contract: the slots are tried one after another. Assumes nothing.
+-- `find` meets its contract: the slots are tried one after another.
 use Prim.Native.Nat.{_-_, _≤_}
 use native.Mathlib.Omega.{arith}
 use Rattle.memo.specs.Memo.{slotCount}

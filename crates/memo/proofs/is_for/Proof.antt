@@ -1,4 +1,4 @@
--- `is_for` meets its contract. Assumes nothing.
+-- `is_for` meets its contract.
 use mathlib.Core.Path.{sym, _∙_}
 use Rattle.memo.proofs.MemoLaws.{second-asked, first-fails}
 use borrow.Author.Needs.{needs}

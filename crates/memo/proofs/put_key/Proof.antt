@@ -1,4 +1,4 @@
--- `put_key` meets its contract. Assumes nothing.
+-- `put_key` meets its contract.
 use Rattle.memo.proofs.MemoLaws.{keyed-by}
 use borrow.Author.Needs.{needs}
 use Rattle.memo.proofs.put_key.Statement.{statement}

@@ -1,4 +1,4 @@
--- `recall` meets its contract: the slot is there, or is written. Assumes nothing.
+-- `recall` meets its contract: the slot is there, or is written.
 use Prim.Native.Nat.{_%_, _+_, _*_}
 use native.Mathlib.Omega.{arith}
 use lib.ListN.{getD}

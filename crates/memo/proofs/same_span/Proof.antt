@@ -1,4 +1,4 @@
--- `same_span` meets its contract. Assumes nothing.
+-- `same_span` meets its contract.
 use mathlib.Core.Path.{refl}
 use borrow.Author.Tests.{eq-eqb, ne-eqb}
 use Rattle.memo.proofs.MemoLaws.{second-asked, first-fails}

@@ -1,4 +1,4 @@
--- `list_area`: nothing is known of the table at first but its sections. Assumes nothing.
+-- `list_area`: nothing is known of the table at first but its sections.
 use mathlib.Core.Path.{refl, sym}
 use denote.Ref.{now}
 use borrow.Author.Needs.{needs}

@@ -1,4 +1,4 @@
--- `list_slots`: after each turn the entries of the slots before the next stand in the list. Assumes nothing.
+-- `list_slots`: after each turn the entries of the slots before the next stand in the list.
 use Prim.Native.Nat.{_-_}
 use native.Mathlib.Omega.{arith}
 use mathlib.Core.Path.{refl, sym, _∙_}

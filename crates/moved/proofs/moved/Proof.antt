@@ -1,4 +1,4 @@
--- `moved`: the two ends of the call. Assumes nothing.
+-- `moved`: the two ends of the call.
 use borrow.Author.Needs.{needs}
 use borrow.Author.Tests.{not-true, not-false}
 use Rattle.moved.proofs.MovedLaws.{moved-kept, moved-over}

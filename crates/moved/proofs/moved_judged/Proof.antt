@@ -1,4 +1,4 @@
--- `moved_judged`: 40 and 41, 1 and 2, or the entries. Assumes nothing.
+-- `moved_judged`: 40 and 41, 1 and 2, or the entries.
 use borrow.Author.Needs.{needs}
 use Rattle.name.proofs.Answering.{admits}
 use Rattle.book_forms.proofs.OpenLaws.{right-size}

@@ -1,4 +1,4 @@
--- `slot_change`: a free slot stays, and the name of a filed one is judged. Assumes nothing.
+-- `slot_change`: a free slot stays, and the name of a filed one is judged.
 use native.Mathlib.Omega.{arith}
 use mathlib.Core.Path.{refl, sym, _∙_}
 use denote.Ref.{now}

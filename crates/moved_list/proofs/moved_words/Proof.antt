@@ -1,4 +1,4 @@
--- `moved_words`: two words an entry. Assumes nothing.
+-- `moved_words`: two words an entry.
 use native.Mathlib.Omega.{arith}
 use borrow.Author.Needs.{needs}
 use Rattle.moved_list.proofs.EntryLaws.{twice, no-more}

@@ -1,4 +1,4 @@
--- `put_entry`: two words for a slot that moves, and none for one that stays. Assumes nothing.
+-- `put_entry`: two words for a slot that moves, and none for one that stays.
 use borrow.Author.Needs.{needs}
 use Rattle.moved_list.proofs.EntryLaws.{put-nothing, put-moved}
 use Rattle.moved_list.proofs.put_entry.Statement.{statement}

@@ -1,4 +1,4 @@
--- `name_bytes::judge_read` meets its contract: each way on is a law of what the reader answers. Assumes nothing.
+-- `name_bytes::judge_read` meets its contract: each way on is a law of what the reader answers.
 use Prim.Native.Nat.{_≤_}
 use mathlib.Core.Path.{sym}
 use lib.ListN.{length}

@@ -1,4 +1,4 @@
--- `name_bytes::name_bytes` meets its contract: the word that is read back is a zero, so what was found is answered. Assumes nothing.
+-- `name_bytes::name_bytes` meets its contract: the word that is read back is a zero, so what was found is answered.
 use borrow.Author.Needs.{needs}
 use Rattle.name_bytes.proofs.name_bytes.Statement.{statement}
 use Rattle.name_bytes.proofs.name_bytes.Tie as tie

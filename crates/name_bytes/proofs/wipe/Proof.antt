@@ -1,4 +1,4 @@
--- `name_bytes::wipe` meets its contract: the word that is read back is a zero. Assumes nothing.
+-- `name_bytes::wipe` meets its contract: the word that is read back is a zero.
 use borrow.Author.Needs.{needs}
 use Rattle.name_bytes.proofs.Arms.{wiped}
 use Rattle.name_bytes.proofs.wipe.Statement.{statement}

@@ -1,4 +1,4 @@
--- `judge_name`: 1 to 4, then the labels. Assumes nothing.
+-- `judge_name`: 1 to 4, then the labels.
 use Rattle.memo.proofs.MemoLaws.{memo-new}
 use Rattle.name.proofs.Answering.{admits, name-admitted, name-not-admitted}
 use borrow.Author.Needs.{needs}

@@ -1,4 +1,4 @@
--- `name`: the two ends of the call. Assumes nothing.
+-- `name`: the two ends of the call.
 use borrow.Author.Needs.{needs}
 use borrow.Author.Tests.{not-true, not-false}
 use Rattle.name.proofs.Answering.{name-kept, name-over}

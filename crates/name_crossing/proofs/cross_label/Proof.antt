@@ -1,4 +1,4 @@
--- `cross_label`: the promise of the call, with its values in the fields. Assumes nothing.
+-- `cross_label`: the promise of the call, with its values in the fields.
 use mathlib.Core.Path.{_∙_, ap}
 use borrow.Author.Needs.{needs}
 use Rattle.fields.specs.Fields.{labelNumbers}

@@ -1,4 +1,4 @@
--- `absorb_one`: the writer gives the octets of a scalar value, and nothing else. Assumes nothing.
+-- `absorb_one`: the writer gives the octets of a scalar value, and nothing else.
 use Prim.Native.Nat.{_≤_}
 use mathlib.Core.Path.{sym, ap, _∙_}
 use lib.ListN.{length}

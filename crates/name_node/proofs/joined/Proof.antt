@@ -1,4 +1,4 @@
--- `joined`: the two digests are taken one after the other. Assumes nothing.
+-- `joined`: the two digests are taken one after the other.
 use Prim.Native.Nat.{ℕ}
 use lib.ListN.{getD}
 use mir.Syntax.{w8}

@@ -1,4 +1,4 @@
--- `label_hash`: the octets of the first i codepoints are taken. Assumes nothing.
+-- `label_hash`: the octets of the first i codepoints are taken.
 use Prim.Native.Nat.{ℕ, _-_, _≤_}
 use native.Mathlib.Omega.{arith}
 use mathlib.Core.Path.{_≡_, ap, _∙_}

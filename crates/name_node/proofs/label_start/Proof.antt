@@ -1,4 +1,4 @@
--- `label_start`: no stop stands from i on. Assumes nothing.
+-- `label_start`: no stop stands from i on.
 use Prim.Native.Nat.{_≤_}
 use native.Mathlib.Omega.{arith}
 use mathlib.Core.Path.{_≡_, subst⁻¹}

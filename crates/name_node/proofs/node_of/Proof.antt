@@ -1,4 +1,4 @@
--- `node_of`: the labels from `start` on are hashed. Assumes nothing.
+-- `node_of`: the labels from `start` on are hashed.
 use Prim.Native.Nat.{ℕ, _-_, _≤_}
 use native.Mathlib.Omega.{arith}
 use mathlib.Core.Path.{refl, sym, ap, _∙_}

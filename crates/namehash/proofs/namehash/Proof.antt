@@ -1,4 +1,4 @@
--- `namehash`: each way out is a law of what the name call and the writer answer. Assumes nothing.
+-- `namehash`: each way out is a law of what the name call and the writer answer.
 use Prim.Native.Nat.{_≤_}
 use mathlib.Core.Path.{sym}
 use mathlib.Core.List.{[]}

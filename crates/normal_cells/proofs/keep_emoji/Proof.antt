@@ -1,4 +1,4 @@
--- `normal_cells::keep_emoji` meets its contract: one codepoint is moved down. Assumes nothing.
+-- `normal_cells::keep_emoji` meets its contract: one codepoint is moved down.
 use borrow.Author.Needs.{needs}
 use Rattle.normal_cells.proofs.Moving.{emoji-kept}
 use Rattle.normal_cells.proofs.keep_emoji.Statement.{statement}

@@ -1,4 +1,4 @@
--- `normal_cells::keep_text` meets its contract: the text is ordered and composed where it stands, and moved down. Assumes nothing.
+-- `normal_cells::keep_text` meets its contract: the text is ordered and composed where it stands, and moved down.
 use mathlib.Core.Path.{refl}
 use Rattle.normal_cells.proofs.Moving.{classes-taken, as-many, text-kept}
 use borrow.Author.Needs.{needs}

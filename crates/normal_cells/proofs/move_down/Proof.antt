@@ -1,4 +1,4 @@
--- `normal_cells::move_down` meets its contract: the codepoints that move stand where they stood until it is their turn. Assumes nothing.
+-- `normal_cells::move_down` meets its contract: the codepoints that move stand where they stood until it is their turn.
 use Prim.Native.Nat.{_-_}
 use native.Mathlib.Omega.{arith}
 use lib.ListN.{take, drop, length-set}

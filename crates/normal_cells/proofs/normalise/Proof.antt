@@ -1,4 +1,4 @@
--- `normal_cells::normalise` meets its contract: the loop keeps what is done before, and the tokens that are left where they stood. Assumes nothing.
+-- `normal_cells::normalise` meets its contract: the loop keeps what is done before, and the tokens that are left where they stood.
 use Prim.Native.Nat.{_-_}
 use native.Mathlib.Omega.{arith}
 use mathlib.Core.Path.{sym, _∙_}

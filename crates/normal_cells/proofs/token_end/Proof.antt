@@ -1,4 +1,4 @@
--- `normal_cells::token_end` meets its contract: the loop counts the tags 2 behind the first codepoint. Assumes nothing.
+-- `normal_cells::token_end` meets its contract: the loop counts the tags 2 behind the first codepoint.
 use Prim.Native.Nat.{_-_}
 use borrow.Author.Needs.{needs}
 use Rattle.normal_cells.proofs.Reading.{Ending, ending-start, ending-more, ending-here, ending-stop}

@@ -1,4 +1,4 @@
--- `cross_nfd`: the promise of `nfd`, with its values in the fields. Assumes nothing.
+-- `cross_nfd`: the promise of `nfd`, with its values in the fields.
 use mathlib.Core.Path.{_∙_}
 use borrow.Author.Needs.{needs}
 use Rattle.normal_crossing.proofs.cross_nfd.Statement.{statement}

@@ -1,4 +1,4 @@
--- `form_fields`: each arm's struct has the values of its case. Assumes nothing.
+-- `form_fields`: each arm's struct has the values of its case.
 use mathlib.Core.Path.{sym, ap}
 use Rattle.normal_forms.specs.Forms.{formValues}
 use borrow.Author.Needs.{needs}

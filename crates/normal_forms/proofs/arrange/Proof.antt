@@ -1,4 +1,4 @@
--- `arrange`: the classes of the text, and then both sorted by them. Assumes nothing.
+-- `arrange`: the classes of the text, and then both sorted by them.
 use borrow.Author.Needs.{needs}
 use Rattle.normal_forms.proofs.Answer.{arranged}
 use Rattle.normal_forms.proofs.arrange.Statement.{statement}

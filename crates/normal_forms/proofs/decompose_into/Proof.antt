@@ -1,4 +1,4 @@
--- `decompose_into`: after i turns the rounds of the first i codepoints are written, and the limit is kept. Assumes nothing.
+-- `decompose_into`: after i turns the rounds of the first i codepoints are written, and the limit is kept.
 use Prim.Native.Nat.{_-_, _≤_}
 use native.Mathlib.Omega.{arith}
 use mathlib.Core.Path.{refl}

@@ -1,4 +1,4 @@
--- `decomposed`: each refusal is a law of the tests, and the end is what `decompose_into` and `arrange` leave. Assumes nothing.
+-- `decomposed`: each refusal is a law of the tests, and the end is what `decompose_into` and `arrange` leave.
 use native.Mathlib.Omega.{arith}
 use borrow.Author.Needs.{needs}
 use mathlib.Core.Path.{sym, _∙_}

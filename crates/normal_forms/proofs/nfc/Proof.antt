@@ -1,4 +1,4 @@
--- `nfc`: what `nfc_front` leaves, and the end of the call. Assumes nothing.
+-- `nfc`: what `nfc_front` leaves, and the end of the call.
 use native.Mathlib.Omega.{arith}
 use denote.Ref.{now}
 use borrow.Author.Needs.{needs}

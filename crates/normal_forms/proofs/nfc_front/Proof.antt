@@ -1,4 +1,4 @@
--- `nfc_front`: a layout fault, a refusal of `decomposed`, or what it leaves, composed in its place. Assumes nothing.
+-- `nfc_front`: a layout fault, a refusal of `decomposed`, or what it leaves, composed in its place.
 use native.Mathlib.Omega.{arith}
 use mathlib.Core.Path.{refl, sym}
 use lib.Seq.{length-take-le}

@@ -1,4 +1,4 @@
--- `nfd_front`: a layout fault, or what `decomposed` answers. Assumes nothing.
+-- `nfd_front`: a layout fault, or what `decomposed` answers.
 use native.Mathlib.Omega.{arith}
 use borrow.Author.Needs.{needs}
 use Rattle.normal_forms.proofs.Answer.{fault-stands, nfd-stands}

@@ -1,4 +1,4 @@
--- `write_numeral`: one digit, or the digits of the quotient and then that of the remainder. The measure is the number. Assumes nothing.
+-- `write_numeral`: one digit, or the digits of the quotient and then that of the remainder. The measure is the number.
 use Prim.Native.Nat.{ℕ, _<_}
 use native.Mathlib.Omega.{arith}
 use borrow.Author.Needs.{needs}

@@ -1,4 +1,4 @@
--- `digit_byte`: a return for each range. Assumes nothing.
+-- `digit_byte`: a return for each range.
 use borrow.Author.Tests.{lt-ltb, le-ltb}
 use borrow.Author.Needs.{needs}
 use Rattle.numerals.proofs.digit_byte.Statement.{statement}

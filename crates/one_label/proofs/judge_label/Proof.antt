@@ -1,4 +1,4 @@
--- `judge_label`: by the scan that leaves text as it is, or else by the one that decomposes it. Assumes nothing.
+-- `judge_label`: by the scan that leaves text as it is, or else by the one that decomposes it.
 use native.Mathlib.Omega.{arith}
 use Rattle.one_label.proofs.Judging.{quick-fits, quick-judged, quick-left}
 use borrow.Author.Needs.{needs}

@@ -1,4 +1,4 @@
--- `judge_scanned`: 5 by the scan, the rest by its tokens. Assumes nothing.
+-- `judge_scanned`: 5 by the scan, the rest by its tokens.
 use native.Mathlib.Omega.{arith}
 use Rattle.one_label.proofs.Judging.{scan-inside, scan-refused, scan-judged}
 use borrow.Author.Needs.{needs}

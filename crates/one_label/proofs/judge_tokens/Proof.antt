@@ -1,4 +1,4 @@
--- `judge_tokens`: each return is one end of the tests 6 to 14 and 16. Assumes nothing.
+-- `judge_tokens`: each return is one end of the tests 6 to 14 and 16.
 use native.Mathlib.Omega.{arith}
 use mathlib.Core.Path.{_≡_}
 use mathlib.Core.Bool.{true}

@@ -1,4 +1,4 @@
--- `normalised`: the tokens are put into normal form, or are in it. Assumes nothing.
+-- `normalised`: the tokens are put into normal form, or are in it.
 use Rattle.one_label.proofs.Judging.{normal-now, normal-already}
 use borrow.Author.Needs.{needs}
 use Rattle.one_label.proofs.normalised.Statement.{statement}

@@ -1,4 +1,4 @@
--- `scan_quick`: nothing where rule 8 was not found to hold. Assumes nothing.
+-- `scan_quick`: nothing where rule 8 was not found to hold.
 use mathlib.Core.Path.{sym, _∙_, refl}
 use borrow.Author.Needs.{needs}
 use borrow.Author.Tests.{not-false}

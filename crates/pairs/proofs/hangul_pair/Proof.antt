@@ -1,4 +1,4 @@
--- `hangul_pair` meets its contract. Assumes nothing.
+-- `hangul_pair` meets its contract.
 use mathlib.Core.Path.{sym, _∙_}
 use native.Mathlib.Omega.{arith}
 use Rattle.text.proofs.Syllables.{Open, open-parts, Closed, closed-parts}

@@ -1,4 +1,4 @@
--- `pair_at` meets its contract. Assumes nothing.
+-- `pair_at` meets its contract.
 use mathlib.Core.Path.{_∙_}
 use Rattle.pairs.proofs.Pairs.{count-differs, first-differs, second-differs, items-agree, pair-may}
 use borrow.Author.Needs.{needs}

@@ -1,4 +1,4 @@
--- `pair_in` meets its contract: the pair is among the records from `at` on. Assumes nothing.
+-- `pair_in` meets its contract: the pair is among the records from `at` on.
 use Prim.Native.Nat.{_-_}
 use mathlib.Core.Path.{sym, _∙_}
 use native.Mathlib.Omega.{arith}

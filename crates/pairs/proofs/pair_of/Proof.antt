@@ -1,4 +1,4 @@
--- `pair_of` meets its contract. Assumes nothing.
+-- `pair_of` meets its contract.
 use mathlib.Core.Path.{_∙_}
 use Rattle.pairs.proofs.Pairs.{pair-hangul, pair-table}
 use borrow.Author.Needs.{needs}

@@ -1,4 +1,4 @@
--- `table_pair` meets its contract: the section lies within the words, and the index says where to look. Assumes nothing.
+-- `table_pair` meets its contract: the section lies within the words, and the index says where to look.
 use native.Mathlib.Omega.{arith}
 use mathlib.Core.Path.{refl}
 use Rattle.sections.proofs.SectionLaws.{laid-fits}

@@ -1,4 +1,4 @@
--- `rule8::composes_to` meets its contract: the text is put in order, and composed. Assumes nothing.
+-- `rule8::composes_to` meets its contract: the text is put in order, and composed.
 use denote.Ref.{now}
 use mathlib.Core.Path.{sym, _∙_}
 use Rattle.table.specs.Layout.{theTable}

@@ -1,4 +1,4 @@
--- `rule8::leading_passes` meets its contract. Assumes nothing.
+-- `rule8::leading_passes` meets its contract.
 use mathlib.Core.Path.{refl, sym, _∙_}
 use borrow.Author.Tests.{not-true, not-false}
 use Rattle.passing.proofs.RunLaws.{leading-other, leading-run}

@@ -1,4 +1,4 @@
--- `rule8::passes` meets its contract. Assumes nothing.
+-- `rule8::passes` meets its contract.
 use mathlib.Core.Path.{sym, _∙_}
 use Rattle.text_laws.specs.Parsed.{theTable-shaped}
 use Rattle.passing.proofs.PassLaws.{rounds-long, classes-long, rounds-some, passes-composed, passes-held}

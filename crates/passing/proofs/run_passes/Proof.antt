@@ -1,4 +1,4 @@
--- `rule8::run_passes` meets its contract. Assumes nothing.
+-- `rule8::run_passes` meets its contract.
 use Prim.Native.Nat.{_-_}
 use mathlib.Core.Path.{sym, _∙_}
 use borrow.Author.Tests.{not-true, not-false}

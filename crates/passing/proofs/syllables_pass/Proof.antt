@@ -1,4 +1,4 @@
--- `rule8::syllables_pass` meets its contract. Assumes nothing.
+-- `rule8::syllables_pass` meets its contract.
 use Prim.Native.Nat.{_+_, _-_}
 use mathlib.Core.Path.{sym, _∙_}
 use borrow.Author.Tests.{not-true, not-false}

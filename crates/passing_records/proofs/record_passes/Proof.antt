@@ -1,4 +1,4 @@
--- `rule8::record_passes` meets its contract. Assumes nothing.
+-- `rule8::record_passes` meets its contract.
 use mathlib.Core.Path.{sym, _∙_}
 use borrow.Author.Tests.{not-true, not-false}
 use Rattle.second_items.proofs.ItemLaws.{held-long}

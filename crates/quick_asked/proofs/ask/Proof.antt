@@ -1,4 +1,4 @@
--- `ask` meets its contract: rule 8 is noted where it is found to hold, with rules 6 and 7. Assumes nothing.
+-- `ask` meets its contract: rule 8 is noted where it is found to hold, with rules 6 and 7.
 use mathlib.Core.Logic.{inl, inr}
 use borrow.Author.Needs.{needs}
 use borrow.Author.Tests.{not-false}

@@ -1,4 +1,4 @@
--- `decompositions_fit` meets its contract. Assumes nothing.
+-- `decompositions_fit` meets its contract.
 use Rattle.lists.specs.Tests.{never}
 use mathlib.Core.Bool.{true}
 use Prim.Native.Nat.{ℕ}

@@ -1,4 +1,4 @@
--- `finds` meets its contract: what the walks see is put together. Assumes nothing.
+-- `finds` meets its contract: what the walks see is put together.
 use Rattle.lists.specs.Tests.{never}
 use mathlib.Core.Bool.{true}
 use mathlib.Core.Path.{refl, sym}

@@ -1,4 +1,4 @@
--- `holds_jamo` meets its contract. Assumes nothing.
+-- `holds_jamo` meets its contract.
 use Rattle.lists.specs.Tests.{never}
 use mathlib.Core.Bool.{true}
 use mathlib.Core.Path.{refl, sym}

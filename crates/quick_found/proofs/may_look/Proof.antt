@@ -1,4 +1,4 @@
--- `may_look` meets its contract. Assumes nothing.
+-- `may_look` meets its contract.
 use Rattle.lists.specs.Tests.{never}
 use mathlib.Core.Bool.{true, _&&_}
 use mathlib.Core.Path.{refl, sym}

@@ -1,4 +1,4 @@
--- `sections_fit` meets its contract. Assumes nothing.
+-- `sections_fit` meets its contract.
 use Rattle.lists.specs.Tests.{never}
 use mathlib.Core.Bool.{true}
 use mathlib.Core.Path.{refl, sym}

@@ -1,4 +1,4 @@
--- `index_records` meets its contract, by the laws of a walk over records. The measure is the length of what is left. Assumes nothing.
+-- `index_records` meets its contract, by the laws of a walk over records. The measure is the length of what is left.
 use Rattle.quick_levels.proofs.WalkLaws.{Indexing, indexing-start, indexing-more, indexing-stop, passed-here}
 use borrow.Author.Tests.{not-false}
 use Rattle.lists.specs.Tests.{never}

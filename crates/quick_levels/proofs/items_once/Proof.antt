@@ -1,4 +1,4 @@
--- `items_once` meets its contract. Assumes nothing.
+-- `items_once` meets its contract.
 use borrow.Author.Needs.{needs}
 use Rattle.quick_levels.proofs.items_once.Statement.{statement}
 use Rattle.quick_levels.proofs.items_once.Tie as tie

@@ -1,4 +1,4 @@
--- `lift` meets its contract, by the laws of a walk over records. The measure is the length of what is left. Assumes nothing.
+-- `lift` meets its contract, by the laws of a walk over records. The measure is the length of what is left.
 use Rattle.quick_levels.proofs.WalkLaws.{Lifting, lifting-start, lifting-more, lifting-stop, passed-here, passed-few}
 use Prim.Native.Nat.{_-_}
 use mathlib.Core.Path.{_∙_}

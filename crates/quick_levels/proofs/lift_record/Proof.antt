@@ -1,4 +1,4 @@
--- `lift_record` meets its contract. Assumes nothing.
+-- `lift_record` meets its contract.
 use Rattle.quick_levels.proofs.WalkLaws.{record-up, record-not}
 use borrow.Author.Needs.{needs}
 use Rattle.quick_levels.proofs.lift_record.Statement.{statement}

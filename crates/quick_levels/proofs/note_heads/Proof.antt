@@ -1,4 +1,4 @@
--- `note_heads` meets its contract, by the laws of a walk over records. The measure is the length of what is left. Assumes nothing.
+-- `note_heads` meets its contract, by the laws of a walk over records. The measure is the length of what is left.
 use Rattle.quick_levels.proofs.WalkLaws.{passed-start, passed-here, heads-broken, heads-stop, heads-more}
 use Rattle.quick_levels.specs.Walk.{Passed, HeadNoted}
 use borrow.Author.Tests.{not-false}

@@ -1,4 +1,4 @@
--- `stand_in_levels` meets its contract. Assumes nothing.
+-- `stand_in_levels` meets its contract.
 use Rattle.quick_levels.proofs.WalkLaws.{levels-found}
 use borrow.Author.Needs.{needs}
 use Rattle.quick_levels.proofs.stand_in_levels.Statement.{statement}

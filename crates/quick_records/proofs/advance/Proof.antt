@@ -1,4 +1,4 @@
--- `advance` meets its contract. The measure is the length of what is left. Assumes nothing.
+-- `advance` meets its contract. The measure is the length of what is left.
 use Prim.Native.Nat.{_-_, _%_, _≤_}
 use mathlib.Core.Path.{_≡_}
 use lib.ListN.{length}

@@ -1,4 +1,4 @@
--- `all_fit` meets its contract, by the laws of a walk over records. The measure is the length of what is left. Assumes nothing.
+-- `all_fit` meets its contract, by the laws of a walk over records. The measure is the length of what is left.
 use denote.Ref.{now}
 use Prim.Native.Nat.{_-_, _%_, _≤_}
 use mathlib.Core.Path.{_≡_, refl, sym, _∙_, subst}

@@ -1,4 +1,4 @@
--- `behind_fits` meets its contract: the index has the record, or there is none. Assumes nothing.
+-- `behind_fits` meets its contract: the index has the record, or there is none.
 use Rattle.lists.specs.Tests.{never}
 use mathlib.Core.Bool.{true}
 use mathlib.Core.Path.{refl, sym}

@@ -1,4 +1,4 @@
--- `composes` meets its contract. Assumes nothing.
+-- `composes` meets its contract.
 use Rattle.lists.specs.Tests.{never}
 use mathlib.Core.Bool.{true}
 use mathlib.Core.Path.{refl, sym, _∙_}

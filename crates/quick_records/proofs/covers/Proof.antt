@@ -1,4 +1,4 @@
--- `covers` meets its contract. Assumes nothing.
+-- `covers` meets its contract.
 use Rattle.lists.specs.Tests.{never}
 use mathlib.Core.Bool.{true}
 use mathlib.Core.Path.{refl, sym}

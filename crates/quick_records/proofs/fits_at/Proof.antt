@@ -1,4 +1,4 @@
--- `fits_at` meets its contract. Assumes nothing.
+-- `fits_at` meets its contract.
 use Rattle.quick_records.proofs.FitLaws.{at-other, at-two}
 use borrow.Author.Needs.{needs}
 use Rattle.quick_records.proofs.fits_at.Statement.{statement}

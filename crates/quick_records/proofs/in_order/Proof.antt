@@ -1,4 +1,4 @@
--- `in_order` meets its contract. Assumes nothing.
+-- `in_order` meets its contract.
 use denote.Ref.{now}
 use mathlib.Core.Path.{sym, _∙_}
 use borrow.Author.Tests.{leb-true}

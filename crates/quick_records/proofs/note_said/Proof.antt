@@ -1,4 +1,4 @@
--- `note_said` meets its contract, section by section. Assumes nothing.
+-- `note_said` meets its contract, section by section.
 use Rattle.lists.specs.Tests.{never}
 use mathlib.Core.Bool.{true}
 use mathlib.Core.Path.{refl, sym, _∙_}

@@ -1,4 +1,4 @@
--- `record_fits` meets its contract. Assumes nothing.
+-- `record_fits` meets its contract.
 use borrow.Author.Tests.{not-false}
 use Rattle.quick_records.proofs.FitLaws.{record-not, record-unpaired, record-inside, record-outside}
 use borrow.Author.Needs.{needs}

@@ -1,4 +1,4 @@
--- `records_fit` meets its contract. Assumes nothing.
+-- `records_fit` meets its contract.
 use Rattle.lists.specs.Tests.{never}
 use mathlib.Core.Bool.{true}
 use mathlib.Core.Path.{refl, sym, _∙_}

@@ -1,4 +1,4 @@
--- `stands_behind` meets its contract. Assumes nothing.
+-- `stands_behind` meets its contract.
 use mathlib.Core.Path.{sym, _∙_}
 use borrow.Author.Tests.{not-true}
 use Rattle.quick_records.proofs.BehindLaws.{behind-no-head}

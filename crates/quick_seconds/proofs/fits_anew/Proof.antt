@@ -1,4 +1,4 @@
--- `fits_anew` meets its contract. Assumes nothing.
+-- `fits_anew` meets its contract.
 use mathlib.Core.Path.{sym, _∙_}
 use borrow.Author.Tests.{not-false}
 use Rattle.quick_seconds.proofs.SecondLaws.{second-not, second-anew}

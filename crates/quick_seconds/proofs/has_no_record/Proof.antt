@@ -1,4 +1,4 @@
--- `has_no_record` meets its contract. Assumes nothing.
+-- `has_no_record` meets its contract.
 use Rattle.lists.specs.Tests.{never}
 use mathlib.Core.Bool.{true}
 use mathlib.Core.Path.{refl, sym}

@@ -1,4 +1,4 @@
--- `is_no_head` meets its contract: by the filter, or by the section. Assumes nothing.
+-- `is_no_head` meets its contract: by the filter, or by the section.
 use mathlib.Core.Path.{sym, _∙_}
 use borrow.Author.Tests.{not-true}
 use Rattle.quick_seconds.proofs.SecondLaws.{held-none, head-by-filter, head-not, head-by-section}

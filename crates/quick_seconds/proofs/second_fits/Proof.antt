@@ -1,4 +1,4 @@
--- `second_fits` meets its contract: what is kept fits. Assumes nothing.
+-- `second_fits` meets its contract: what is kept fits.
 use mathlib.Core.Path.{sym, _∙_}
 use borrow.Author.Tests.{not-false}
 use Rattle.quick_seconds.proofs.SecondLaws.{second-not, second-kept, second-new}

@@ -1,4 +1,4 @@
--- `change_by`: each return is one of the tests. Assumes nothing.
+-- `change_by`: each return is one of the tests.
 use borrow.Author.Tests.{eq-eqb, ne-eqb, lt-ltb, le-ltb}
 use Rattle.refiled.proofs.change_by.Statement.{statement}
 use Rattle.refiled.proofs.change_by.Tie as tie

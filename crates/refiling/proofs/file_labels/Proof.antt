@@ -1,4 +1,4 @@
--- `file_labels`: after each turn the labels so far have passed, and each answer was compared with its label. Assumes nothing.
+-- `file_labels`: after each turn the labels so far have passed, and each answer was compared with its label.
 use Prim.Native.Nat.{_+_, _-_}
 use native.Mathlib.Omega.{arith}
 use mathlib.Core.Path.{refl, sym, _∙_}

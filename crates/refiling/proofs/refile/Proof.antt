@@ -1,4 +1,4 @@
--- `refile`: 4, a refusal of a label, or what the form comes to. Assumes nothing.
+-- `refile`: 4, a refusal of a label, or what the form comes to.
 use mathlib.Core.Path.{refl, sym, _∙_}
 use borrow.Author.Needs.{needs}
 use Rattle.refiling.proofs.FilingLaws.{changed-scalar, changed-refused, changed-form}

@@ -1,4 +1,4 @@
--- `write_reply`: the line is read, the name normalised and its line written. Assumes nothing.
+-- `write_reply`: the line is read, the name normalised and its line written.
 use mathlib.Core.Path.{refl, sym}
 use lib.Seq.{length-take-le}
 use Rattle.replying.proofs.Replies.{read-of, reply-bad, name-within, reply-room, reply-text}

@@ -1,4 +1,4 @@
--- `report`: each way out is a law of what the name was judged and what was written. Assumes nothing.
+-- `report`: each way out is a law of what the name was judged and what was written.
 use Prim.Native.Nat.{ℕ}
 use native.Mathlib.Omega.{arith}
 use mathlib.Core.Path.{refl, ap, _∙_}

@@ -1,4 +1,4 @@
--- `report_fields`: the values of each case. Assumes nothing.
+-- `report_fields`: the values of each case.
 use mathlib.Core.Path.{sym, ap}
 use borrow.Author.Needs.{needs}
 use Rattle.report.specs.Promise.{reportValues}

@@ -1,4 +1,4 @@
--- `put_codepoint`: a blank, and the digits, between braces or not. Assumes nothing.
+-- `put_codepoint`: a blank, and the digits, between braces or not.
 use mathlib.Core.Path.{sym, _∙_}
 use Rattle.report_lines.proofs.Putting.{shown-plain, shown-braced}
 use borrow.Author.Needs.{needs}

@@ -1,4 +1,4 @@
--- `put_codepoints`: after i turns the first i codepoints are put. Assumes nothing.
+-- `put_codepoints`: after i turns the first i codepoints are put.
 use Prim.Native.Nat.{_-_}
 use native.Mathlib.Omega.{arith}
 use lib.ListN.{length}

@@ -1,4 +1,4 @@
--- `put_kind`: one of two words. Assumes nothing.
+-- `put_kind`: one of two words.
 use Rattle.report_lines.proofs.Putting.{word-emoji, word-text}
 use borrow.Author.Needs.{needs}
 use Rattle.report_lines.proofs.put_kind.Statement.{statement}

@@ -1,4 +1,4 @@
--- `put_line`: the parts of a line, one behind the other. Assumes nothing.
+-- `put_line`: the parts of a line, one behind the other.
 use Rattle.report_lines.proofs.Putting.{line-put}
 use borrow.Author.Needs.{needs}
 use Rattle.report_lines.proofs.put_line.Statement.{statement}

@@ -1,4 +1,4 @@
--- `put_place`: a blank, and the digits. Assumes nothing.
+-- `put_place`: a blank, and the digits.
 use Rattle.byte_sink.proofs.Adding.{adds-then}
 use borrow.Author.Needs.{needs}
 use Rattle.report_lines.proofs.put_place.Statement.{statement}

@@ -1,4 +1,4 @@
--- `report_labels`: after each turn the lines of the labels so far are written. Assumes nothing.
+-- `report_labels`: after each turn the lines of the labels so far are written.
 use Prim.Native.Nat.{_+_, _-_}
 use native.Mathlib.Omega.{arith}
 use mathlib.Core.Path.{_≡_, refl, sym, _∙_}

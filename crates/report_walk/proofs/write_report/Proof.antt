@@ -1,4 +1,4 @@
--- `write_report`: the words are a table, and its sections are found. Assumes nothing.
+-- `write_report`: the words are a table, and its sections are found.
 use Rattle.report_walk.proofs.Reporting.{never-fault}
 use borrow.Author.Needs.{needs}
 use Rattle.report_walk.proofs.write_report.Statement.{statement}

@@ -1,4 +1,4 @@
--- `entries_of`: the entries of each case. Assumes nothing.
+-- `entries_of`: the entries of each case.
 use mathlib.Core.Path.{sym, ap}
 use borrow.Author.Needs.{needs}
 use Rattle.respelled.specs.Steps.{entriesOf}

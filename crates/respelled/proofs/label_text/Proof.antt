@@ -1,4 +1,4 @@
--- `label_text`: the tokens in normal form, and their text alone. Assumes nothing.
+-- `label_text`: the tokens in normal form, and their text alone.
 use native.Mathlib.Omega.{arith}
 use mathlib.Core.Path.{refl, sym, _∙_}
 use borrow.Author.Needs.{needs}

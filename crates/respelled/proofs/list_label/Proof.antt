@@ -1,4 +1,4 @@
--- `list_label`: none for a label that is accepted, those of one that is refused as 14. Assumes nothing.
+-- `list_label`: none for a label that is accepted, those of one that is refused as 14.
 use native.Mathlib.Omega.{arith}
 use mathlib.Core.Path.{_∙_}
 use mathlib.Core.List.{[]}

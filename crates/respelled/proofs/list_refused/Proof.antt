@@ -1,4 +1,4 @@
--- `list_refused`: the groups of the text in the work area. Assumes nothing.
+-- `list_refused`: the groups of the text in the work area.
 use native.Mathlib.Omega.{arith}
 use borrow.Author.Needs.{needs}
 use Rattle.respelled.proofs.ListLaws.{label-listed}

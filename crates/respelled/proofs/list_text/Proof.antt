@@ -1,4 +1,4 @@
--- `list_text`: the groups whose flags the look-alike test left, or none. Assumes nothing.
+-- `list_text`: the groups whose flags the look-alike test left, or none.
 use mathlib.Core.Path.{refl}
 use borrow.Author.Tests.{not-true, not-false}
 use Rattle.sections.proofs.SectionLaws.{laid-reads}

@@ -1,4 +1,4 @@
--- `respelled`: the two ends of the call. Assumes nothing.
+-- `respelled`: the two ends of the call.
 use borrow.Author.Tests.{not-true, not-false}
 use borrow.Author.Needs.{needs}
 use Rattle.respelled.proofs.ListLaws.{respelled-kept, respelled-over}

@@ -1,4 +1,4 @@
--- `respelled_judged`: 1 to 4, or what the label gives. Assumes nothing.
+-- `respelled_judged`: 1 to 4, or what the label gives.
 use Rattle.name.proofs.Answering.{admits}
 use borrow.Author.Needs.{needs}
 use Rattle.respelled.proofs.ListLaws.{refused-by, not-admitted}

@@ -1,4 +1,4 @@
--- `is_scalar`: each return is one way in which the test ends. Assumes nothing.
+-- `is_scalar`: each return is one way in which the test ends.
 use Rattle.scalar.proofs.Scalars.{scalar-over, scalar-low, scalar-rest}
 use Rattle.scalar.proofs.is_scalar.Statement.{statement}
 use Rattle.scalar.proofs.is_scalar.Tie as tie

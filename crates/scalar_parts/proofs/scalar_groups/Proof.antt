@@ -1,4 +1,4 @@
--- `scalar_parts::scalar_groups` meets its contract, by the laws of a walk over records. Assumes nothing.
+-- `scalar_parts::scalar_groups` meets its contract, by the laws of a walk over records.
 use Prim.Native.Nat.{ℕ, _-_}
 use mathlib.Core.Path.{_≡_, sym, _∙_, ap}
 use mathlib.Core.List.{List}

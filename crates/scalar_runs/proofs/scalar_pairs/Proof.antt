@@ -1,4 +1,4 @@
--- `scalar_runs::scalar_pairs` meets its contract, by the laws of a walk over pairs. Assumes nothing.
+-- `scalar_runs::scalar_pairs` meets its contract, by the laws of a walk over pairs.
 use Prim.Native.Nat.{_-_}
 use mathlib.Core.Path.{sym, _∙_}
 use borrow.Author.Tests.{not-true, not-false}

@@ -1,4 +1,4 @@
--- `scalar_runs::scalar_triples` meets its contract, by the laws of a walk over triples. Assumes nothing.
+-- `scalar_runs::scalar_triples` meets its contract, by the laws of a walk over triples.
 use Prim.Native.Nat.{_-_}
 use mathlib.Core.Path.{sym, _∙_}
 use borrow.Author.Tests.{not-true, not-false}

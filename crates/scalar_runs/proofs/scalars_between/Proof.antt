@@ -1,4 +1,4 @@
--- `scalar_runs::scalars_between` meets its contract. Assumes nothing.
+-- `scalar_runs::scalars_between` meets its contract.
 use borrow.Author.Tests.{le-leb, lt-leb, lt-ltb, le-ltb}
 use Rattle.scalar_runs.proofs.scalars_between.Statement.{statement}
 use Rattle.scalar_runs.proofs.scalars_between.Tie as tie

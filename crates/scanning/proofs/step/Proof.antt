@@ -1,4 +1,4 @@
--- `scanning::step` meets its contract: an emoji where one is found, else one codepoint. Assumes nothing.
+-- `scanning::step` meets its contract: an emoji where one is found, else one codepoint.
 use borrow.Author.Needs.{needs}
 use Rattle.scanning.proofs.Steps.{step-sequence, step-emoji, step-alone}
 use Rattle.scanning.proofs.step.Statement.{statement}

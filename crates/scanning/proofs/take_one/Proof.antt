@@ -1,4 +1,4 @@
--- `scanning::take_one` meets its contract: each case of the step at one codepoint is laid down. Assumes nothing.
+-- `scanning::take_one` meets its contract: each case of the step at one codepoint is laid down.
 use borrow.Author.Needs.{needs}
 use Rattle.scanning.proofs.Steps.{one-items, one-valid, one-mapped, one-ignored, one-disallowed}
 use Rattle.scanning.proofs.take_one.Tie as tie

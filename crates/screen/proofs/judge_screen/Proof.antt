@@ -1,4 +1,4 @@
--- `judge_screen`: what 1 to 4 leave. Assumes nothing.
+-- `judge_screen`: what 1 to 4 leave.
 use borrow.Author.Needs.{needs}
 use Rattle.memo.proofs.MemoLaws.{memo-new}
 use Rattle.name.proofs.Answering.{admits}

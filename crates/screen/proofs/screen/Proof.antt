@@ -1,4 +1,4 @@
--- `screen`: the two ends of the call. Assumes nothing.
+-- `screen`: the two ends of the call.
 use borrow.Author.Needs.{needs}
 use borrow.Author.Tests.{not-true, not-false}
 use Rattle.screen.proofs.Calling.{screen-kept, screen-over}

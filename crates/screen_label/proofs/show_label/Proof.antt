@@ -1,4 +1,4 @@
--- `show_label`: after each turn the tokens so far are written. Assumes nothing.
+-- `show_label`: after each turn the tokens so far are written.
 use Prim.Native.Nat.{_-_}
 use native.Mathlib.Omega.{arith}
 use mathlib.Core.Path.{_≡_, refl, _∙_}

@@ -1,4 +1,4 @@
--- `is_greek`: emoji and ASCII are of no group. Assumes nothing.
+-- `is_greek`: emoji and ASCII are of no group.
 use mathlib.Core.Path.{sym, ap}
 use borrow.Author.Needs.{needs}
 use Rattle.forms.specs.Forms.{isGreek}

@@ -1,4 +1,4 @@
--- `put_token`: the sequence of the record, or the text as it is shown. Assumes nothing.
+-- `put_token`: the sequence of the record, or the text as it is shown.
 use native.Mathlib.Omega.{arith}
 use mathlib.Core.Path.{sym}
 use mathlib.Core.Logic.{⊎-elim}

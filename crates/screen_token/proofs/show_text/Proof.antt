@@ -1,4 +1,4 @@
--- `show_text`: after each turn the words so far are shown. Assumes nothing.
+-- `show_text`: after each turn the words so far are shown.
 use Prim.Native.Nat.{_-_}
 use native.Mathlib.Omega.{arith}
 use mathlib.Core.Logic.{⊎-elim}

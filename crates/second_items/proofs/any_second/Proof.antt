@@ -1,4 +1,4 @@
--- `rule8::any_second` meets its contract, by the laws of a walk over records. Assumes nothing.
+-- `rule8::any_second` meets its contract, by the laws of a walk over records.
 use denote.Ref.{now}
 use Prim.Native.Nat.{_-_}
 use mathlib.Core.Path.{sym, _∙_}

@@ -1,4 +1,4 @@
--- `rule8::is_second` meets its contract. Assumes nothing.
+-- `rule8::is_second` meets its contract.
 use mathlib.Core.Path.{sym, _∙_}
 use Rattle.sections.proofs.SectionLaws.{laid-fits}
 use Rattle.sound_parts.proofs.SectionsHold.{decompositions-hold, decompositions-are}

@@ -1,4 +1,4 @@
--- `rule8::second_held` meets its contract. Assumes nothing.
+-- `rule8::second_held` meets its contract.
 use mathlib.Core.Path.{sym, _∙_}
 use borrow.Author.Needs.{needs}
 use Rattle.second_items.proofs.ItemLaws.{held-short, held-in, held-out}

@@ -1,4 +1,4 @@
--- `rule8::second_is` meets its contract. Assumes nothing.
+-- `rule8::second_is` meets its contract.
 use borrow.Author.Needs.{needs}
 use Rattle.second_items.proofs.ItemLaws.{second-short, second-other, second-same}
 use Rattle.second_items.proofs.second_is.Statement.{statement}

@@ -1,4 +1,4 @@
--- `section_places::no_starts` meets its contract. Every mark stands at the start. Assumes nothing.
+-- `section_places::no_starts` meets its contract. Every mark stands at the start.
 use borrow.Author.Needs.{needs}
 use Rattle.section_places.proofs.no_starts.Statement.{statement}
 use Rattle.section_places.proofs.no_starts.Tie as tie

@@ -1,4 +1,4 @@
--- `section_places::places` meets its contract. Each section is found behind the one before it. Assumes nothing.
+-- `section_places::places` meets its contract. Each section is found behind the one before it.
 use Rattle.sections.proofs.SectionLaws.{sections-chain}
 use borrow.Author.Needs.{needs}
 use Rattle.section_places.proofs.places.Statement.{statement}

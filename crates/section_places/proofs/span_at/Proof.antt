@@ -1,4 +1,4 @@
--- `section_places::span_at` meets its contract. Both tests are those of the definition, and past the end of the words no count is read. Assumes nothing.
+-- `section_places::span_at` meets its contract. Both tests are those of the definition, and past the end of the words no count is read.
 use native.Mathlib.Omega.{arith}
 use mathlib.Core.Logic.{⊎-elim}
 use Rattle.sections.proofs.SectionLaws.{span-there, span-none}

@@ -1,4 +1,4 @@
--- `seen_parts::classes_in` meets its contract. What is seen of the part is seen of the section. Assumes nothing.
+-- `seen_parts::classes_in` meets its contract. What is seen of the part is seen of the section.
 use Rattle.group_sizes.proofs.ApartLaws.{sees-order}
 use borrow.Author.Needs.{needs}
 use Rattle.seen_parts.proofs.classes_in.Statement.{statement}

@@ -1,4 +1,4 @@
--- `seen_parts::excluded_in` meets its contract. The items stand behind the count. Assumes nothing.
+-- `seen_parts::excluded_in` meets its contract. The items stand behind the count.
 use native.Mathlib.Omega.{arith}
 use mathlib.Core.Path.{sym, _∙_}
 use Rattle.table.proofs.Lookups.{false-true}

@@ -1,4 +1,4 @@
--- `seen_parts::firsts_in` meets its contract. What is seen of the part is seen of the section. Assumes nothing.
+-- `seen_parts::firsts_in` meets its contract. What is seen of the part is seen of the section.
 use Rattle.seen_parts.proofs.PartLaws.{sees-firsts}
 use borrow.Author.Needs.{needs}
 use Rattle.seen_parts.proofs.firsts_in.Statement.{statement}

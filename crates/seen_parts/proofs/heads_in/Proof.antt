@@ -1,4 +1,4 @@
--- `seen_parts::heads_in` meets its contract. What is seen of the part is seen of the section. Assumes nothing.
+-- `seen_parts::heads_in` meets its contract. What is seen of the part is seen of the section.
 use Rattle.seen_parts.proofs.PartLaws.{sees-heads}
 use borrow.Author.Needs.{needs}
 use Rattle.seen_parts.proofs.heads_in.Statement.{statement}

@@ -1,4 +1,4 @@
--- `seen_sections::found_of` meets its contract. Each place stays, beside what is found. Assumes nothing.
+-- `seen_sections::found_of` meets its contract. Each place stays, beside what is found.
 use borrow.Author.Needs.{needs}
 use Rattle.seen_sections.proofs.found_of.Statement.{statement}
 use Rattle.seen_sections.proofs.found_of.Tie as tie

@@ -1,4 +1,4 @@
--- `write_ending`: the last line, where one is held, and the count of names. Assumes nothing.
+-- `write_ending`: the last line, where one is held, and the count of names.
 use denote.Ref.{now}
 use borrow.Author.Tests.{not-true, not-false}
 use Rattle.buffers.proofs.Written.{written-same}

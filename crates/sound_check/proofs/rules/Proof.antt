@@ -1,4 +1,4 @@
--- `sound_check::rules` meets its contract: the first rules decide where one is broken, else the others. Assumes nothing.
+-- `sound_check::rules` meets its contract: the first rules decide where one is broken, else the others.
 use mathlib.Core.Path.{sym, _∙_, ap}
 use mathlib.Core.Bool.{false≢true}
 use Rattle.answers.specs.Values.{brokenRule}

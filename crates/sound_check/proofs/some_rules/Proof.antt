@@ -1,4 +1,4 @@
--- `sound_check::some_rules` meets its contract. Assumes nothing.
+-- `sound_check::some_rules` meets its contract.
 use mathlib.Core.Path.{_∙_}
 use Rattle.sound_check.proofs.CheckLaws.{of-first, of-last}
 use Rattle.sound_check.proofs.some_rules.Statement.{statement}

@@ -1,4 +1,4 @@
--- `sound_check::soundness` meets its contract. Assumes nothing.
+-- `sound_check::soundness` meets its contract.
 use mathlib.Core.Path.{sym, _∙_}
 use Rattle.sound_check.proofs.CheckLaws.{found-check, fault-check}
 use borrow.Author.Needs.{needs}

@@ -1,4 +1,4 @@
--- `spelling::all_ascii` meets its contract, by the laws of a walk over characters that pass a test. Assumes nothing.
+-- `spelling::all_ascii` meets its contract, by the laws of a walk over characters that pass a test.
 use Prim.Native.Nat.{_-_}
 use native.Mathlib.Omega.{arith}
 use mathlib.Core.Path.{sym}

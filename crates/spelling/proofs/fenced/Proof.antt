@@ -1,4 +1,4 @@
--- `spelling::fenced` meets its contract, by the laws of a search from left to right. Assumes nothing.
+-- `spelling::fenced` meets its contract, by the laws of a search from left to right.
 use mathlib.Core.Path.{_∙_, sym}
 use mathlib.Core.Logic.{⊎-elim}
 use Prim.Native.Nat.{_-_}

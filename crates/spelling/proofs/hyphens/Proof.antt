@@ -1,4 +1,4 @@
--- `spelling::hyphens` meets its contract. Assumes nothing.
+-- `spelling::hyphens` meets its contract.
 use native.Mathlib.Omega.{arith}
 use mathlib.Core.Path.{sym}
 use borrow.Author.Tests.{eq-eqb, ne-eqb}

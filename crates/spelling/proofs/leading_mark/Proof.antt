@@ -1,4 +1,4 @@
--- `spelling::leading_mark` meets its contract, by the laws of a walk over the cells. Assumes nothing.
+-- `spelling::leading_mark` meets its contract, by the laws of a walk over the cells.
 use Prim.Native.Nat.{_-_}
 use native.Mathlib.Omega.{arith}
 use mathlib.Core.Path.{_∙_, sym}

@@ -1,4 +1,4 @@
--- `spelling::low_line` meets its contract, by the laws of a walk over the low lines at the start. Assumes nothing.
+-- `spelling::low_line` meets its contract, by the laws of a walk over the low lines at the start.
 use mathlib.Core.Path.{_∙_}
 use Prim.Native.Nat.{_-_}
 use native.Mathlib.Omega.{arith}

@@ -1,4 +1,4 @@
--- `read_table`: what unpacking promises, for a file that is not too long. Assumes nothing.
+-- `read_table`: what unpacking promises, for a file that is not too long.
 use Rattle.table_file.proofs.TableFile.{table-too-long, table-read}
 use borrow.Author.Needs.{needs}
 use Rattle.table_file.proofs.read_table.Statement.{statement}

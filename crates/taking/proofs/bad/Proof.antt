@@ -1,4 +1,4 @@
--- `bad`: the line is in its buffer. Assumes nothing.
+-- `bad`: the line is in its buffer.
 use mathlib.Core.Path.{sym}
 use lib.Seq.{length-take-le}
 use native.Mathlib.Omega.{arith}

@@ -1,4 +1,4 @@
--- `serve`: the text that is written is in its buffer, and the answer tells of the line. Assumes nothing.
+-- `serve`: the text that is written is in its buffer, and the answer tells of the line.
 use mathlib.Core.Path.{sym, _∙_}
 use mathlib.Core.Bool.{false≢true}
 use lib.Seq.{length-take-le}

@@ -1,4 +1,4 @@
--- `take_piece`: each turn takes a line, or the rest of the piece. Assumes nothing.
+-- `take_piece`: each turn takes a line, or the rest of the piece.
 use Prim.Native.Nat.{_-_}
 use mathlib.Core.Path.{refl}
 use lib.ListN.{length}

@@ -1,4 +1,4 @@
--- `look`: an emoji where one is found, else one codepoint. Assumes nothing.
+-- `look`: an emoji where one is found, else one codepoint.
 use borrow.Author.Needs.{needs}
 use Rattle.table.specs.Layout.{theTable}
 use Rattle.token_extent.proofs.Looking.{look-emoji, look-codepoint}

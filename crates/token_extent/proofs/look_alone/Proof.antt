@@ -1,4 +1,4 @@
--- `look_alone`: what the step at one codepoint gives. Assumes nothing.
+-- `look_alone`: what the step at one codepoint gives.
 use borrow.Author.Needs.{needs}
 use Rattle.token_extent.proofs.Looking.{look-valid, look-mapped, look-ignored, look-disallowed}
 use Rattle.token_extent.proofs.look_alone.Statement.{statement}

@@ -1,4 +1,4 @@
--- `token_end`: what the token has come to after the steps so far, until one starts another token. Assumes nothing.
+-- `token_end`: what the token has come to after the steps so far, until one starts another token.
 use Prim.Native.Nat.{_-_}
 use native.Mathlib.Omega.{arith}
 use borrow.Author.Needs.{needs}

@@ -1,4 +1,4 @@
--- `next_token`: the own part of the first token, scanned and put into normal form. Assumes nothing.
+-- `next_token`: the own part of the first token, scanned and put into normal form.
 use native.Mathlib.Omega.{arith}
 use mathlib.Core.Path.{sym}
 use lib.ListN.{length-take}

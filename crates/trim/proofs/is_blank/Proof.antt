@@ -1,4 +1,4 @@
--- `is_blank`: each test is one of the list's. Assumes nothing.
+-- `is_blank`: each test is one of the list's.
 use borrow.Author.Tests.{eq-eqb, ne-eqb}
 use Rattle.trim.specs.Trim.{isBlank}
 use Rattle.trim.proofs.is_blank.Statement.{statement}

@@ -1,4 +1,4 @@
--- `length_of`: the codepoints from n on are blanks. Assumes nothing.
+-- `length_of`: the codepoints from n on are blanks.
 use Prim.Native.Nat.{_≤_}
 use mathlib.Core.Path.{_≡_, sym, _∙_}
 use lib.ListN.{length, take}

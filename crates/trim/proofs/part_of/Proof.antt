@@ -1,4 +1,4 @@
--- `part_of`: what is lent to `length_of` is the input without the blanks at its front. Assumes nothing.
+-- `part_of`: what is lent to `length_of` is the input without the blanks at its front.
 use borrow.Author.Needs.{needs}
 use Rattle.trim.specs.Facts.{start-within}
 use Rattle.trim.proofs.Loops.{part-long}

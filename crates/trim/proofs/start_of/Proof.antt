@@ -1,4 +1,4 @@
--- `start_of`: the first i codepoints are blanks. Assumes nothing.
+-- `start_of`: the first i codepoints are blanks.
 use Prim.Native.Nat.{_≤_, _+_, _-_}
 use mathlib.Core.Path.{_≡_, sym, _∙_}
 use lib.ListN.{length, drop}

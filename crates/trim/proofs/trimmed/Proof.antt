@@ -1,4 +1,4 @@
--- `trimmed`: what is lent to `length_of` is the input without the blanks at its front, and a front of it is handed back. Assumes nothing.
+-- `trimmed`: what is lent to `length_of` is the input without the blanks at its front, and a front of it is handed back.
 use mathlib.Core.Path.{sym, ap, _∙_}
 use lib.ListN.{length}
 use borrow.Author.Needs.{needs}

@@ -1,5 +1,4 @@
 -- `copy_words`: after i turns the first i words are those of the first 4 * i bytes, and the others as they were.
--- Assumes nothing.
 use Prim.Native.Nat.{_-_, _*_, _≤_}
 use mathlib.Core.Path.{_≡_}
 use lib.ListN.{take}

@@ -1,4 +1,4 @@
--- `inspect`: each return is one law of a file's words. Assumes nothing.
+-- `inspect`: each return is one law of a file's words.
 use Prim.Native.Nat.{_≤_}
 use native.Mathlib.Omega.{arith}
 use mathlib.Core.Path.{_≡_}

@@ -1,4 +1,4 @@
--- `lack_of`: a row for each version, and none for the others. Assumes nothing.
+-- `lack_of`: a row for each version, and none for the others.
 use borrow.Author.Needs.{needs}
 use Rattle.unpack.proofs.File.{not-named}
 use Rattle.unpack.proofs.lack_of.Statement.{statement}

@@ -1,4 +1,4 @@
--- `unpack`: each return is one law of an answer. Assumes nothing.
+-- `unpack`: each return is one law of an answer.
 use native.Mathlib.Omega.{arith}
 use denote.Ref.{now}
 use Rattle.unpack.specs.Promise.{Holds}

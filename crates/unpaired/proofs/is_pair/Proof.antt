@@ -1,4 +1,4 @@
--- `is_pair` meets its contract: what is found to be none is kept. Assumes nothing.
+-- `is_pair` meets its contract: what is found to be none is kept.
 use mathlib.Core.Path.{_≡_, sym, _∙_}
 use mathlib.Core.Bool.{false}
 use Rattle.unpaired.proofs.Noting.{unpaired-known, unpaired-more}

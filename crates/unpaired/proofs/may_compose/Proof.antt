@@ -1,4 +1,4 @@
--- `may_compose` meets its contract. Assumes nothing.
+-- `may_compose` meets its contract.
 use denote.Ref.{now}
 use Rattle.table.specs.Layout.{theTable}
 use Rattle.unpaired.proofs.Noting.{may-excluded, may-head, may-first}

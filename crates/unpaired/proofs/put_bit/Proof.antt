@@ -1,4 +1,4 @@
--- `put_bit` meets its contract: the bits stand in front. Assumes nothing.
+-- `put_bit` meets its contract: the bits stand in front.
 use Prim.Native.Nat.{_≤_}
 use native.Mathlib.Omega.{arith}
 use mathlib.Core.Path.{sym}

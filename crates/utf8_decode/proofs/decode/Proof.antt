@@ -1,4 +1,4 @@
--- `utf8_decode::decode` meets its contract: the lead by its length mark. Assumes nothing.
+-- `utf8_decode::decode` meets its contract: the lead by its length mark.
 use mathlib.Core.Path.{refl}
 use native.Mathlib.Omega.{arith}
 use borrow.Author.Needs.{needs}

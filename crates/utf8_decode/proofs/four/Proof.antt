@@ -1,4 +1,4 @@
--- `utf8_decode::four` meets its contract: each return is a law of the mark 11110. Assumes nothing.
+-- `utf8_decode::four` meets its contract: each return is a law of the mark 11110.
 use Prim.Native.Nat.{ℕ, _+_, _*_}
 use mathlib.Core.Path.{_≡_, ap, _∙_}
 use borrow.Author.Needs.{needs}

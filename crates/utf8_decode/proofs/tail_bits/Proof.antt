@@ -1,4 +1,4 @@
--- `utf8_decode::tail_bits` meets its contract: the mark is 10, or there is no such octet. Assumes nothing.
+-- `utf8_decode::tail_bits` meets its contract: the mark is 10, or there is no such octet.
 use native.Mathlib.Omega.{arith}
 use borrow.Author.Needs.{needs}
 use Rattle.utf8_decode.proofs.Sequences.{tail-none, tail-past, tail-some}

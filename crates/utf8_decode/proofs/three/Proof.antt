@@ -1,4 +1,4 @@
--- `utf8_decode::three` meets its contract: each return is a law of the mark 1110. Assumes nothing.
+-- `utf8_decode::three` meets its contract: each return is a law of the mark 1110.
 use Prim.Native.Nat.{ℕ, _+_, _*_}
 use mathlib.Core.Path.{_≡_, sym, ap, _∙_}
 use borrow.Author.Needs.{needs}

@@ -1,4 +1,4 @@
--- `utf8_decode::two` meets its contract: each return is a law of the mark 110. Assumes nothing.
+-- `utf8_decode::two` meets its contract: each return is a law of the mark 110.
 use borrow.Author.Needs.{needs}
 use Rattle.utf8_decode.proofs.Sequences.{two-cut, two-overlong, two-is}
 use Rattle.utf8_decode.proofs.two.Statement.{statement}

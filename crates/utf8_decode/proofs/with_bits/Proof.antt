@@ -1,4 +1,4 @@
--- `utf8_decode::with_bits` meets its contract. Assumes nothing.
+-- `utf8_decode::with_bits` meets its contract.
 use native.Mathlib.Omega.{arith}
 use Rattle.bits.specs.Fields.{shifted-in}
 use Rattle.utf8_decode.proofs.with_bits.Statement.{statement}

@@ -1,4 +1,4 @@
--- `utf8_encode::append` meets its contract: the octets of each row of the table, stored one behind the other. Assumes nothing.
+-- `utf8_encode::append` meets its contract: the octets of each row of the table, stored one behind the other.
 use native.Mathlib.Omega.{arith}
 use borrow.Author.Needs.{needs}
 use Rattle.utf8_scheme.specs.Inverse.{scalar-most}

@@ -1,4 +1,4 @@
--- `utf8_encode::put_tail` meets its contract: the mark 10 and six payload bits. Assumes nothing.
+-- `utf8_encode::put_tail` meets its contract: the mark 10 and six payload bits.
 use native.Mathlib.Omega.{arith}
 use borrow.Author.Needs.{needs}
 use Rattle.utf8_encode.proofs.Stores.{tail-octet}

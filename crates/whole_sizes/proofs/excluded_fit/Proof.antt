@@ -1,4 +1,4 @@
--- `whole_sizes::excluded_fit` meets its contract. The one count is that of all words behind it. Assumes nothing.
+-- `whole_sizes::excluded_fit` meets its contract. The one count is that of all words behind it.
 use native.Mathlib.Omega.{arith}
 use Rattle.whole_sizes.proofs.WalkLaws.{excluded-none, excluded-one}
 use borrow.Author.Needs.{needs}

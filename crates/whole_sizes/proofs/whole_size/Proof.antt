@@ -1,4 +1,4 @@
--- `whole_sizes::whole_size` meets its contract. A count past the end of the words leaves no room for the record. Assumes nothing.
+-- `whole_sizes::whole_size` meets its contract. A count past the end of the words leaves no room for the record.
 use Prim.Native.Nat.{_+_}
 use lib.ListN.{getD}
 use native.Mathlib.Omega.{arith}

@@ -1,4 +1,4 @@
--- `whole_sizes::wholes_fit` meets its contract. The loop's invariant: the whole part is well formed exactly where the rest of it is. The measure is the rest's length. Assumes nothing.
+-- `whole_sizes::wholes_fit` meets its contract. The loop's invariant: the whole part is well formed exactly where the rest of it is. The measure is the rest's length.
 use Prim.Native.Nat.{_≤_, _-_}
 use native.Mathlib.Omega.{arith}
 use mathlib.Core.Path.{_≡_, sym, _∙_}

@@ -1,4 +1,4 @@
--- `bit_sets::ranges::fill_words` meets its contract, word by word. Assumes nothing.
+-- `bit_sets::ranges::fill_words` meets its contract, word by word.
 use Prim.Native.Nat.{ℕ, _+_, _-_, _*_}
 use native.Mathlib.Omega.{arith}
 use mathlib.Core.Bool.{_&&_}

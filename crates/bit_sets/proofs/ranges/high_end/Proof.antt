@@ -1,4 +1,4 @@
--- `bit_sets::ranges::high_end` meets its contract. Assumes nothing.
+-- `bit_sets::ranges::high_end` meets its contract.
 use Rattle.bit_sets.proofs.PutLaws.{high-before, high-inside, high-behind}
 use borrow.Author.Needs.{needs}
 use Rattle.bit_sets.proofs.ranges.high_end.Statement.{statement}

@@ -1,4 +1,4 @@
--- `bit_sets::ranges::low_end` meets its contract. Assumes nothing.
+-- `bit_sets::ranges::low_end` meets its contract.
 use Rattle.bit_sets.proofs.PutLaws.{low-before, low-inside, low-behind}
 use borrow.Author.Needs.{needs}
 use Rattle.bit_sets.proofs.ranges.low_end.Statement.{statement}

@@ -1,4 +1,4 @@
--- `bit_sets::ranges::put_pairs` meets its contract, pair by pair. Assumes nothing.
+-- `bit_sets::ranges::put_pairs` meets its contract, pair by pair.
 use Prim.Native.Nat.{ℕ, _+_, _-_, _≤_}
 use native.Mathlib.Omega.{arith}
 use mathlib.Core.Bool.{_&&_}

@@ -1,4 +1,4 @@
--- `bit_sets::ranges::put_places` meets its contract, place by place. Assumes nothing.
+-- `bit_sets::ranges::put_places` meets its contract, place by place.
 use Prim.Native.Nat.{ℕ, _-_}
 use native.Mathlib.Omega.{arith}
 use mathlib.Core.Bool.{_&&_}

@@ -1,4 +1,4 @@
--- `bit_sets::ranges::put_range` meets its contract: the part of the range that is in the window. Assumes nothing.
+-- `bit_sets::ranges::put_range` meets its contract: the part of the range that is in the window.
 use Rattle.bit_sets.proofs.PutLaws.{range-put, range-none}
 use borrow.Author.Needs.{needs}
 use Rattle.bit_sets.proofs.ranges.put_range.Statement.{statement}

@@ -1,4 +1,4 @@
--- `bit_sets::ranges::put_run` meets its contract: places before the first full word, full words, places behind them. Assumes nothing.
+-- `bit_sets::ranges::put_run` meets its contract: places before the first full word, full words, places behind them.
 use native.Mathlib.Omega.{arith}
 use Prim.Native.Nat.{ℕ, _+_, _*_, _/_}
 use mathlib.Core.Path.{_∙_}

@@ -1,4 +1,4 @@
--- `forget_judged`: a refusal before the form, or what is done under it. Assumes nothing.
+-- `forget_judged`: a refusal before the form, or what is done under it.
 use native.Mathlib.Omega.{arith}
 use mathlib.Core.Path.{refl}
 use borrow.Author.Needs.{needs}

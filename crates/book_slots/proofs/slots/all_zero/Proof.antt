@@ -1,4 +1,4 @@
--- `all_zero`: the first i words are zero. Assumes nothing.
+-- `all_zero`: the first i words are zero.
 use Prim.Native.Nat.{_-_}
 use mathlib.Core.Path.{refl}
 use lib.ListN.{length}

@@ -1,4 +1,4 @@
--- `find_slot`: none of the first i slots has the name. Assumes nothing.
+-- `find_slot`: none of the first i slots has the name.
 use Prim.Native.Nat.{_-_}
 use native.Mathlib.Omega.{arith}
 use denote.Ref.{now}

@@ -1,4 +1,4 @@
--- `free_slot`: none of the slots before those that are left is free. Assumes nothing.
+-- `free_slot`: none of the slots before those that are left is free.
 use Prim.Native.Nat.{_+_, _-_, _≤_}
 use native.Mathlib.Omega.{arith}
 use mathlib.Core.Path.{_≡_}

@@ -1,4 +1,4 @@
--- `has_name`: the lengths first, then the words. Assumes nothing.
+-- `has_name`: the lengths first, then the words.
 use native.Mathlib.Omega.{arith}
 use denote.Ref.{now}
 use borrow.Author.Needs.{needs}

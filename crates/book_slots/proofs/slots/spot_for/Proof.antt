@@ -1,4 +1,4 @@
--- `spot_for`: the two searches, one after the other. Assumes nothing.
+-- `spot_for`: the two searches, one after the other.
 use mathlib.Core.Path.{sym, ap, _∙_}
 use borrow.Author.Needs.{needs}
 use Rattle.book_slots.specs.Walks.{placeIs}

@@ -1,4 +1,4 @@
--- `wanlopheng_emoji`: the promise of the call, with its values in the fields. Assumes nothing.
+-- `wanlopheng_emoji`: the promise of the call, with its values in the fields.
 use mathlib.Core.Path.{_∙_}
 use borrow.Author.Needs.{needs}
 use Rattle.boundary.proofs.emoji.wanlopheng_emoji.Statement.{statement}

@@ -1,4 +1,4 @@
--- `boundary::group::wanlopheng_group`: the promise of the call, with its values in the fields. Assumes nothing.
+-- `boundary::group::wanlopheng_group`: the promise of the call, with its values in the fields.
 use mathlib.Core.Path.{_∙_, ap}
 use Rattle.call_fields.specs.GroupFields.{groupNumbers}
 use borrow.Author.Needs.{needs}

@@ -1,4 +1,4 @@
--- `name_bytes_fields`: each arm's struct has the values of its case. Assumes nothing.
+-- `name_bytes_fields`: each arm's struct has the values of its case.
 use mathlib.Core.Path.{sym, ap, _∙_}
 use borrow.Author.Needs.{needs}
 use Rattle.name_bytes.specs.NameBytes.{nameBytesValues}

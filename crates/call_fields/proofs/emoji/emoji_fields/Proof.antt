@@ -1,4 +1,4 @@
--- `emoji_fields`: each arm's struct has the values of its case. Assumes nothing.
+-- `emoji_fields`: each arm's struct has the values of its case.
 use mathlib.Core.Path.{sym, ap}
 use borrow.Author.Needs.{needs}
 use Rattle.emoji_call.specs.EmojiCall.{emojiValues}

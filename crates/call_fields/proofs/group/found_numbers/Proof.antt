@@ -1,4 +1,4 @@
--- `boundary::group::found_numbers`: each arm's struct has the numbers of its case. Assumes nothing.
+-- `boundary::group::found_numbers`: each arm's struct has the numbers of its case.
 use mathlib.Core.Path.{sym, ap}
 use borrow.Author.Needs.{needs}
 use Rattle.call_fields.specs.GroupFields.{foundNumbers}

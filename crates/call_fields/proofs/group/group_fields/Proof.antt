@@ -1,4 +1,4 @@
--- `boundary::group::group_fields`: the numbers of each case. Assumes nothing.
+-- `boundary::group::group_fields`: the numbers of each case.
 use Rattle.call_fields.proofs.GroupLaws.{group-searched, group-refused}
 use borrow.Author.Needs.{needs}
 use Rattle.call_fields.proofs.group.group_fields.Statement.{statement}

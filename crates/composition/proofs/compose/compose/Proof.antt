@@ -1,4 +1,4 @@
--- `compose::compose` meets its contract: a text without a starter stays. Assumes nothing.
+-- `compose::compose` meets its contract: a text without a starter stays.
 use Rattle.composition.proofs.Composing.{composing-none}
 use borrow.Author.Needs.{needs}
 use Rattle.composition.proofs.compose.compose.Statement.{statement}

@@ -1,4 +1,4 @@
--- `compose::compose_from` meets its contract, by what the loop keeps. Assumes nothing.
+-- `compose::compose_from` meets its contract, by what the loop keeps.
 use Prim.Native.Nat.{_-_}
 use mathlib.Core.Path.{sym, ap, _∙_}
 use native.Mathlib.Omega.{arith}

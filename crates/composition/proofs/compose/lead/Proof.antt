@@ -1,4 +1,4 @@
--- `compose::lead` meets its contract: up to i no class is 0. Assumes nothing.
+-- `compose::lead` meets its contract: up to i no class is 0.
 use Prim.Native.Nat.{_≤_, _+_, _-_}
 use mathlib.Core.Path.{_≡_}
 use native.Mathlib.Omega.{arith}

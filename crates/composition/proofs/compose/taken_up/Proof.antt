@@ -1,4 +1,4 @@
--- `compose::taken_up` meets its contract. Assumes nothing.
+-- `compose::taken_up` meets its contract.
 use mathlib.Core.Path.{refl}
 use borrow.Author.Tests.{eq-eqb, ne-eqb, lt-ltb, le-ltb}
 use borrow.Author.Needs.{needs}

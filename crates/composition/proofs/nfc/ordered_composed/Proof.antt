@@ -1,4 +1,4 @@
--- `nfc::ordered_composed` meets its contract: what the ordering leaves is ready for composition. Assumes nothing.
+-- `nfc::ordered_composed` meets its contract: what the ordering leaves is ready for composition.
 use Rattle.table.specs.Layout.{theTable}
 use Rattle.composition.proofs.Texts.{ready, ordered}
 use borrow.Author.Needs.{needs}

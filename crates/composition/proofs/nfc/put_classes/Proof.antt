@@ -1,4 +1,4 @@
--- `nfc::put_classes` meets its contract: the first i classes are written. Assumes nothing.
+-- `nfc::put_classes` meets its contract: the first i classes are written.
 use Prim.Native.Nat.{_-_}
 use mathlib.Core.Path.{refl, sym, _∙_}
 use native.Mathlib.Omega.{arith}

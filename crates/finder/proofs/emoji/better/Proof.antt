@@ -1,4 +1,4 @@
--- `finder::emoji::better` meets its contract: the second match counts only where it takes more. Assumes nothing.
+-- `finder::emoji::better` meets its contract: the second match counts only where it takes more.
 use borrow.Author.Needs.{needs}
 use borrow.Author.Tests.{lt-ltb, le-ltb}
 use Rattle.finder.proofs.emoji.better.Tie as tie

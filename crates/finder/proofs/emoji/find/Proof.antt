@@ -1,4 +1,4 @@
--- `finder::emoji::find` meets its contract: what is found in the emoji section is what the table has. Assumes nothing.
+-- `finder::emoji::find` meets its contract: what is found in the emoji section is what the table has.
 use native.Mathlib.Omega.{arith}
 use borrow.Author.Needs.{needs}
 use Rattle.sections.proofs.SectionLaws.{laid-fits}

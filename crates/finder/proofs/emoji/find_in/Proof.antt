@@ -1,4 +1,4 @@
--- `finder::emoji::find_in` meets its contract: the loop keeps the best match of the records before, and the records that are left. Assumes nothing.
+-- `finder::emoji::find_in` meets its contract: the loop keeps the best match of the records before, and the records that are left.
 use Prim.Native.Nat.{_+_, _-_}
 use native.Mathlib.Omega.{arith}
 use mathlib.Core.Logic.{⊎-elim}

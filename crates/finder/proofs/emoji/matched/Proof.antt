@@ -1,4 +1,4 @@
--- `finder::emoji::matched` meets its contract: what takes no codepoint is no match. Assumes nothing.
+-- `finder::emoji::matched` meets its contract: what takes no codepoint is no match.
 use borrow.Author.Tests.{ne-eqb}
 use borrow.Author.Needs.{needs}
 use Rattle.finder.proofs.emoji.matched.Tie as tie

@@ -1,4 +1,4 @@
--- `finder::emoji::takes` meets its contract: the loop keeps what the sequence takes of the rest, and what is left to match. Assumes nothing.
+-- `finder::emoji::takes` meets its contract: the loop keeps what the sequence takes of the rest, and what is left to match.
 use Prim.Native.Nat.{_-_}
 use native.Mathlib.Omega.{arith}
 use mathlib.Core.Logic.{⊎-elim}

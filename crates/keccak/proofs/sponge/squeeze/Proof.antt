@@ -1,4 +1,4 @@
--- `squeeze`: the first i bytes are written. Assumes nothing.
+-- `squeeze`: the first i bytes are written.
 use Prim.Native.Nat.{_*_, _-_, _/_, _%_, _^_, _≤_}
 use native.Mathlib.Omega.{arith}
 use mathlib.Core.Path.{refl}

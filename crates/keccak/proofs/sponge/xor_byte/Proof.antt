@@ -1,4 +1,4 @@
--- `xor_byte`: the byte fits its place in the lane. Assumes nothing.
+-- `xor_byte`: the byte fits its place in the lane.
 use Prim.Native.Nat.{ℕ, _*_, _/_, _%_}
 use native.Mathlib.Omega.{arith}
 use mathlib.Core.Path.{ap}

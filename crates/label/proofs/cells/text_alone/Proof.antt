@@ -1,4 +1,4 @@
--- `label::cells::text_alone` meets its contract, by the laws of a walk over the cells. Assumes nothing.
+-- `label::cells::text_alone` meets its contract, by the laws of a walk over the cells.
 use Prim.Native.Nat.{_-_}
 use native.Mathlib.Omega.{arith}
 use mathlib.Core.Logic.{⊎-elim}

@@ -1,4 +1,4 @@
--- `label::judging::judge` meets its contract: the choice of the kind. Assumes nothing.
+-- `label::judging::judge` meets its contract: the choice of the kind.
 use mathlib.Core.Path.{_∙_, sym}
 use mathlib.Core.Logic.{⊎-elim}
 use borrow.Author.Tests.{not-true, not-false}

@@ -1,4 +1,4 @@
--- `label::judging::judge_ascii` meets its contract: the first refusal that applies. Assumes nothing.
+-- `label::judging::judge_ascii` meets its contract: the first refusal that applies.
 use mathlib.Core.Path.{_∙_, sym}
 use Rattle.label.proofs.VerdictLaws.{ascii-low, ascii-hyphens, ascii-kind}
 use borrow.Author.Needs.{needs}

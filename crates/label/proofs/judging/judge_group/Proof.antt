@@ -1,4 +1,4 @@
--- `label::judging::judge_group` meets its contract: the first refusal that applies. Assumes nothing.
+-- `label::judging::judge_group` meets its contract: the first refusal that applies.
 use mathlib.Core.Path.{_∙_, sym}
 use borrow.Author.Tests.{not-true, not-false}
 use Rattle.label.proofs.VerdictLaws.{verdict-nsm, verdict-confusable, verdict-kind}

@@ -1,4 +1,4 @@
--- `label::judging::judge_in_group` meets its contract: 16 comes first, and 13 is asked only where the group is not whitelisted. Assumes nothing.
+-- `label::judging::judge_in_group` meets its contract: 16 comes first, and 13 is asked only where the group is not whitelisted.
 use mathlib.Core.Path.{_∙_}
 use mathlib.Core.Logic.{⊎-elim}
 use denote.Ref.{now}

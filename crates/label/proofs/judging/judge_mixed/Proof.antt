@@ -1,4 +1,4 @@
--- `label::judging::judge_mixed` meets its contract: the first refusal that applies. Assumes nothing.
+-- `label::judging::judge_mixed` meets its contract: the first refusal that applies.
 use mathlib.Core.Path.{_∙_, sym, refl}
 use Rattle.label.proofs.VerdictLaws.{mixed-low, mixed-fenced, mixed-leading, mixed-text}
 use Rattle.label.proofs.JudgingLaws.{codes-length, judged-now, judged-as}

@@ -1,4 +1,4 @@
--- `label::judging::judge_text` meets its contract: the group of the text alone, and the verdict in it. Assumes nothing.
+-- `label::judging::judge_text` meets its contract: the group of the text alone, and the verdict in it.
 use mathlib.Core.Path.{ap}
 use Rattle.groups.specs.declared.GroupSearch.{GroupSearch}
 use Rattle.label.proofs.JudgingLaws.{judged-none, judged-in-group}

@@ -1,4 +1,4 @@
--- `digit_value`: a return for each range. Assumes nothing.
+-- `digit_value`: a return for each range.
 use borrow.Author.Needs.{needs}
 use Rattle.line_reading.proofs.Digits.{digit-small, digit-low, digit-high}
 use Rattle.line_reading.proofs.reading.digit_value.Statement.{statement}

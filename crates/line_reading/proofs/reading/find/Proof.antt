@@ -1,4 +1,4 @@
--- `find`: after i turns, i bytes are passed, none of them b. Assumes nothing.
+-- `find`: after i turns, i bytes are passed, none of them b.
 use Prim.Native.Nat.{_-_}
 use lib.ListN.{length}
 use Rattle.line_reading.proofs.Splits.{Passed, passed-none, passed-more, passed-found, passed-all}

@@ -1,4 +1,4 @@
--- `is_digit`: a return for each range. Assumes nothing.
+-- `is_digit`: a return for each range.
 use mathlib.Core.Path.{sym, _∙_}
 use borrow.Author.Tests.{le-leb, lt-leb}
 use Rattle.line_reading.proofs.Digits.{below-digits, low-digit, past-low}

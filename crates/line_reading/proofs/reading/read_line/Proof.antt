@@ -1,4 +1,4 @@
--- `read_line`: after n turns, n words are read. Assumes nothing.
+-- `read_line`: after n turns, n words are read.
 use Prim.Native.Nat.{_-_}
 use mathlib.Core.Path.{sym, _∙_}
 use lib.ListN.{length}

@@ -1,4 +1,4 @@
--- `read_number`: after i turns, i digits are passed. Assumes nothing.
+-- `read_number`: after i turns, i digits are passed.
 use Prim.Native.Nat.{_-_}
 use mathlib.Core.Path.{sym, _∙_}
 use lib.ListN.{length}

@@ -1,4 +1,4 @@
--- `write_answer`: the line for each case of the answer. Assumes nothing.
+-- `write_answer`: the line for each case of the answer.
 use mathlib.Core.Path.{sym}
 use native.Mathlib.Omega.{arith}
 use lib.ListN.{length-take}

@@ -1,4 +1,4 @@
--- `write_bad`: the word with the end of its line. Assumes nothing.
+-- `write_bad`: the word with the end of its line.
 use Rattle.line_writing.specs.Writing.{badLine}
 use borrow.Author.Needs.{needs}
 use Rattle.line_writing.proofs.writing.write_bad.Statement.{statement}

@@ -1,4 +1,4 @@
--- `write_no`: the word, the refusal and the place behind it, and the end of the line. Assumes nothing.
+-- `write_no`: the word, the refusal and the place behind it, and the end of the line.
 use Prim.Native.Nat.{_+_, _<_}
 use mathlib.Core.List.{_++_, _∷_, []}
 use lib.ListN.{length, length-append}

@@ -1,4 +1,4 @@
--- `write_numbers`: after i turns, the first i numbers are written. Assumes nothing.
+-- `write_numbers`: after i turns, the first i numbers are written.
 use Prim.Native.Nat.{_-_}
 use lib.ListN.{length}
 use Rattle.line_writing.proofs.Lines.{Numbering, numbering-start, numbering-inside, numbering-room, numbering-place, numbering-more, numbering-end, numbering-same}

@@ -1,4 +1,4 @@
--- `write_spaced`: a blank, and the digits in the part behind it. Assumes nothing.
+-- `write_spaced`: a blank, and the digits in the part behind it.
 use lib.ListN.{length-set}
 use Rattle.buffers.proofs.Written.{written-same}
 use Rattle.line_writing.proofs.Numerals.{room-spaced, wrote-spaced}

@@ -1,4 +1,4 @@
--- `take_line`: each return is one law of a piece. Assumes nothing.
+-- `take_line`: each return is one law of a piece.
 use mathlib.Core.Path.{sym}
 use lib.Seq.{length-take-le}
 use Rattle.lines.proofs.Pieces.{piece-inside, line-too-long, piece-room, line-ended, piece-held}

@@ -1,4 +1,4 @@
--- `admit`: each return is one end of the tests 1 to 4. Assumes nothing.
+-- `admit`: each return is one end of the tests 1 to 4.
 use denote.Ref.{now}
 use borrow.Author.Needs.{needs}
 use Rattle.sections.specs.Laid.{Laid}

@@ -1,4 +1,4 @@
--- `first_not_scalar`: none of the first i codepoints is found. Assumes nothing.
+-- `first_not_scalar`: none of the first i codepoints is found.
 use Prim.Native.Nat.{_-_}
 use mathlib.Core.Bool.{not}
 use lib.ListN.{length}

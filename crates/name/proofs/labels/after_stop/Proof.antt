@@ -1,4 +1,4 @@
--- `after_stop`: the stop is written where there is room for it. Assumes nothing.
+-- `after_stop`: the stop is written where there is room for it.
 use mathlib.Core.Path.{ap, _∙_}
 use mathlib.Core.Logic.{⊎-elim}
 use lib.ListN.{length, length-set}

@@ -1,4 +1,4 @@
--- `label_end`: no stop stands from the label's start up to i. Assumes nothing.
+-- `label_end`: no stop stands from the label's start up to i.
 use Prim.Native.Nat.{_-_}
 use lib.ListN.{length}
 use borrow.Author.Needs.{needs}

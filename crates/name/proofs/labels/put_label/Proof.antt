@@ -1,4 +1,4 @@
--- `put_label`: the label is copied into the part behind the stop. Assumes nothing.
+-- `put_label`: the label is copied into the part behind the stop.
 use native.Mathlib.Omega.{arith}
 use borrow.Author.Needs.{needs}
 use Rattle.name.proofs.Parting.{put-near, put-over, put-copied}

@@ -1,4 +1,4 @@
--- `may_hold` meets its contract: the bits are asked in turn. Assumes nothing.
+-- `may_hold` meets its contract: the bits are asked in turn.
 use borrow.Author.Needs.{needs}
 use borrow.Author.Tests.{not-true, not-false}
 use Rattle.quick_filters.proofs.FilterLaws.{held-not, held-neither, held-last}

@@ -1,4 +1,4 @@
--- `note` meets its contract: the three bits are put one after another. Assumes nothing.
+-- `note` meets its contract: the three bits are put one after another.
 use Rattle.quick_filters.proofs.FilterLaws.{put-noted}
 use borrow.Author.Needs.{needs}
 use native.Mathlib.Omega.{arith}

@@ -1,4 +1,4 @@
--- `note_run` meets its contract, by the laws of a run. The measure is what is left of it. Assumes nothing.
+-- `note_run` meets its contract, by the laws of a run. The measure is what is left of it.
 use Rattle.quick_filters.proofs.FilterLaws.{Running, run-start, run-on, run-stop}
 use Prim.Native.Nat.{_-_}
 use mathlib.Core.Path.{_≡_, refl, _∙_}

@@ -1,4 +1,4 @@
--- `note_runs` meets its contract, by the laws of a walk over entries. The measure is the length of what is left. Assumes nothing.
+-- `note_runs` meets its contract, by the laws of a walk over entries. The measure is the length of what is left.
 use Rattle.quick_filters.proofs.FilterLaws.{Noting, noting-start, noting-on, noting-broken, noting-stop}
 use Prim.Native.Nat.{_-_}
 use mathlib.Core.Path.{_∙_}

@@ -1,4 +1,4 @@
--- `find_slot` meets its contract, by the laws of a search. The measure is what is left of the tries. Assumes nothing.
+-- `find_slot` meets its contract, by the laws of a search. The measure is what is left of the tries.
 use Rattle.quick_filters.proofs.SlotLaws.{asked-start, asked-next, came-empty, came-found, positive}
 use Rattle.quick_filters.specs.Slot.{hashOf, Asked}
 use Prim.Native.Nat.{_+_, _-_, _%_}

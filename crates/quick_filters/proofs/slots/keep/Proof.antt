@@ -1,4 +1,4 @@
--- `keep` meets its contract, by the laws of a store. Assumes nothing.
+-- `keep` meets its contract, by the laws of a store.
 use Rattle.quick_filters.proofs.SlotLaws.{stored-none, stored-not, stored-new}
 use borrow.Author.Needs.{needs}
 use native.Mathlib.Omega.{arith}

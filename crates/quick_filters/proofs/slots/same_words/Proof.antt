@@ -1,4 +1,4 @@
--- `same_words` meets its contract. Assumes nothing.
+-- `same_words` meets its contract.
 use Rattle.quick_filters.proofs.SlotLaws.{compared-not, compared}
 use borrow.Author.Needs.{needs}
 use Rattle.quick_filters.proofs.slots.same_words.Statement.{statement}

@@ -1,4 +1,4 @@
--- `rule_1::rule1::keeps_rule1` meets its contract: rule 1 is its parts. Assumes nothing.
+-- `rule_1::rule1::keeps_rule1` meets its contract: rule 1 is its parts.
 use mathlib.Core.Path.{sym, _∙_}
 use borrow.Author.Tests.{not-true, not-false}
 use Rattle.soundness.specs.Scalars.{scalarsBetween}

@@ -1,4 +1,4 @@
--- `rule_1::rule1::scalar_others` meets its contract: the words of each section spell its entries. Assumes nothing.
+-- `rule_1::rule1::scalar_others` meets its contract: the words of each section spell its entries.
 use mathlib.Core.Path.{sym, _∙_, ap}
 use mathlib.Core.List.{List}
 use borrow.Author.Tests.{not-true, not-false}

@@ -1,4 +1,4 @@
--- `rule_1::rule1::scalar_ranges` meets its contract: the words of each section spell its ranges. Assumes nothing.
+-- `rule_1::rule1::scalar_ranges` meets its contract: the words of each section spell its ranges.
 use mathlib.Core.Path.{sym, _∙_}
 use borrow.Author.Tests.{not-true, not-false}
 use Rattle.soundness.specs.Scalars.{scalarsBetween}

@@ -1,4 +1,4 @@
--- `rule_1::rule1::scalar_records` meets its contract: the words of each section spell its records. Assumes nothing.
+-- `rule_1::rule1::scalar_records` meets its contract: the words of each section spell its records.
 use Prim.Native.Nat.{ℕ}
 use mathlib.Core.Path.{sym, _∙_, ap}
 use mathlib.Core.List.{List}

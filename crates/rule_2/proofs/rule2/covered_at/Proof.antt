@@ -1,4 +1,4 @@
--- `rule_2::rule2::covered_at` meets its contract. Assumes nothing.
+-- `rule_2::rule2::covered_at` meets its contract.
 use native.Mathlib.Omega.{arith}
 use mathlib.Core.Path.{sym, _∙_}
 use Rattle.rule_2.proofs.CoverLaws.{covered-held, covered-free}

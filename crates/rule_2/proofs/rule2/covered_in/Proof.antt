@@ -1,4 +1,4 @@
--- `rule_2::rule2::covered_in` meets its contract, word by word. Assumes nothing.
+-- `rule_2::rule2::covered_in` meets its contract, word by word.
 use Prim.Native.Nat.{_-_, _*_}
 use native.Mathlib.Omega.{arith}
 use borrow.Author.Tests.{not-true, not-false}

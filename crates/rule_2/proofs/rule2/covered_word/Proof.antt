@@ -1,4 +1,4 @@
--- `rule_2::rule2::covered_word` meets its contract: equal words hold the same places. Assumes nothing.
+-- `rule_2::rule2::covered_word` meets its contract: equal words hold the same places.
 use Rattle.rule_2.proofs.CoverLaws.{covered-word}
 use Rattle.rule_2.proofs.WindowLaws.{word-held}
 use borrow.Author.Needs.{needs}

@@ -1,4 +1,4 @@
--- `rule_2::rule2::either_has` meets its contract. Assumes nothing.
+-- `rule_2::rule2::either_has` meets its contract.
 use native.Mathlib.Omega.{arith}
 use mathlib.Core.Path.{sym, _∙_}
 use Rattle.rule_2.proofs.rule2.either_has.Statement.{statement}

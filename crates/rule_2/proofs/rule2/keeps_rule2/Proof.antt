@@ -1,4 +1,4 @@
--- `rule_2::rule2::keeps_rule2` meets its contract: the sections of the decompositions and of the groups. Assumes nothing.
+-- `rule_2::rule2::keeps_rule2` meets its contract: the sections of the decompositions and of the groups.
 use native.Mathlib.Omega.{arith}
 use Rattle.sections.proofs.SectionLaws.{laid-fits}
 use Rattle.rule_2.proofs.PointLaws.{parts-of}

@@ -1,4 +1,4 @@
--- `rule_2::rule2::valid_fits` meets its contract: rule 2 by its codepoints. Assumes nothing.
+-- `rule_2::rule2::valid_fits` meets its contract: rule 2 by its codepoints.
 use denote.Ref.{now}
 use Prim.Native.Nat.{ℕ}
 use mathlib.Core.List.{List}

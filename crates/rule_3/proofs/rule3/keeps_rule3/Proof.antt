@@ -1,4 +1,4 @@
--- `rule_3::rule3::keeps_rule3` meets its contract: the words of the section spell the mappings. Assumes nothing.
+-- `rule_3::rule3::keeps_rule3` meets its contract: the words of the section spell the mappings.
 use mathlib.Core.Path.{_∙_, ap}
 use mathlib.Core.List.{List}
 use denote.Ref.{now}

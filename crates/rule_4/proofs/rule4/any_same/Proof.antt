@@ -1,4 +1,4 @@
--- `rule_4::rule4::any_same` meets its contract, by the laws of a walk over sorted records. Assumes nothing.
+-- `rule_4::rule4::any_same` meets its contract, by the laws of a walk over sorted records.
 use denote.Ref.{now}
 use Prim.Native.Nat.{_+_, _-_, _<_}
 use native.Mathlib.Omega.{arith}

@@ -1,4 +1,4 @@
--- `rule_4::rule4::distinct_stripped` meets its contract, by the laws of a walk over sorted records. Assumes nothing.
+-- `rule_4::rule4::distinct_stripped` meets its contract, by the laws of a walk over sorted records.
 use Prim.Native.Nat.{_-_}
 use mathlib.Core.Path.{sym, _∙_}
 use lib.ListN.{length}

@@ -1,4 +1,4 @@
--- `rule_4::rule4::first_of` meets its contract. Assumes nothing.
+-- `rule_4::rule4::first_of` meets its contract.
 use denote.Ref.{now}
 use Rattle.rule_4.proofs.StripLaws.{first-none}
 use borrow.Author.Needs.{needs}

@@ -1,4 +1,4 @@
--- `rule_4::rule4::is_bounded` meets its contract. Assumes nothing.
+-- `rule_4::rule4::is_bounded` meets its contract.
 use native.Mathlib.Omega.{arith}
 use mathlib.Core.Bool.{false≢true}
 use borrow.Author.Needs.{needs}

@@ -1,4 +1,4 @@
--- `rule_4::rule4::keeps_rule4` meets its contract: the words of the section spell the sequences. Assumes nothing.
+-- `rule_4::rule4::keeps_rule4` meets its contract: the words of the section spell the sequences.
 use mathlib.Core.Path.{_∙_}
 use Rattle.sections.proofs.SectionLaws.{laid-fits}
 use Rattle.sound_parts.proofs.SectionsHold.{emoji-hold, emoji-are}

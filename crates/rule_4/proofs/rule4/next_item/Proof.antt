@@ -1,4 +1,4 @@
--- `rule_4::rule4::next_item` meets its contract: what is passed is FE0F. Assumes nothing.
+-- `rule_4::rule4::next_item` meets its contract: what is passed is FE0F.
 use Prim.Native.Nat.{_-_}
 use lib.ListN.{length}
 use Rattle.rule_4.proofs.StripLaws.{Skipped, skip-start, skip-on, skip-found, skip-end}

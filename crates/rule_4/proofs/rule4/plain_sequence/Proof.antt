@@ -1,4 +1,4 @@
--- `rule_4::rule4::plain_sequence` meets its contract. Assumes nothing.
+-- `rule_4::rule4::plain_sequence` meets its contract.
 use mathlib.Core.Path.{sym, _∙_, ap}
 use mathlib.Core.Bool.{not}
 use borrow.Author.Needs.{needs}

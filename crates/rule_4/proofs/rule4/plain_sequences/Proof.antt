@@ -1,4 +1,4 @@
--- `rule_4::rule4::plain_sequences` meets its contract, by the laws of a walk over records. Assumes nothing.
+-- `rule_4::rule4::plain_sequences` meets its contract, by the laws of a walk over records.
 use Prim.Native.Nat.{_-_}
 use mathlib.Core.Path.{sym, _∙_}
 use borrow.Author.Tests.{not-true, not-false}

@@ -1,4 +1,4 @@
--- `rule_4::rule4::same_behind` meets its contract: the part behind s is what is left. Assumes nothing.
+-- `rule_4::rule4::same_behind` meets its contract: the part behind s is what is left.
 use Rattle.sound_parts.proofs.Walks.{tail-is}
 use borrow.Author.Needs.{needs}
 use Rattle.rule_4.proofs.rule4.same_behind.Statement.{statement}

@@ -1,4 +1,4 @@
--- `rule_4::rule4::same_stripped` meets its contract, item by item. Assumes nothing.
+-- `rule_4::rule4::same_stripped` meets its contract, item by item.
 use Prim.Native.Nat.{_-_}
 use lib.ListN.{length}
 use Rattle.rule_4.proofs.StripLaws.{Aligned, align-start, align-short, align-differ, align-on, align-done}

@@ -1,4 +1,4 @@
--- `rule_4::rule4::sequences_fit` meets its contract. Assumes nothing.
+-- `rule_4::rule4::sequences_fit` meets its contract.
 use mathlib.Core.Path.{sym, _∙_}
 use borrow.Author.Tests.{not-true, not-false}
 use borrow.Author.Needs.{needs}

@@ -1,4 +1,4 @@
--- `rule_4::rule4::starts_with` meets its contract. Assumes nothing.
+-- `rule_4::rule4::starts_with` meets its contract.
 use denote.Ref.{now}
 use Rattle.rule_4.proofs.StripLaws.{starts-first, starts-none}
 use borrow.Author.Needs.{needs}

@@ -1,4 +1,4 @@
--- `rule_4::rule4::two_selectors` meets its contract, by the laws of a walk over items. Assumes nothing.
+-- `rule_4::rule4::two_selectors` meets its contract, by the laws of a walk over items.
 use Prim.Native.Nat.{_-_}
 use lib.ListN.{length}
 use mathlib.Core.Logic.{⊎-elim}

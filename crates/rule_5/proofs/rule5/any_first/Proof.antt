@@ -1,4 +1,4 @@
--- `rule_5::rule5::any_first` meets its contract: no sequence before the start of the search starts with c. Assumes nothing.
+-- `rule_5::rule5::any_first` meets its contract: no sequence before the start of the search starts with c.
 use mathlib.Core.Path.{_∙_}
 use Rattle.soundness.specs.Sequences.{startsWith}
 use Rattle.sound_parts.proofs.Walks.{tail-is}

@@ -1,4 +1,4 @@
--- `rule_5::rule5::can_start` meets its contract. Assumes nothing.
+-- `rule_5::rule5::can_start` meets its contract.
 use mathlib.Core.Path.{sym, _∙_}
 use Rattle.rule_5.proofs.ApartLaws.{first-is}
 use Rattle.rule_5.proofs.rule5.can_start.Statement.{statement}

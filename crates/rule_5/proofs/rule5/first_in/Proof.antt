@@ -1,4 +1,4 @@
--- `rule_5::rule5::first_in` meets its contract, by the laws of a walk over sorted records. Assumes nothing.
+-- `rule_5::rule5::first_in` meets its contract, by the laws of a walk over sorted records.
 use Prim.Native.Nat.{_+_, _-_}
 use native.Mathlib.Omega.{arith}
 use mathlib.Core.Path.{sym, _∙_}

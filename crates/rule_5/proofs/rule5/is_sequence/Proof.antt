@@ -1,4 +1,4 @@
--- `rule_5::rule5::is_sequence` meets its contract: no sequence before the start of the search is equal to the items when stripped. Assumes nothing.
+-- `rule_5::rule5::is_sequence` meets its contract: no sequence before the start of the search is equal to the items when stripped.
 use mathlib.Core.Path.{_∙_}
 use borrow.Author.Tests.{not-false}
 use Rattle.sound_parts.proofs.Walks.{tail-is}

@@ -1,4 +1,4 @@
--- `rule_5::rule5::keeps_apart` meets its contract, start by start. Assumes nothing.
+-- `rule_5::rule5::keeps_apart` meets its contract, start by start.
 use denote.Ref.{now}
 use Prim.Native.Nat.{_-_}
 use mathlib.Core.Path.{sym, _∙_}

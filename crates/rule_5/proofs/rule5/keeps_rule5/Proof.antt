@@ -1,4 +1,4 @@
--- `rule_5::rule5::keeps_rule5` meets its contract: the words of the section spell the sequences. Assumes nothing.
+-- `rule_5::rule5::keeps_rule5` meets its contract: the words of the section spell the sequences.
 use mathlib.Core.Path.{_∙_}
 use Rattle.sections.proofs.SectionLaws.{laid-fits}
 use Rattle.sound_parts.proofs.SectionsHold.{emoji-part}

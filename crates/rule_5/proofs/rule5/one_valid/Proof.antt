@@ -1,4 +1,4 @@
--- `rule_5::rule5::one_valid` meets its contract. Assumes nothing.
+-- `rule_5::rule5::one_valid` meets its contract.
 use denote.Ref.{now}
 use mathlib.Core.Path.{_∙_}
 use Rattle.table.specs.Layout.{theTable}

@@ -1,4 +1,4 @@
--- `rule_5::rule5::parts_at` meets its contract. Assumes nothing.
+-- `rule_5::rule5::parts_at` meets its contract.
 use denote.Ref.{now}
 use mathlib.Core.Path.{sym, _∙_}
 use lib.ListN.{take, length-take}

@@ -1,4 +1,4 @@
--- `rule_5::rule5::sequence_apart` meets its contract. Assumes nothing.
+-- `rule_5::rule5::sequence_apart` meets its contract.
 use mathlib.Core.Path.{sym, _∙_}
 use Rattle.rule_5.specs.Apart.{keepsApart}
 use Rattle.rule_5.proofs.rule5.sequence_apart.Statement.{statement}

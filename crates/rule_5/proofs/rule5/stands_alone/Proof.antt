@@ -1,4 +1,4 @@
--- `rule_5::rule5::stands_alone` meets its contract. Assumes nothing.
+-- `rule_5::rule5::stands_alone` meets its contract.
 use mathlib.Core.Path.{sym, _∙_}
 use Rattle.rule_5.specs.Apart.{standsAlone}
 use Rattle.rule_5.proofs.ApartLaws.{stripped-is}

@@ -1,4 +1,4 @@
--- `rule_6::rule6::all_stable` meets its contract, window by window. Assumes nothing.
+-- `rule_6::rule6::all_stable` meets its contract, window by window.
 use Prim.Native.Nat.{_-_}
 use native.Mathlib.Omega.{arith}
 use mathlib.Core.Path.{sym, _∙_}

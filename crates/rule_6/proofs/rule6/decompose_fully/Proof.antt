@@ -1,4 +1,4 @@
--- `rule_6::rule6::decompose_fully` meets its contract: four rounds of all heads, window by window. Assumes nothing.
+-- `rule_6::rule6::decompose_fully` meets its contract: four rounds of all heads, window by window.
 use denote.Ref.{now}
 use Prim.Native.Nat.{ℕ}
 use mathlib.Core.List.{List}

@@ -1,4 +1,4 @@
--- `rule_6::rule6::has_head` meets its contract. Assumes nothing.
+-- `rule_6::rule6::has_head` meets its contract.
 use Rattle.rule_6.proofs.HeadLaws.{head-there, head-missing}
 use borrow.Author.Needs.{needs}
 use Rattle.rule_6.proofs.rule6.has_head.Statement.{statement}

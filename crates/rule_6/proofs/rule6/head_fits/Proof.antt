@@ -1,4 +1,4 @@
--- `rule_6::rule6::head_fits` meets its contract. Assumes nothing.
+-- `rule_6::rule6::head_fits` meets its contract.
 use mathlib.Core.Path.{sym, _∙_, ap}
 use mathlib.Core.Bool.{not}
 use borrow.Author.Tests.{not-true, not-false}

@@ -1,4 +1,4 @@
--- `rule_6::rule6::head_fits_of` meets its contract: the part behind s is what is left. Assumes nothing.
+-- `rule_6::rule6::head_fits_of` meets its contract: the part behind s is what is left.
 use Rattle.sound_parts.proofs.Walks.{tail-is}
 use borrow.Author.Needs.{needs}
 use Rattle.rule_6.proofs.rule6.head_fits_of.Statement.{statement}

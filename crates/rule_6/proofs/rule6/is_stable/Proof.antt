@@ -1,4 +1,4 @@
--- `rule_6::rule6::is_stable` meets its contract. Assumes nothing.
+-- `rule_6::rule6::is_stable` meets its contract.
 use Rattle.rule_6.specs.Heads.{isStable}
 use Rattle.rule_6.proofs.rule6.is_stable.Statement.{statement}
 use Rattle.rule_6.proofs.rule6.is_stable.Tie as tie

@@ -1,4 +1,4 @@
--- `rule_6::rule6::keeps_rule6` meets its contract: the words of the sections spell the decompositions and the classes. Assumes nothing.
+-- `rule_6::rule6::keeps_rule6` meets its contract: the words of the sections spell the decompositions and the classes.
 use denote.Ref.{now}
 use Rattle.table.specs.Layout.{theTable}
 use mathlib.Core.Path.{sym, _∙_}

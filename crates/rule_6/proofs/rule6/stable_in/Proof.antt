@@ -1,4 +1,4 @@
--- `rule_6::rule6::stable_in` meets its contract, word by word. Assumes nothing.
+-- `rule_6::rule6::stable_in` meets its contract, word by word.
 use Prim.Native.Nat.{_-_, _*_}
 use native.Mathlib.Omega.{arith}
 use borrow.Author.Tests.{not-true, not-false}

@@ -1,4 +1,4 @@
--- `rule_6::rule6::stable_word` meets its contract: what the set does not hold, and what no round changes. Assumes nothing.
+-- `rule_6::rule6::stable_word` meets its contract: what the set does not hold, and what no round changes.
 use native.Mathlib.Omega.{arith}
 use Rattle.rule_2.proofs.WindowLaws.{word-held}
 use Rattle.rule_6.proofs.SettledLaws.{word-free, word-plain}

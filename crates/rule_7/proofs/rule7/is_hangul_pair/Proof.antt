@@ -1,4 +1,4 @@
--- `rule_7::rule7::is_hangul_pair` meets its contract. Assumes nothing.
+-- `rule_7::rule7::is_hangul_pair` meets its contract.
 use denote.Ref.{now}
 use mathlib.Core.Path.{sym, _∙_}
 use Rattle.rule_7.proofs.PairLaws.{hangul-short, hangul-two}

@@ -1,4 +1,4 @@
--- `rule_7::rule7::keeps_rule7` meets its contract: the words of the section spell the decompositions. Assumes nothing.
+-- `rule_7::rule7::keeps_rule7` meets its contract: the words of the section spell the decompositions.
 use mathlib.Core.Path.{_∙_}
 use Rattle.sections.proofs.SectionLaws.{laid-fits}
 use Rattle.sound_parts.proofs.SectionsHold.{decompositions-hold, decompositions-are}

@@ -1,4 +1,4 @@
--- `rule_7::rule7::pair_fits_of` meets its contract: the part behind s is what is left. Assumes nothing.
+-- `rule_7::rule7::pair_fits_of` meets its contract: the part behind s is what is left.
 use Rattle.sound_parts.proofs.Walks.{tail-is}
 use borrow.Author.Needs.{needs}
 use Rattle.rule_7.proofs.rule7.pair_fits_of.Statement.{statement}

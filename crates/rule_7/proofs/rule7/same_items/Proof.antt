@@ -1,4 +1,4 @@
--- `rule_7::rule7::same_items` meets its contract, word by word. Assumes nothing.
+-- `rule_7::rule7::same_items` meets its contract, word by word.
 use denote.Ref.{now}
 use Prim.Native.Nat.{_-_}
 use lib.ListN.{length}

@@ -1,4 +1,4 @@
--- `rule_7::rule7::same_pair` meets its contract. Assumes nothing.
+-- `rule_7::rule7::same_pair` meets its contract.
 use mathlib.Core.Path.{sym, _∙_}
 use Rattle.rule_7.specs.Pairs.{samePair}
 use borrow.Author.Needs.{needs}

@@ -1,4 +1,4 @@
--- `rule8::keeps_rule8` meets its contract: where the set is not empty, kind by kind. Assumes nothing.
+-- `rule8::keeps_rule8` meets its contract: where the set is not empty, kind by kind.
 use mathlib.Core.Path.{refl, sym, ap, _∙_}
 use borrow.Author.Tests.{not-true, not-false}
 use Rattle.lists.specs.Lists.{all}

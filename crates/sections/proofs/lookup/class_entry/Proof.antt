@@ -1,4 +1,4 @@
--- `sections::lookup::class_entry` meets its contract: a section's words spell the table's entries. Assumes nothing.
+-- `sections::lookup::class_entry` meets its contract: a section's words spell the table's entries.
 use Rattle.sections.proofs.SectionLaws.{laid-fits, laid-reads}
 use Rattle.table.proofs.Lookups.{class-found}
 use Rattle.sections.proofs.lookup.class_entry.Statement.{statement}

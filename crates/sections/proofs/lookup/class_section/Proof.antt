@@ -1,4 +1,4 @@
--- `sections::lookup::class_section` meets its contract: sorted or not, the first match is found. Assumes nothing.
+-- `sections::lookup::class_section` meets its contract: sorted or not, the first match is found.
 use borrow.Author.Needs.{needs}
 use Rattle.sections.proofs.lookup.class_section.Statement.{statement}
 use Rattle.sections.proofs.lookup.class_section.Tie as tie

@@ -1,4 +1,4 @@
--- `sections::lookup::in_section` meets its contract: sorted or not, the first match is found. Assumes nothing.
+-- `sections::lookup::in_section` meets its contract: sorted or not, the first match is found.
 use borrow.Author.Needs.{needs}
 use Rattle.sections.proofs.lookup.in_section.Statement.{statement}
 use Rattle.sections.proofs.lookup.in_section.Tie as tie

@@ -1,4 +1,4 @@
--- `sections::lookup::is_excluded` meets its contract: behind its count the section is the items. Assumes nothing.
+-- `sections::lookup::is_excluded` meets its contract: behind its count the section is the items.
 use native.Mathlib.Omega.{arith}
 use Rattle.sections.proofs.SectionLaws.{laid-small}
 use Rattle.sections.proofs.LaidParts.{laid-excluded}

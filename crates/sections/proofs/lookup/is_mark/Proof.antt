@@ -1,4 +1,4 @@
--- `sections::lookup::is_mark` meets its contract: a section's words spell the table's entries. Assumes nothing.
+-- `sections::lookup::is_mark` meets its contract: a section's words spell the table's entries.
 use mathlib.Core.Path.{_∙_}
 use Rattle.sections.proofs.SectionLaws.{laid-fits, laid-reads}
 use Rattle.table.proofs.Lookups.{pairs-ranges}

@@ -1,4 +1,4 @@
--- `sections::lookup::items_section` meets its contract: what is found in a part of the words is found in the words. Assumes nothing.
+-- `sections::lookup::items_section` meets its contract: what is found in a part of the words is found in the words.
 use native.Mathlib.Omega.{arith}
 use Rattle.table.proofs.Searches.{items-at, items-nothing}
 use borrow.Author.Needs.{needs}

@@ -1,4 +1,4 @@
--- `sections::lookup::mapped_items` meets its contract: the words of the section spell the records of the table. Assumes nothing.
+-- `sections::lookup::mapped_items` meets its contract: the words of the section spell the records of the table.
 use Rattle.sections.proofs.SectionLaws.{laid-fits}
 use Rattle.sections.proofs.LaidParts.{mapped-found}
 use Rattle.sections.proofs.lookup.mapped_items.Statement.{statement}

@@ -1,4 +1,4 @@
--- `sections::lookup::mem_section` meets its contract: sorted or not, the first match is found. Assumes nothing.
+-- `sections::lookup::mem_section` meets its contract: sorted or not, the first match is found.
 use borrow.Author.Needs.{needs}
 use Rattle.sections.proofs.lookup.mem_section.Statement.{statement}
 use Rattle.sections.proofs.lookup.mem_section.Tie as tie

@@ -1,4 +1,4 @@
--- `sections::lookup::whole_of` meets its contract: the words of the section spell the wholes of the table. Assumes nothing.
+-- `sections::lookup::whole_of` meets its contract: the words of the section spell the wholes of the table.
 use Rattle.sections.proofs.LaidParts.{wholes-part, whole-found}
 use Rattle.sections.proofs.lookup.whole_of.Statement.{statement}
 use Rattle.sections.proofs.lookup.whole_of.Tie as tie

@@ -1,4 +1,4 @@
--- `sound_choices::choices::put_if_chosen` meets its contract. Assumes nothing.
+-- `sound_choices::choices::put_if_chosen` meets its contract.
 use mathlib.Core.Path.{sym, _∙_}
 use Rattle.sound_choices.proofs.WalkLaws.{put-if, put-unless}
 use Rattle.sound_choices.proofs.choices.put_if_chosen.Statement.{statement}

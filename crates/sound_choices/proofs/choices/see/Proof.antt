@@ -1,4 +1,4 @@
--- `sound_choices::choices::see` meets its contract. Assumes nothing.
+-- `sound_choices::choices::see` meets its contract.
 use native.Mathlib.Omega.{arith}
 use mathlib.Core.Path.{sym, _∙_}
 use borrow.Author.Tests.{not-true, not-false}

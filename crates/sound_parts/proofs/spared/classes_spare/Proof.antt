@@ -1,4 +1,4 @@
--- `sound_parts::spared::classes_spare` meets its contract, by the laws of a walk over triples. Assumes nothing.
+-- `sound_parts::spared::classes_spare` meets its contract, by the laws of a walk over triples.
 use Prim.Native.Nat.{_-_}
 use mathlib.Core.Path.{sym, _∙_}
 use borrow.Author.Tests.{not-true, not-false}

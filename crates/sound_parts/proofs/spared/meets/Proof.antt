@@ -1,4 +1,4 @@
--- `sound_parts::spared::meets` meets its contract. Assumes nothing.
+-- `sound_parts::spared::meets` meets its contract.
 use borrow.Author.Tests.{le-leb, lt-leb}
 use Rattle.sound_parts.proofs.spared.meets.Statement.{statement}
 use Rattle.sound_parts.proofs.spared.meets.Tie as tie

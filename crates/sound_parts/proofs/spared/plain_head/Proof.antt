@@ -1,4 +1,4 @@
--- `sound_parts::spared::plain_head` meets its contract. Assumes nothing.
+-- `sound_parts::spared::plain_head` meets its contract.
 use mathlib.Core.Path.{sym, _∙_, ap}
 use mathlib.Core.Bool.{not}
 use borrow.Author.Tests.{lt-ltb, le-ltb}

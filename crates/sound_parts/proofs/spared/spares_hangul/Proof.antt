@@ -1,4 +1,4 @@
--- `sound_parts::spared::spares_hangul` meets its contract. Assumes nothing.
+-- `sound_parts::spared::spares_hangul` meets its contract.
 use mathlib.Core.Path.{sym, _∙_, ap}
 use mathlib.Core.Bool.{not}
 use borrow.Author.Tests.{eq-eqb, ne-eqb}

@@ -1,4 +1,4 @@
--- `sound_rounds::rounds::choose_round` meets its contract, window by window. Assumes nothing.
+-- `sound_rounds::rounds::choose_round` meets its contract, window by window.
 use Prim.Native.Nat.{_-_}
 use native.Mathlib.Omega.{arith}
 use mathlib.Core.Path.{sym, _∙_}

@@ -1,4 +1,4 @@
--- `sound_rounds::rounds::choose_rounds` meets its contract, round by round. Assumes nothing.
+-- `sound_rounds::rounds::choose_rounds` meets its contract, round by round.
 use Prim.Native.Nat.{_-_, _≤_}
 use native.Mathlib.Omega.{arith}
 use mathlib.Core.Path.{sym, _∙_}

@@ -1,4 +1,4 @@
--- `sound_rounds::rounds::no_syllables` meets its contract: syllables stand from AC00 to D7A3. Assumes nothing.
+-- `sound_rounds::rounds::no_syllables` meets its contract: syllables stand from AC00 to D7A3.
 use borrow.Author.Tests.{ltb-true}
 use Rattle.sound_rounds.proofs.ReachLaws.{before-syllables, behind-syllables}
 use borrow.Author.Needs.{needs}

@@ -1,4 +1,4 @@
--- `sound_rounds::rounds::put_all_kept` meets its contract, word by word. Assumes nothing.
+-- `sound_rounds::rounds::put_all_kept` meets its contract, word by word.
 use Prim.Native.Nat.{_+_, _-_, _*_}
 use native.Mathlib.Omega.{arith}
 use mathlib.Core.Path.{refl, _∙_}

@@ -1,4 +1,4 @@
--- `sound_rounds::rounds::put_kept` meets its contract. Assumes nothing.
+-- `sound_rounds::rounds::put_kept` meets its contract.
 use denote.Ref.{now}
 use native.Mathlib.Omega.{arith}
 use mathlib.Core.Path.{sym, _∙_}

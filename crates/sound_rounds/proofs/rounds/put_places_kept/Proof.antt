@@ -1,4 +1,4 @@
--- `sound_rounds::rounds::put_places_kept` meets its contract, place by place. Assumes nothing.
+-- `sound_rounds::rounds::put_places_kept` meets its contract, place by place.
 use Prim.Native.Nat.{_+_, _-_, _*_}
 use native.Mathlib.Omega.{arith}
 use mathlib.Core.Path.{refl, _∙_}

@@ -1,4 +1,4 @@
--- `sound_rounds::rounds::put_replaced` meets its contract. Assumes nothing.
+-- `sound_rounds::rounds::put_replaced` meets its contract.
 use native.Mathlib.Omega.{arith}
 use lib.ListN.{length-take}
 use Rattle.sound_choices.proofs.WalkLaws.{put-list}

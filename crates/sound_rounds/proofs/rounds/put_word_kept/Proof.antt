@@ -1,4 +1,4 @@
--- `sound_rounds::rounds::put_word_kept` meets its contract: a word that holds nothing, one that stays as it is, and the others. Assumes nothing.
+-- `sound_rounds::rounds::put_word_kept` meets its contract: a word that holds nothing, one that stays as it is, and the others.
 use native.Mathlib.Omega.{arith}
 use Rattle.sound_rounds.proofs.ReachLaws.{word-empty, word-whole}
 use borrow.Author.Needs.{needs}

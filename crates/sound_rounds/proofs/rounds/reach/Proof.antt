@@ -1,4 +1,4 @@
--- `sound_rounds::rounds::reach` meets its contract, round by round. Assumes nothing.
+-- `sound_rounds::rounds::reach` meets its contract, round by round.
 use denote.Ref.{now}
 use Prim.Native.Nat.{_-_, _≤_}
 use native.Mathlib.Omega.{arith}

@@ -1,4 +1,4 @@
--- `sound_rounds::rounds::round_in` meets its contract: what is kept, and what the chosen records put in. Assumes nothing.
+-- `sound_rounds::rounds::round_in` meets its contract: what is kept, and what the chosen records put in.
 use native.Mathlib.Omega.{arith}
 use mathlib.Core.Path.{sym, _∙_}
 use Rattle.bit_sets.specs.Sets.{windowWords}

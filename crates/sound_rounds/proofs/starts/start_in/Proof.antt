@@ -1,4 +1,4 @@
--- `sound_rounds::starts::start_in` meets its contract. Assumes nothing.
+-- `sound_rounds::starts::start_in` meets its contract.
 use mathlib.Core.Path.{sym, _∙_}
 use Rattle.sound_rounds.proofs.ReachLaws.{start-heads, start-groups}
 use Rattle.sound_rounds.proofs.starts.start_in.Statement.{statement}

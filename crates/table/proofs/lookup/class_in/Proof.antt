@@ -1,4 +1,4 @@
--- `table::lookup::class_in` meets its contract: what is skipped has no part in the answer. Assumes nothing.
+-- `table::lookup::class_in` meets its contract: what is skipped has no part in the answer.
 use Rattle.table.proofs.Fours.{left-same}
 use borrow.Author.Needs.{needs}
 use Rattle.table.proofs.lookup.class_in.Statement.{statement}

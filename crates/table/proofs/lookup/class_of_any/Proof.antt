@@ -1,4 +1,4 @@
--- `table::lookup::class_of_any` meets its contract, by the laws of a walk over triples. Assumes nothing.
+-- `table::lookup::class_of_any` meets its contract, by the laws of a walk over triples.
 use Prim.Native.Nat.{_-_}
 use native.Mathlib.Omega.{arith}
 use borrow.Author.Needs.{needs}

@@ -1,4 +1,4 @@
--- `table::lookup::group_at` meets its contract: the pairs stand behind the flags. Assumes nothing.
+-- `table::lookup::group_at` meets its contract: the pairs stand behind the flags.
 use native.Mathlib.Omega.{arith}
 use borrow.Author.Needs.{needs}
 use Rattle.table.proofs.lookup.group_at.Statement.{statement}

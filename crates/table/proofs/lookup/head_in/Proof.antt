@@ -1,4 +1,4 @@
--- `table::lookup::head_in` meets its contract, by the laws of a search for a head. Assumes nothing.
+-- `table::lookup::head_in` meets its contract, by the laws of a search for a head.
 use Prim.Native.Nat.{_-_}
 use native.Mathlib.Omega.{arith}
 use borrow.Author.Needs.{needs}

@@ -1,4 +1,4 @@
--- `table::lookup::in_any` meets its contract, by the laws of a walk over pairs. Assumes nothing.
+-- `table::lookup::in_any` meets its contract, by the laws of a walk over pairs.
 use Prim.Native.Nat.{_-_}
 use native.Mathlib.Omega.{arith}
 use borrow.Author.Needs.{needs}

@@ -1,4 +1,4 @@
--- `table::lookup::in_four` meets its contract. Assumes nothing.
+-- `table::lookup::in_four` meets its contract.
 use borrow.Author.Needs.{needs}
 use Rattle.table.proofs.lookup.in_four.Statement.{statement}
 use Rattle.table.proofs.lookup.in_four.Tie as tie

@@ -1,4 +1,4 @@
--- `table::lookup::in_pairs` meets its contract: what is skipped has no part in the answer. Assumes nothing.
+-- `table::lookup::in_pairs` meets its contract: what is skipped has no part in the answer.
 use Rattle.table.proofs.Fours.{left-same}
 use borrow.Author.Needs.{needs}
 use Rattle.table.proofs.lookup.in_pairs.Statement.{statement}

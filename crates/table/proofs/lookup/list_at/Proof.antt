@@ -1,4 +1,4 @@
--- `table::lookup::list_at` meets its contract: a list is measured from its count on. Assumes nothing.
+-- `table::lookup::list_at` meets its contract: a list is measured from its count on.
 use native.Mathlib.Omega.{arith}
 use borrow.Author.Needs.{needs}
 use Rattle.table.proofs.ListSizes.{list-room, list-there, list-absent}

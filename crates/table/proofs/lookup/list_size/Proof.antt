@@ -1,4 +1,4 @@
--- `table::lookup::list_size` meets its contract, by the laws of the walk that measures a list. Assumes nothing.
+-- `table::lookup::list_size` meets its contract, by the laws of the walk that measures a list.
 use Prim.Native.Nat.{_-_}
 use native.Mathlib.Omega.{arith}
 use mathlib.Core.Path.{_≡_}

@@ -1,4 +1,4 @@
--- `table::lookup::mem_in` meets its contract, by the laws of a walk over items. Assumes nothing.
+-- `table::lookup::mem_in` meets its contract, by the laws of a walk over items.
 use Prim.Native.Nat.{_-_}
 use native.Mathlib.Omega.{arith}
 use borrow.Author.Needs.{needs}

@@ -1,4 +1,4 @@
--- `table::lookup::whole_in` meets its contract, by the laws of a search for a whole. Assumes nothing.
+-- `table::lookup::whole_in` meets its contract, by the laws of a search for a whole.
 use Prim.Native.Nat.{_-_}
 use mathlib.Core.Path.{sym, _∙_}
 use native.Mathlib.Omega.{arith}

@@ -1,4 +1,4 @@
--- `table::lookup::whole_in_of` meets its contract: what is found in a part of the words is found in the words. Assumes nothing.
+-- `table::lookup::whole_in_of` meets its contract: what is found in a part of the words is found in the words.
 use native.Mathlib.Omega.{arith}
 use Rattle.table.proofs.Searches.{whole-at, whole-nothing}
 use borrow.Author.Needs.{needs}

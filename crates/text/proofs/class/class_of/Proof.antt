@@ -1,4 +1,4 @@
--- `class::class_of` meets its contract. Assumes nothing.
+-- `class::class_of` meets its contract.
 use native.Mathlib.Omega.{arith}
 use Rattle.text.specs.Decomposition.{classOf}
 use borrow.Author.Needs.{needs}

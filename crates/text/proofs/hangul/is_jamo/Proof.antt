@@ -1,4 +1,4 @@
--- `hangul::is_jamo` meets its contract. Assumes nothing.
+-- `hangul::is_jamo` meets its contract.
 use borrow.Author.Needs.{needs}
 use Rattle.text.proofs.hangul.is_jamo.Statement.{statement}
 use Rattle.text.proofs.hangul.is_jamo.Tie as tie

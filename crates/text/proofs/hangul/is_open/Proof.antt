@@ -1,4 +1,4 @@
--- `hangul::is_open` meets its contract. Assumes nothing.
+-- `hangul::is_open` meets its contract.
 use mathlib.Core.Path.{sym, _∙_}
 use native.Mathlib.Omega.{arith}
 use Rattle.text.proofs.Syllables.{syllable}

@@ -1,4 +1,4 @@
--- `hangul::is_syllable` meets its contract. Assumes nothing.
+-- `hangul::is_syllable` meets its contract.
 use lib.Dec.{leb·suc-suc}
 use borrow.Author.Needs.{needs}
 use Rattle.text.proofs.hangul.is_syllable.Statement.{statement}

@@ -1,4 +1,4 @@
--- `hangul::makes_closed` meets its contract. Assumes nothing.
+-- `hangul::makes_closed` meets its contract.
 use borrow.Author.Needs.{needs}
 use Rattle.text.proofs.hangul.makes_closed.Statement.{statement}
 use Rattle.text.proofs.hangul.makes_closed.Tie as tie

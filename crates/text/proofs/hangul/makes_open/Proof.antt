@@ -1,4 +1,4 @@
--- `hangul::makes_open` meets its contract. Assumes nothing.
+-- `hangul::makes_open` meets its contract.
 use borrow.Author.Needs.{needs}
 use Rattle.text.proofs.hangul.makes_open.Statement.{statement}
 use Rattle.text.proofs.hangul.makes_open.Tie as tie

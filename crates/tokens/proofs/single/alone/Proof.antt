@@ -1,4 +1,4 @@
--- `tokens::single::alone` meets its contract: each answer of the lookups leads to one case of the step. Assumes nothing.
+-- `tokens::single::alone` meets its contract: each answer of the lookups leads to one case of the step.
 use mathlib.Core.Path.{sym, _∙_}
 use borrow.Author.Needs.{needs}
 use Rattle.tokens.proofs.Alone.{alone-valid, alone-mapped, alone-ignored, alone-disallowed}

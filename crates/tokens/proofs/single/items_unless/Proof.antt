@@ -1,4 +1,4 @@
--- `tokens::single::items_unless` meets its contract. Assumes nothing.
+-- `tokens::single::items_unless` meets its contract.
 use borrow.Author.Needs.{needs}
 use Rattle.tokens.proofs.Alone.{unless-valid, unless-other}
 use Rattle.tokens.proofs.single.items_unless.Tie as tie

@@ -1,4 +1,4 @@
--- `bounds_of` meets its contract. Assumes nothing.
+-- `bounds_of` meets its contract.
 use native.Mathlib.Omega.{arith}
 use mathlib.Core.Path.{sym, _∙_}
 use borrow.Author.Needs.{needs}

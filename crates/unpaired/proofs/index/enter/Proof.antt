@@ -1,4 +1,4 @@
--- `enter` meets its contract: the bit of the second item is put, and the slot says the place. Assumes nothing.
+-- `enter` meets its contract: the bit of the second item is put, and the slot says the place.
 use mathlib.Core.Path.{refl}
 use borrow.Author.Needs.{needs}
 use Rattle.unpaired.proofs.Entering.{enters-none, enters-two}

@@ -1,4 +1,4 @@
--- `enter_run` meets its contract: the records before `i` are in the index. Assumes nothing.
+-- `enter_run` meets its contract: the records before `i` are in the index.
 use Prim.Native.Nat.{_-_, _≤_}
 use native.Mathlib.Omega.{arith}
 use mathlib.Core.Path.{_≡_, sym, _∙_}

@@ -1,4 +1,4 @@
--- `index_pairs` meets its contract. Assumes nothing.
+-- `index_pairs` meets its contract.
 use native.Mathlib.Omega.{arith}
 use Rattle.sections.proofs.SectionLaws.{laid-fits}
 use Rattle.unpaired.proofs.Places.{part-reads, part-is, part-short}

@@ -1,4 +1,4 @@
--- `widen` meets its contract. Assumes nothing.
+-- `widen` meets its contract.
 use borrow.Author.Needs.{needs}
 use borrow.Author.Tests.{eq-eqb, ne-eqb}
 use Rattle.unpaired.proofs.index.widen.Statement.{statement}

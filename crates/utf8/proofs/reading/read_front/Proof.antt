@@ -1,4 +1,4 @@
--- `utf8::reading::read_front` meets its contract: the bytes before `at` are read. Assumes nothing.
+-- `utf8::reading::read_front` meets its contract: the bytes before `at` are read.
 use Prim.Native.Nat.{_-_}
 use native.Mathlib.Omega.{arith}
 use lib.ListN.{length, take, drop, length-take, length-drop}

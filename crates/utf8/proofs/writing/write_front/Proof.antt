@@ -1,4 +1,4 @@
--- `utf8::writing::write_front` meets its contract: the codepoints before i are written. Assumes nothing.
+-- `utf8::writing::write_front` meets its contract: the codepoints before i are written.
 use Prim.Native.Nat.{_-_}
 use native.Mathlib.Omega.{arith}
 use mathlib.Core.Path.{sym, _∙_}

@@ -1,4 +1,4 @@
--- `absorb`: the bytes from i on are still to be taken. Assumes nothing.
+-- `absorb`: the bytes from i on are still to be taken.
 use Prim.Native.Nat.{_-_}
 use native.Mathlib.Omega.{arith}
 use mathlib.Core.Path.{refl, _∙_}

@@ -1,4 +1,4 @@
--- `digest`: the padding, the permutation and the squeezing one after another. Assumes nothing.
+-- `digest`: the padding, the permutation and the squeezing one after another.
 use borrow.Author.Needs.{needs}
 use Rattle.keccak.proofs.Taking.{finish}
 use Rattle.keccak.proofs.sponge.Keccak256.digest.Statement.{statement}
