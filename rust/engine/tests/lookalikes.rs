@@ -46,10 +46,26 @@ impl Met {
     }
 }
 
+/// What shows of a label before any extent is found: 0, no character is confused;
+/// 1, no group may spell it otherwise, since a group that holds a confused
+/// character never does, nor one without a character that is not; 2, nothing.
+fn first_look(table: &Table, label: &[u32]) -> usize {
+    let confused = |c: u32| table.whole_of(c).is_some();
+    if !label.iter().any(|&c| confused(c)) {
+        return 0;
+    }
+    let may = |group: usize| label.iter().all(|&c| confused(c) != table.group_holds(group, c));
+    if (0..table.group_count()).any(may) {
+        2
+    } else {
+        1
+    }
+}
+
 /// Chains of every length; then of any, short ones more often.
 #[test]
 fn chains_of_groups() {
-    let (mut met, mut accepted, mut refused) = (Met::default(), 0, [0; 18]);
+    let (mut met, mut accepted, mut refused, mut looked) = (Met::default(), 0, [0; 18], [[0; 3]; 2]);
     for seed in 1..=2_000 {
         let mut rng = Rng::new(seed);
         let of = if seed <= 256 { chained_of(&mut rng, seed as usize) } else { chained(&mut rng) };
@@ -59,14 +75,22 @@ fn chains_of_groups() {
         table.wholes.iter().take(2).for_each(|&whole| met.add(&table, whole));
         for _ in 0..25 {
             let name = chained_name(&mut rng, &of);
-            match same(&name, &words, &format!("seed {seed}")) {
+            let answer = same(&name, &words, &format!("seed {seed}"));
+            // Labels of one character and of more.
+            if answer.as_ref().map_or_else(|refusal| refusal.number == 14, |_| true) {
+                for label in name.split(|&c| c == STOP) {
+                    looked[usize::from(label.len() > 1)][first_look(&table, label)] += 1;
+                }
+            }
+            match answer {
                 Ok(_) => accepted += 1,
                 Err(refusal) => refused[refusal.number as usize] += 1,
             }
         }
     }
-    println!("{accepted} accepted, refused by number {refused:?}, {met:?}");
+    println!("{accepted} accepted, refused by number {refused:?}, {met:?}, by the first look {looked:?}");
     assert!(accepted > 10_000 && refused[14] > 10_000, "{accepted} accepted, {refused:?}");
+    assert!(looked.iter().flatten().all(|&labels| labels > 5_000), "{looked:?}");
     assert!(met.parted > 500 && met.with_nowhere > 500 && met.longest == 256, "{met:?}");
 }
 

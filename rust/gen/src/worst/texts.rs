@@ -56,7 +56,7 @@ const fn long(
 }
 
 /// Where a row says "in random order", each comparison's branch is a guess.
-pub const TEXTS: [Long; 61] = [
+pub const TEXTS: [Long; 62] = [
     long("scan: emoji of one codepoint", Call::Name, emoji_beside, letter_a, [16, INPUT], 0),
     long("scan: long emoji that start alike", Call::Name, emoji_alike, letter_a, [16, INPUT], 0),
     long("scan: emoji that start with FE0F", Call::Name, emoji_of_selectors, letter_a, [16, INPUT], 0),
@@ -89,6 +89,7 @@ pub const TEXTS: [Long; 61] = [
     long("14: the same, pairs in order", Call::Name, whole_14_in_order, own, [1, WORKED], 0),
     long("14: the same, pairs that hold all", Call::Name, whole_14_wide, own, [1, WORKED], 0),
     long("14: the same, labels of one codepoint", Call::Name, whole_14, labels_in_turn::<1>, [1, WORKED], 0),
+    long("14: the same, labels of 64 codepoints", Call::Name, whole_14, own_in_labels, [64, WORKED], 0),
     long("14: 2 wholes in turn", Call::Name, wholes_in_turn::<2>, labels_in_turn::<2>, [3, WORKED], 0),
     long("14: 9 wholes in turn", Call::Name, wholes_in_turn::<PAST>, labels_in_turn::<PAST>, [2 * PAST - 1, WORKED], 0),
     long("14: 9 wholes in turn, one label", Call::Name, wholes_in_turn::<PAST>, in_turn::<PAST>, [PAST, WORKED], 0),
@@ -179,6 +180,12 @@ fn in_turn<const COUNT: usize>(count: usize) -> Vec<u32> {
 fn labels_in_turn<const COUNT: usize>(count: usize) -> Vec<u32> {
     let label = |i: usize| OWN + (i / 2 % COUNT) as u32;
     (0..count).map(|i| if i % 2 == 1 && i + 1 < count { 0x2E } else { label(i) }).collect()
+}
+
+/// The character of the group in labels of 64, the most that 14 looks at before
+/// it finds a component; no stop stands last.
+fn own_in_labels(count: usize) -> Vec<u32> {
+    (0..count).map(|i| if i % 65 == 64 && i + 1 < count { 0x2E } else { OWN }).collect()
 }
 
 const EMOJI: u32 = 0x1F4A9;
