@@ -38,17 +38,16 @@ LIBC = {"aarch64-linux-gnu-gcc": "libc6-dev-arm64-cross", "arm-linux-gnueabihf-g
         "arm-linux-gnueabi-gcc": "libc6-dev-armel-cross", "riscv64-linux-gnu-gcc": "libc6-dev-riscv64-cross"}
 
 
-# Where two codepoints are left side by side (docs/STACK.md). On the first two `pairs::pair_of` has those that composing looks up at hand while it copies
-# the places of the table's sections, and writes them to its frame one behind the other. On the third memmove saves a codepoint of an emoji two
-# registers behind FE0F, which the finder has there to compare with.
-SIDE_BY_SIDE = ("aarch64-unknown-none", "riscv32", "armv7a-none-eabihf")
+# Where two codepoints are left side by side (docs/STACK.md): `pairs::pair_of` has those that composing looks up at hand while it copies
+# the places of the table's sections, and writes them to its frame one behind the other.
+SIDE_BY_SIDE = ("aarch64-unknown-none", "riscv32", "thumbv6m")
 
 
 def left_most(machine):
-    """Single codepoints of a name that may stay on the stack (docs/STACK.md), and how many in order. The M0 has four registers that outlive a call, and
-    each function saves all of them: a codepoint that is handed down stays in every frame on its way."""
+    """Single codepoints of a name that may stay on the stack (docs/STACK.md), and how many in order. ARM of 32 bits has few registers that outlive a call,
+    the M0 four, and each function saves those that it uses: a codepoint that is handed down stays in most frames on its way."""
     name = machine.name
-    return 24 if name.startswith("thumbv6m") else 16, 2 if name.startswith(SIDE_BY_SIDE) else 1
+    return 24 if name.startswith(("arm", "thumb")) else 16, 2 if name.startswith(SIDE_BY_SIDE) else 1
 
 
 def check_left(machine, kind, words, in_order, tally):
