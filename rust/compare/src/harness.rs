@@ -23,6 +23,8 @@ pub struct Settings {
     pub more_soundness: u64,
     /// Differences kept as text; the others are only counted.
     pub keep: usize,
+    /// With so many differences the run ends, behind the table that gave the last.
+    pub enough: u64,
 }
 
 impl Default for Settings {
@@ -35,6 +37,7 @@ impl Default for Settings {
             files_per_table: 4,
             more_soundness: 3_000,
             keep: 20,
+            enough: u64::MAX,
         }
     }
 }
@@ -303,6 +306,9 @@ pub fn compare_over(
 ) -> Report {
     let mut all = All { first, others, settings, report: Report::default() };
     for seed in settings.first_seed..settings.first_seed + settings.tables {
+        if all.report.counts.differences >= settings.enough {
+            return all.report;
+        }
         let mut rng = Rng::new(seed);
         let made = table(&mut rng);
         all.soundness(seed, &made.words);
@@ -323,6 +329,9 @@ pub fn compare_over(
     }
     let first = settings.first_seed + settings.tables;
     for seed in first..first + settings.more_soundness {
+        if all.report.counts.differences >= settings.enough {
+            break;
+        }
         all.soundness(seed, &table(&mut Rng::new(seed)).words);
     }
     all.report

@@ -201,6 +201,7 @@ pub fn check_lists(first: &dyn Engine, others: &[&dyn Engine], first_seed: u64, 
         files_per_table: 1,
         more_soundness: 0,
         keep: 5,
+        ..Settings::default()
     };
     let report = compare_over(first, others, &settings, gen::lists::made);
     report.show();

@@ -29,6 +29,7 @@ fn disturbed_sections() {
         files_per_table: 0,
         more_soundness: 0,
         keep: 5,
+        ..Settings::default()
     };
     let report = compare_over(&Slow, &[&Plain, &Passed], &settings, gen::disturbed::disturbed_table);
     report.show();

@@ -449,7 +449,11 @@ impl Engine for Assembled {
     }
 }
 
-/// What the tests run over: a tenth of the whole comparison.
+/// Differences by which something wrong counts as found.
+const FOUND: u64 = 3;
+
+/// What the tests run over: a tenth of the whole comparison, as far as it takes to
+/// find what is wrong.
 fn settings() -> Settings {
     Settings {
         first_seed: 7_000,
@@ -459,6 +463,7 @@ fn settings() -> Settings {
         files_per_table: 1,
         more_soundness: 0,
         keep: 3,
+        enough: FOUND,
     }
 }
 
@@ -619,7 +624,7 @@ fn wrong_checks_are_found() {
     for &wrong in WRONG_CHECKS {
         let report = compare(&Plain, &Checks(wrong), &settings);
         say(format!("{wrong:?}: {} differences", report.counts.differences));
-        assert!(report.counts.differences >= 3, "{wrong:?} is hardly found");
+        assert!(report.counts.differences >= FOUND, "{wrong:?} is hardly found");
     }
 }
 
@@ -631,7 +636,7 @@ fn wrong_engines_are_found() {
             false => compare(&Plain, &Assembled(wrong), &settings()),
         };
         say(format!("{wrong:?}: {} differences", report.counts.differences));
-        assert!(report.counts.differences >= 3, "{wrong:?} is hardly found");
+        assert!(report.counts.differences >= FOUND, "{wrong:?} is hardly found");
         // A difference is printed with its seed, codepoints and words.
         let text = &report.differences[0];
         assert!(text.starts_with("seed ") && text.contains("table "), "{text}");

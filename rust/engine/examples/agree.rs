@@ -28,6 +28,7 @@ fn compared(tables: u64, names: usize, first_seed: u64, table: fn(&mut Rng) -> M
             files_per_table: 1,
             more_soundness: 0,
             keep: 5,
+            ..Settings::default()
         };
         compare_over(&Plain, &[&Proved, &Slow, &Passed], &settings, table)
     };
