@@ -1,3 +1,4 @@
+pub mod Counting
 pub mod Sharing
 pub mod Taking
 pub mod FindingLaws
