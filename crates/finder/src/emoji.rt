@@ -1,6 +1,6 @@
 // Finding an emoji sequence at the start of an input.
 use firsts::seek;
-use heads::Marks;
+use place_marks::Marks;
 use sections::Sections;
 use table::Span;
 use table::lookup::counted;
