@@ -19,7 +19,7 @@ use Rattle.table.specs.Part.{recordsIn, SequencesAt, SequenceHere, countedAt}
 use Rattle.sections.proofs.SectionLaws.{laid-fits, laid-reads}
 use Rattle.table.proofs.Lookups.{false-true, behind, within-within, behind-fits}
 use Rattle.table.proofs.Records.{sequences-step, sequences-end, sequence-items}
-use Rattle.heads.specs.declared.Marks.{Marks}
+use Rattle.place_marks.specs.declared.Marks.{Marks}
 use Rattle.firsts.specs.declared.Start.{Start}
 use Rattle.firsts.specs.Firsts.{optional, sequencesIn, firstOf, steady, Avoids, FirstsKnown, Passing}
 use Rattle.firsts.proofs.Steady.{first-item, steady-rest, steady-behind, avoid-behind}

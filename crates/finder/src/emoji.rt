@@ -1,7 +1,7 @@
 // Finding an emoji sequence at the start of an input.
 use crate::shared::shared;
 use firsts::seek;
-use heads::Marks;
+use place_marks::Marks;
 use sections::Sections;
 use table::Span;
 use table::lookup::counted;

@@ -12,8 +12,8 @@ use Rattle.table.specs.Layout.{sequences}
 use Rattle.table.specs.Part.{recordsIn, SequenceHere}
 use Rattle.table.proofs.Lookups.{false-true}
 use Rattle.table.proofs.Records.{records-start, sequences-step}
-use Rattle.heads.specs.declared.Marks.{Marks}
-use Rattle.heads.specs.Heads.{noMarks, mostPlace, withMark}
+use Rattle.place_marks.specs.declared.Marks.{Marks}
+use Rattle.place_marks.specs.Places.{noMarks, mostPlace, withMark}
 use Rattle.firsts.specs.Firsts.{sequencesIn, steady, FirstsSteady, Avoids, SequencesFrom, Numbered, FourNumbered, MarksNumbered, FirstsKnown, Passing}
 use Rattle.firsts.proofs.Steady.{first-item, steady-first, steady-behind, avoid-before, avoid-more}
 

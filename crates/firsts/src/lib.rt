@@ -1,19 +1,19 @@
 // The section of emoji sequences: one walk finds whether it is well formed and sorted by first items, and sets marks; a search starts at a
 // mark.
 
-use halving::Order;
-use heads::Four;
-use heads::Marks;
-use heads::count_fits;
-use heads::no_marks;
-use heads::order_of;
-use heads::with_mark;
+use apart::Order;
+use place_marks::Four;
+use place_marks::Marks;
+use place_marks::count_fits;
+use place_marks::no_marks;
+use place_marks::order_of;
+use place_marks::with_mark;
 ghost use Prim.Native.Nat.{_+_, _≤_};
 ghost use mathlib.Core.Path.{_≡_};
 ghost use mathlib.Core.Bool.{not, _&&_};
 ghost use lib.ListN.{length};
 ghost use lib.Dec.{leb, eqb};
-ghost use Rattle.halving.specs.declared.Order.the-variants.{Fault};
+ghost use Rattle.apart.specs.declared.Order.the-variants.{Fault};
 ghost use Rattle.firsts.specs.Firsts.{
   optional,
   FirstsSteady,
