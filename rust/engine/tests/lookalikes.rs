@@ -69,13 +69,25 @@ fn groups_sorted(table: &TableBuilder) -> bool {
     table.groups.iter().all(|(_, pairs)| pairs.iter().all(|&(first, last)| first <= last) && ascends(pairs))
 }
 
-/// Chains of every length; then of any, short ones more often.
+/// The same codepoints in pairs that ascend without overlap.
+fn in_order(pairs: &[(u32, u32)]) -> Vec<(u32, u32)> {
+    let mut held: Vec<u32> = pairs.iter().flat_map(|&(first, last)| first..=last).collect();
+    held.sort_unstable();
+    held.dedup();
+    held.into_iter().map(|c| (c, c)).collect()
+}
+
+/// Chains of every length; then of any, short ones more often; the groups of half
+/// of the tables sorted.
 #[test]
 fn chains_of_groups() {
     let (mut met, mut accepted, mut refused, mut looked) = (Met::default(), 0, [0; 18], [[0; 3]; 2]);
     for seed in 1..=2_000 {
         let mut rng = Rng::new(seed);
-        let of = if seed <= 256 { chained_of(&mut rng, seed as usize) } else { chained(&mut rng) };
+        let mut of = if seed <= 256 { chained_of(&mut rng, seed as usize) } else { chained(&mut rng) };
+        if seed % 2 == 0 {
+            of.table.groups.iter_mut().for_each(|(_, pairs)| *pairs = in_order(pairs));
+        }
         assert!(seed > 256 || of.table.groups.len() == seed as usize);
         let sorted = groups_sorted(&of.table);
         let words = of.table.to_words();
