@@ -33,7 +33,7 @@ AEABI = {"memcpy": "(void *to, const void *from, size_t count) { memcpy(to, from
 COMPILER = [f"{name}{width}" for name in AEABI for width in ("", "4", "8")] + ["uldivmod", "uidiv", "uidivmod", "lmul", "llsl", "llsr"]
 
 # Functions that call themselves, and how often at most at a time: rounds 4 down to 0; the digits of 64 bits in base 10.
-DEEP = {"decomposition::expand": 5, "nsm::runs::take_rounds": 5, "byte_sink::put_numeral": 20}
+DEEP = {"decomposition::expand": 5, "nsm_rows::runs::take_rounds": 5, "byte_sink::put_numeral": 20}
 
 ROUTINE = 64  # bytes of stack that memcpy and the like may take
 

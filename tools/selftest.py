@@ -240,8 +240,8 @@ class Edits(unittest.TestCase):
     def test_unfit_proof_files_do_not(self):
         for text in (
             "`cast-t3`: `tie.Need-cast-t3`: module `Tie` has no `Need-cast-t3` that can be named from here",
-            "`returns-3`: record `Rattle.unpack.proofs.inspect.Lts.Then3` has no field `if2`",
-            "`returns-3`: record `Rattle.unpack.proofs.inspect.Lts.Then3`\n  has no field `if2`",
+            "`returns-3`: record `Rattle.file_words.proofs.inspect.Lts.Then3` has no field `if2`",
+            "`returns-3`: record `Rattle.file_words.proofs.inspect.Lts.Then3`\n  has no field `if2`",
             "`Inv-loop`: this pattern needs a function (or path) type to bind, but the signature at this point is `Type 0`",
             "`Inv-loop`: computed as far as they go, the two types are `ℕ → Type 0`",
             "`μ-loop`: expected type `ℕ`, but this has type `List ℕ`",

@@ -1,11 +1,11 @@
 // Keccak-256 and the name hash (02, Item 10): the sponge, its state by value, the digest of a slice, and the hash of a name.
 use hash_crossing::WanlophengNamehash;
 use hash_crossing::cross_namehash;
-use keccak::sponge::Digest;
-use keccak::sponge::Keccak256;
+use keccak_bytes::Digest;
+use keccak_sponge::Keccak256;
 ghost use mathlib.Core.Path.{_≡_};
-ghost use Rattle.keccak.specs.Sponge.{keccak256};
-ghost use Rattle.keccak.specs.State.{fresh, absorbed, digested};
+ghost use Rattle.keccak_bytes.specs.Sponge.{keccak256};
+ghost use Rattle.keccak_sponge.specs.State.{fresh, absorbed, digested};
 ghost use Rattle.hash_crossing.specs.HashCrossing.{NamehashCrosses};
 
 // A sponge that has taken nothing.

@@ -7,9 +7,9 @@ use mathlib.Core.Option.{Option, none, some}
 use lib.ListN.{length, getD, take}
 use Rattle.table.specs.Table.{Table}
 use Rattle.table.specs.Layout.{parse}
-use Rattle.finder.specs.Emoji.{strip, Found, find}
+use Rattle.finder.specs.Emoji.{strip, selectorsIn, Found, find}
 use Rattle.finder.specs.Finding.{Best, find-best}
-use Rattle.finder.specs.Took.{selectorsIn, Took, find-took}
+use Rattle.finder.specs.Took.{Took, find-took}
 use Rattle.emoji_call.specs.EmojiCall.{EmojiValues, matching, emojiCall}
 
 -- Where an emoji is found, what was taken of the part, stripped, is the record of that number stripped, the FE0F in it are as many as answered,

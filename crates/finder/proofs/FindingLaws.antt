@@ -6,7 +6,7 @@ use mathlib.Core.Path.{_≡_, refl, sym, _∙_, ap}
 use mathlib.Core.Bool.{Bool, true, false, _||_}
 use mathlib.Core.List.{List, [], _∷_, _++_, append-nil}
 use mathlib.Core.Option.{Option, none, some}
-use lib.ListN.{length, getD}
+use lib.ListN.{length, getD, take}
 use lib.Dec.{eqb, ltb}
 use borrow.Author.Tests.{eqb-true, eqb-false, le-leb, lt-leb}
 use Rattle.lists.specs.Lists.{onSome}
@@ -19,26 +19,28 @@ use Rattle.table.specs.Part.{recordsIn, SequencesAt, SequenceHere, countedAt}
 use Rattle.sections.proofs.SectionLaws.{laid-fits, laid-reads}
 use Rattle.table.proofs.Lookups.{false-true, behind, within-within, behind-fits}
 use Rattle.table.proofs.Records.{sequences-step, sequences-end, sequence-items}
-use Rattle.heads.specs.declared.Marks.{Marks}
+use Rattle.place_marks.specs.declared.Marks.{Marks}
 use Rattle.firsts.specs.declared.Start.{Start}
 use Rattle.firsts.specs.Firsts.{optional, sequencesIn, firstOf, steady, Avoids, FirstsKnown, Passing}
 use Rattle.firsts.proofs.Steady.{first-item, steady-rest, steady-behind, avoid-behind}
 use Rattle.finder.specs.declared.emoji.Taking as taking
 use Rattle.finder.specs.declared.emoji.Taking.{Taking}
 use Rattle.finder.specs.declared.emoji.Match as match
-use Rattle.finder.specs.declared.emoji.Match.{Match}
-use Rattle.finder.specs.Emoji.{Found, takes, strip, found, longer, findFrom, find}
+use Rattle.finder.specs.declared.emoji.Uncounted as uncounted
+use Rattle.finder.specs.declared.emoji.Uncounted.{Uncounted}
+use Rattle.finder.specs.Emoji.{Taken, Found, takes, strip, selectorsIn, found, longer, findFrom, find}
 use Rattle.finder.specs.Matching.{takes-fits}
 use Rattle.finder.specs.Finding.{find-best, longer-assoc}
 use Rattle.finder.proofs.Taking.{takes-none}
-use Rattle.finder.specs.Match.{takenOf, foundOf, matchOf, betterOf, onward, SequenceFits, MatchFits, MatchTakes, FoundBy, Sequences}
+use Rattle.finder.specs.Match.{takenOf, uncountedOf, matchOf, betterOf, onward, SequenceFits, UncountedFits, UncountedBy, FoundBy, Sequences}
 
 -- the match of a record, as the definition has it
-match-found : (ws : List ℕ) (n : ℕ) (s : Span) (k : Taking) → foundOf ws (matchOf n s k) ≡ onSome (takenOf k) (found n (within s ws)) none
-match-found ws n s taking.the-variants.Nothing = refl
-match-found ws n s (taking.the-variants.Whole k f) = go (eqb k 0) refl
+match-found : (ws rest : List ℕ) (n : ℕ) (s : Span) (k : Taking) → uncountedOf ws rest (matchOf n s k) ≡ onSome (takenOf rest k) (found n (within s ws)) none
+match-found ws rest n s taking.the-variants.Nothing = refl
+match-found ws rest n s (taking.the-variants.Whole k) = go (eqb k 0) refl
   where
-    go : (b : Bool) → eqb k 0 ≡ b → foundOf ws (matchOf n s (taking.the-variants.Whole k f)) ≡ found n (within s ws) (record { length = k; selectors = f })
+    go : (b : Bool) → eqb k 0 ≡ b
+        → uncountedOf ws rest (matchOf n s (taking.the-variants.Whole k)) ≡ found n (within s ws) (record { length = k; selectors = selectorsIn (take k rest) })
     go true p =
         let z : k ≡ 0 = eqb-true _ _ p in
         let less : k < 1 = omega arith in
@@ -48,43 +50,39 @@ match-found ws n s (taking.the-variants.Whole k f) = go (eqb k 0) refl
         let low : 1 ≤ k = omega arith in
         rw (p, le-leb 1 k low)
 
-match-fits : (ws : List ℕ) (n : ℕ) (s : Span) (k : Taking) → SequenceFits ws s → MatchFits ws (matchOf n s k)
+match-fits : (ws : List ℕ) (n : ℕ) (s : Span) (k : Taking) → SequenceFits ws s → UncountedFits ws (matchOf n s k)
 match-fits ws n s taking.the-variants.Nothing h = tt
-match-fits ws n s (taking.the-variants.Whole k f) h = go (eqb k 0) refl
+match-fits ws n s (taking.the-variants.Whole k) h = go (eqb k 0) refl
   where
-    go : (b : Bool) → eqb k 0 ≡ b → MatchFits ws (matchOf n s (taking.the-variants.Whole k f))
+    go : (b : Bool) → eqb k 0 ≡ b → UncountedFits ws (matchOf n s (taking.the-variants.Whole k))
     go true p = rw p tt
     go false p = rw p h
 
 -- the better of two matches, as the definition has it
-better-found : (ws : List ℕ) (a b : Match) → foundOf ws (betterOf a b) ≡ longer (foundOf ws a) (foundOf ws b)
-better-found ws match.the-variants.Nothing match.the-variants.Nothing = refl
-better-found ws match.the-variants.Nothing (match.the-variants.Found m t j g) = refl
-better-found ws (match.the-variants.Found n s k f) match.the-variants.Nothing = refl
-better-found ws (match.the-variants.Found n s k f) (match.the-variants.Found m t j g) = go (ltb k j) refl
+better-found : (ws rest : List ℕ) (a b : Uncounted) → uncountedOf ws rest (betterOf a b) ≡ longer (uncountedOf ws rest a) (uncountedOf ws rest b)
+better-found ws rest uncounted.the-variants.Nothing uncounted.the-variants.Nothing = refl
+better-found ws rest uncounted.the-variants.Nothing (uncounted.the-variants.Found m t j) = refl
+better-found ws rest (uncounted.the-variants.Found n s k) uncounted.the-variants.Nothing = refl
+better-found ws rest (uncounted.the-variants.Found n s k) (uncounted.the-variants.Found m t j) = go (ltb k j) refl
   where
-    a : Match
-    a = match.the-variants.Found n s k f
+    a : Uncounted
+    a = uncounted.the-variants.Found n s k
 
-    b : Match
-    b = match.the-variants.Found m t j g
+    b : Uncounted
+    b = uncounted.the-variants.Found m t j
 
-    go : (c : Bool) → ltb k j ≡ c → foundOf ws (betterOf a b) ≡ longer (foundOf ws a) (foundOf ws b)
+    go : (c : Bool) → ltb k j ≡ c → uncountedOf ws rest (betterOf a b) ≡ longer (uncountedOf ws rest a) (uncountedOf ws rest b)
     go true p = rw p
     go false p = rw p
 
-better-fits : (ws : List ℕ) (a b : Match) → MatchFits ws a → MatchFits ws b → MatchFits ws (betterOf a b)
-better-fits ws match.the-variants.Nothing b p q = q
-better-fits ws (match.the-variants.Found n s k f) match.the-variants.Nothing p q = p
-better-fits ws (match.the-variants.Found n s k f) (match.the-variants.Found m t j g) p q = go (ltb k j) refl
+better-fits : (ws : List ℕ) (a b : Uncounted) → UncountedFits ws a → UncountedFits ws b → UncountedFits ws (betterOf a b)
+better-fits ws uncounted.the-variants.Nothing b p q = q
+better-fits ws (uncounted.the-variants.Found n s k) uncounted.the-variants.Nothing p q = p
+better-fits ws (uncounted.the-variants.Found n s k) (uncounted.the-variants.Found m t j) p q = go (ltb k j) refl
   where
-    go : (c : Bool) → ltb k j ≡ c → MatchFits ws (betterOf (match.the-variants.Found n s k f) (match.the-variants.Found m t j g))
+    go : (c : Bool) → ltb k j ≡ c → UncountedFits ws (betterOf (uncounted.the-variants.Found n s k) (uncounted.the-variants.Found m t j))
     go true e = rw e q
     go false e = rw e p
-
-better-nothing : (a : Match) → a ≡ betterOf a match.the-variants.Nothing
-better-nothing match.the-variants.Nothing = refl
-better-nothing (match.the-variants.Found n s k f) = refl
 
 longer-none : (o : Option Found) → longer none o ≡ o
 longer-none none = refl
@@ -116,16 +114,16 @@ neither false b e = (refl, e)
 neither true b e = absurd (false-true (sym e))
 
 -- The records before `at` are looked at: `best` is their match, and those from there on are numbered from `number` on.
-pub record Finder (part rest : List ℕ) (sorted : Bool) (best : Match) (number at : ℕ) : Type 0 where
+pub record Finder (part rest : List ℕ) (sorted : Bool) (best : Uncounted) (number at : ℕ) : Type 0 where
   pub left : List (List ℕ)
   pub here : SequencesAt part at left
   pub few : number ≤ at
-  pub so : find (sequencesIn part) rest ≡ longer (foundOf part best) (findFrom number left rest)
-  pub fits : MatchFits part best
+  pub so : find (sequencesIn part) rest ≡ longer (uncountedOf part rest best) (findFrom number left rest)
+  pub fits : UncountedFits part best
   pub rise : sorted ≡ true → steady 0 left ≡ true
 
 pub finder-start : (part rest : List ℕ) (sorted : Bool) (f g : Marks) → FirstsKnown part sorted f g → 0 < length rest → (s : Start) → Passing part (getD rest 0 0) s
-    → Finder part rest sorted match.the-variants.Nothing (s .number) (s .place)
+    → Finder part rest sorted uncounted.the-variants.Nothing (s .number) (s .place)
 unfolding find
 finder-start part rest sorted f g k h s p =
     let w = p .from in
@@ -141,40 +139,42 @@ finder-start part rest sorted f g k h s p =
       rise = λ t. steady-behind (w .passed) (w .left) (sym (ap (steady 0) (w .split)) ∙ k .firsts t);
     }
 
-takes-some : (ws rest : List ℕ) (seqs : List (List ℕ)) (m : Match) → foundOf ws m ≡ find seqs rest → MatchTakes rest m
-takes-some ws rest seqs match.the-variants.Nothing e = tt
-takes-some ws rest seqs (match.the-variants.Found n s k f) e =
-    let b = find-best seqs rest (record { number = n; taken = record { length = k; selectors = f }; stripped = strip (within s ws) }) (sym e) in
-    (b .some-taken, takes-fits _ rest (record { length = k; selectors = f }) (b .taken) .inside)
+-- a match takes some of the rest
+takes-some : (ws rest : List ℕ) (seqs : List (List ℕ)) (n : ℕ) (s : Span) (k : ℕ) → uncountedOf ws rest (uncounted.the-variants.Found n s k) ≡ find seqs rest
+    → (1 ≤ k) × (k ≤ length rest)
+takes-some ws rest seqs n s k e =
+    let t : Taken = record { length = k; selectors = selectorsIn (take k rest) } in
+    let b = find-best seqs rest (record { number = n; taken = t; stripped = strip (within s ws) }) (sym e) in
+    (b .some-taken, takes-fits _ rest t (b .taken) .inside)
 
-module _ (part rest : List ℕ) (sorted : Bool) (best : Match) (number at : ℕ) (w : Finder part rest sorted best number at) where
+module _ (part rest : List ℕ) (sorted : Bool) (best : Uncounted) (number at : ℕ) (w : Finder part rest sorted best number at) where
   pub finder-here : at < length part → SequenceHere part at (w .left)
   finder-here h = sequences-step part at (w .left) (w .here) h
 
   finder-rise : (h : at < length part) → sorted ≡ true → steady 0 (finder-here h .rest) ≡ true
   finder-rise h t = let x = finder-here h in steady-rest (x .first) (x .rest) (sym (ap (steady 0) (x .split)) ∙ w .rise t)
 
-  pub finder-more : (h : at < length part) (k : Taking) → takenOf k ≡ takes (within (countedAt part at) part) rest
-      → (m : Match) → m ≡ matchOf number (countedAt part at) k → (b : Match) → b ≡ betterOf best m
+  pub finder-more : (h : at < length part) (k : Taking) → takenOf rest k ≡ takes (within (countedAt part at) part) rest
+      → (m : Uncounted) → m ≡ matchOf number (countedAt part at) k → (b : Uncounted) → b ≡ betterOf best m
       → Finder part rest sorted b (number + 1) (countedAt part at .to)
   unfolding findFrom
   finder-more h k e m p b q =
       let s : Span = countedAt part at in
       let x = finder-here h in
-      let one : foundOf part m ≡ onSome (takes (x .first) rest) (found number (x .first)) none =
-      rw (p, match-found part number s k, e, sequence-items part at (w .left) x) in
+      let one : uncountedOf part rest m ≡ onSome (takes (x .first) rest) (found number (x .first)) none =
+      rw (p, match-found part rest number s k, e, sequence-items part at (w .left) x) in
       let split : findFrom number (w .left) rest ≡ findFrom number (x .first ∷ x .rest) rest = ap (λ (l : List (List ℕ)). findFrom number l rest) (x .split) in
-      let head : findFrom number (x .first ∷ x .rest) rest ≡ longer (foundOf part m) (findFrom (suc number) (x .rest) rest) = rw one in
-      let step : findFrom number (w .left) rest ≡ longer (foundOf part m) (findFrom (suc number) (x .rest) rest) = split ∙ head in
-      let both : foundOf part b ≡ longer (foundOf part best) (foundOf part m) = rw q (better-found part best m) in
+      let head : findFrom number (x .first ∷ x .rest) rest ≡ longer (uncountedOf part rest m) (findFrom (suc number) (x .rest) rest) = rw one in
+      let step : findFrom number (w .left) rest ≡ longer (uncountedOf part rest m) (findFrom (suc number) (x .rest) rest) = split ∙ head in
+      let both : uncountedOf part rest b ≡ longer (uncountedOf part rest best) (uncountedOf part rest m) = rw q (better-found part rest best m) in
       let fit : SequenceFits part s = record { ordered = omega arith; inside = x .fits; short = omega (arith, x .high) } in
       record {
         left = x .rest;
         here = x .next;
         few = omega (arith, w .few);
         so =
-            w .so ∙ ap (longer (foundOf part best)) step
-            ∙ sym (longer-assoc (foundOf part best) (foundOf part m) (findFrom (suc number) (x .rest) rest))
+            w .so ∙ ap (longer (uncountedOf part rest best)) step
+            ∙ sym (longer-assoc (uncountedOf part rest best) (uncountedOf part rest m) (findFrom (suc number) (x .rest) rest))
             ∙ rw (← both, add-one number) refl;
         fits = rw (q, p) (better-fits part best (matchOf number s k) (w .fits) (match-fits part number s k fit));
         rise = finder-rise h;
@@ -194,25 +194,25 @@ module _ (part rest : List ℕ) (sorted : Bool) (best : Match) (number at : ℕ)
         left = x .rest;
         here = x .next;
         few = omega (arith, w .few);
-        so = w .so ∙ ap (longer (foundOf part best)) (ap (λ (l : List (List ℕ)). findFrom number l rest) (x .split) ∙ step);
+        so = w .so ∙ ap (longer (uncountedOf part rest best)) (ap (λ (l : List (List ℕ)). findFrom number l rest) (x .split) ∙ step);
         fits = w .fits;
         rise = finder-rise h;
       }
 
   -- nothing is left that matches
-  finder-done : findFrom number (w .left) rest ≡ none → FoundBy part rest (find (sequencesIn part) rest) best
+  finder-done : findFrom number (w .left) rest ≡ none → UncountedBy part rest (find (sequencesIn part) rest) best
   finder-done e =
-      let s : foundOf part best ≡ find (sequencesIn part) rest = sym (w .so ∙ rw e refl) in
-      record { same = s; fits = w .fits; takes = takes-some part rest (sequencesIn part) best s }
+      let s : uncountedOf part rest best ≡ find (sequencesIn part) rest = sym (w .so ∙ rw e refl) in
+      record { same = s; fits = w .fits }
 
-  pub finder-end : length part ≤ at → FoundBy part rest (find (sequencesIn part) rest) best
+  pub finder-end : length part ≤ at → UncountedBy part rest (find (sequencesIn part) rest) best
   unfolding findFrom
   finder-end h =
       let e : w .left ≡ [] = sequences-end part at (w .left) (w .here) h in
       finder-done (rw e refl)
 
   -- behind a first item above the input's, none matches
-  pub finder-above : at < length part → 0 < length rest → sorted ≡ true → getD rest 0 0 < getD part (at + 1) 0 → FoundBy part rest (find (sequencesIn part) rest) best
+  pub finder-above : at < length part → 0 < length rest → sorted ≡ true → getD rest 0 0 < getD part (at + 1) 0 → UncountedBy part rest (find (sequencesIn part) rest) best
   finder-above h i t less =
       let x = finder-here h in
       let up : steady 0 (x .first ∷ x .rest) ≡ true = rw (x .split) at (w .rise t) in
@@ -229,22 +229,22 @@ find-empty seqs = go (find seqs []) refl
         let b = find-best seqs [] f e in
         absurd (omega (arith, b .some-taken, takes-fits _ [] (f .taken) (b .taken) .inside))
 
-pub finder-empty : (part rest : List ℕ) → length rest ≡ 0 → FoundBy part rest (find (sequencesIn part) rest) match.the-variants.Nothing
-finder-empty part [] h = record { same = sym (find-empty (sequencesIn part)); fits = tt; takes = tt }
+pub finder-empty : (part rest : List ℕ) → length rest ≡ 0 → UncountedBy part rest (find (sequencesIn part) rest) uncounted.the-variants.Nothing
+finder-empty part [] h = record { same = sym (find-empty (sequencesIn part)); fits = tt }
 finder-empty part (c ∷ rest) h = absurd (omega arith)
 
 -- what is found in a section is found among the words
-module _ (ws rest : List ℕ) (s : Span) (o : Option Found) (f : Fits ws s) where
-  pub found-onward : (m : Match) → FoundBy (within s ws) rest o m → FoundBy ws rest o (onward (s .from) m)
-  found-onward match.the-variants.Nothing r = record { same = r .same; fits = tt; takes = tt }
-  found-onward (match.the-variants.Found n t k g) r =
+module _ (ws rest : List ℕ) (s : Span) (seqs : List (List ℕ)) (f : Fits ws s) where
+  pub found-onward : (m : Uncounted) → UncountedBy (within s ws) rest (find seqs rest) m → FoundBy ws rest (find seqs rest) (onward (s .from) rest m)
+  found-onward uncounted.the-variants.Nothing r = record { same = r .same; fits = tt; takes = tt }
+  found-onward (uncounted.the-variants.Found n t k) r =
       let q : SequenceFits (within s ws) t = r .fits in
       let fit : Fits (within s ws) t = record { ordered = q .ordered; inside = q .inside } in
       let b = behind-fits ws s t f fit in
       record {
         same = rw (← within-within ws s t f fit) (r .same);
         fits = record { ordered = b .ordered; inside = b .inside; short = omega (arith, q .short) };
-        takes = r .takes;
+        takes = takes-some (within s ws) rest seqs n t k (r .same);
       }
 
 -- the emoji section holds the sequences of the table
@@ -260,16 +260,16 @@ module _ (ws : List ℕ) (ix : Sections) (l : Laid ws ix) where
   emoji-sequences = record { parses = rw emoji-known (laid-reads ws ix l .emoji) }
 
 -- what is found in the emoji section is what the table has
-module _ (ws : List ℕ) (ix : Sections) (l : Laid ws ix) (rest : List ℕ) (m : Match)
-    (r : FoundBy (within (ix .emoji) ws) rest (find (sequencesIn (within (ix .emoji) ws)) rest) m) where
-  section-found : FoundBy ws rest (find (theTable ws .emoji) rest) (onward (ix .emoji .from) m)
+module _ (ws : List ℕ) (ix : Sections) (l : Laid ws ix) (rest : List ℕ) (m : Uncounted)
+    (r : UncountedBy (within (ix .emoji) ws) rest (find (sequencesIn (within (ix .emoji) ws)) rest) m) where
+  section-found : FoundBy ws rest (find (theTable ws .emoji) rest) (onward (ix .emoji .from) rest m)
   section-found =
-      let p : FoundBy (within (ix .emoji) ws) rest (find (theTable ws .emoji) rest) m = rw (emoji-known ws ix l) at r in
-      found-onward ws rest (ix .emoji) (find (theTable ws .emoji) rest) (laid-fits ws ix l .emoji) m p
+      let p : UncountedBy (within (ix .emoji) ws) rest (find (theTable ws .emoji) rest) m = rw (emoji-known ws ix l) at r in
+      found-onward ws rest (ix .emoji) (theTable ws .emoji) (laid-fits ws ix l .emoji) m p
 
-  pub found-at : (n : ℕ) (s : Span) (k f : ℕ) → m ≡ match.the-variants.Found n s k f
-      → FoundBy ws rest (find (theTable ws .emoji) rest) (match.the-variants.Found n (behind (ix .emoji .from) s) k f)
-  found-at n s k f e = rw e at section-found
+  pub found-at : (n : ℕ) (s : Span) (k : ℕ) → m ≡ uncounted.the-variants.Found n s k
+      → FoundBy ws rest (find (theTable ws .emoji) rest) (match.the-variants.Found n (behind (ix .emoji .from) s) k (selectorsIn (take k rest)))
+  found-at n s k e = rw e at section-found
 
-  pub found-nothing : m ≡ match.the-variants.Nothing → FoundBy ws rest (find (theTable ws .emoji) rest) match.the-variants.Nothing
+  pub found-nothing : m ≡ uncounted.the-variants.Nothing → FoundBy ws rest (find (theTable ws .emoji) rest) match.the-variants.Nothing
   found-nothing e = rw e at section-found

@@ -1,2 +1,4 @@
+pub mod Counting
+pub mod Sharing
 pub mod Taking
 pub mod FindingLaws

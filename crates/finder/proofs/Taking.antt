@@ -1,5 +1,5 @@
 -- The loop that matches a sequence against an input: what is taken so far and what is left to match.
-use Prim.Native.Nat.{ℕ, suc, _+_, _≤_, _<_}
+use Prim.Native.Nat.{ℕ, zero, suc, _+_, _≤_, _<_}
 use native.Mathlib.Nat.{zero-add}
 use native.Mathlib.Omega.{arith}
 use native.Mathlib.Numerals.{add-one}
@@ -7,11 +7,13 @@ use mathlib.Core.Path.{_≡_, refl, sym, _∙_, ap}
 use mathlib.Core.Bool.{Bool, true, false, cond}
 use mathlib.Core.List.{List, _∷_}
 use mathlib.Core.Option.{Option, none, some, Option·map}
-use lib.ListN.{length, getD, drop, drop-of-length-le}
-use lib.Seq.{drop-cons}
+use lib.ListN.{length, getD, take, drop, drop-of-length-le}
+use lib.Seq.{drop-cons, getD-take}
 use lib.Dec.{eqb, leb}
-use borrow.Author.Tests.{eq-eqb, ne-eqb, leb-true, leb-false}
-use Rattle.finder.specs.Emoji.{selector, Taken, oneMore, oneSelector, takes}
+use borrow.Author.Tests.{eq-eqb, ne-eqb, eqb-true, eqb-false, leb-true, leb-false}
+use Rattle.finder.specs.Emoji.{selector, selectorsIn, Taken, oneMore, oneSelector, takes}
+use Rattle.finder.specs.Took.{takes-selectors}
+use Rattle.finder.specs.Shared.{Shared}
 
 -- so many codepoints and FE0F more
 abbrev ahead : ℕ → ℕ → Option Taken → Option Taken
@@ -39,15 +41,15 @@ ahead-selector n s (some k) =
 abbrev pub Next : ℕ → List ℕ → ℕ → Type 0
 Next e rest at = (at < length rest) × (getD rest at 0 ≡ e)
 
--- i codepoints of the sequence are matched, with `at` codepoints of the input, s of them FE0F
-pub record Walk (seq rest : List ℕ) (i at s : ℕ) : Type 0 where
+-- i codepoints of the sequence are matched, with `at` codepoints of the input, some of them FE0F
+pub record Walk (seq rest : List ℕ) (i at : ℕ) : Type 0 where
   pub low : i ≤ length seq
   pub room : at ≤ length rest
-  pub few : s ≤ i
-  pub so : takes seq rest ≡ ahead at s (takes (drop i seq) (drop at rest))
+  pub selectors : ℕ
+  pub so : takes seq rest ≡ ahead at selectors (takes (drop i seq) (drop at rest))
 
-pub walk-start : (seq rest : List ℕ) → Walk seq rest 0 0 0
-walk-start seq rest = record { low = omega arith; room = omega arith; few = omega arith; so = sym (ahead-none (takes seq rest)) }
+walk-start : (seq rest : List ℕ) → Walk seq rest 0 0
+walk-start seq rest = record { low = omega arith; room = omega arith; selectors = 0; so = sym (ahead-none (takes seq rest)) }
 
 -- an FE0F that the input lacks is left out, and nothing else is
 takes-other : (e : ℕ) (seq rest : List ℕ) (at : ℕ) → (Next e rest at → ⊥)
@@ -70,34 +72,44 @@ pub takes-none : (e c : ℕ) (seq inp : List ℕ) → (e ≡ c → ⊥) → (e �
 unfolding takes
 takes-none e c seq inp p q = rw (ne-eqb e c p, ne-eqb e selector q)
 
-module _ (seq rest : List ℕ) (i at s : ℕ) (w : Walk seq rest i at s) (h : i < length seq) where
+module _ (seq rest : List ℕ) (i at : ℕ) (w : Walk seq rest i at) (h : i < length seq) where
   abbrev e : ℕ
   e = getD seq i 0
+
+  abbrev s : ℕ
+  s = w .selectors
 
   here : drop i seq ≡ e ∷ drop (i + 1) seq
   here = rw add-one (drop-cons seq i 0 h)
 
-  pub more-selector : Next e rest at → e ≡ selector → Walk seq rest (i + 1) (at + 1) (s + 1)
+  more-selector : Next e rest at → e ≡ selector → Walk seq rest (i + 1) (at + 1)
   unfolding takes
   more-selector n p =
       let d : drop at rest ≡ getD rest at 0 ∷ drop (at + 1) rest = rw add-one (drop-cons rest at 0 (n .0)) in
       let o : takes (drop i seq) (drop at rest) ≡ Option·map oneSelector (takes (drop (i + 1) seq) (drop (at + 1) rest)) =
       rw (here, d, eq-eqb e (getD rest at 0) (sym (n .1)), eq-eqb e selector p) in
-      record { low = omega arith; room = omega arith; few = omega arith; so = w .so ∙ ap (ahead at s) o ∙ ahead-selector at s (takes (drop (i + 1) seq) (drop (at + 1) rest)) }
+      record { low = omega arith; room = omega arith; selectors = s + 1; so = w .so ∙ ap (ahead at s) o ∙ ahead-selector at s (takes (drop (i + 1) seq) (drop (at + 1) rest)) }
 
-  pub more-same : Next e rest at → (e ≡ selector → ⊥) → Walk seq rest (i + 1) (at + 1) s
+  more-same : Next e rest at → (e ≡ selector → ⊥) → Walk seq rest (i + 1) (at + 1)
   unfolding takes
   more-same n p =
       let d : drop at rest ≡ getD rest at 0 ∷ drop (at + 1) rest = rw add-one (drop-cons rest at 0 (n .0)) in
       let o : takes (drop i seq) (drop at rest) ≡ Option·map oneMore (takes (drop (i + 1) seq) (drop (at + 1) rest)) =
       rw (here, d, eq-eqb e (getD rest at 0) (sym (n .1)), ne-eqb e selector p) in
-      record { low = omega arith; room = omega arith; few = omega arith; so = w .so ∙ ap (ahead at s) o ∙ ahead-one at s (takes (drop (i + 1) seq) (drop (at + 1) rest)) }
+      record { low = omega arith; room = omega arith; selectors = s; so = w .so ∙ ap (ahead at s) o ∙ ahead-one at s (takes (drop (i + 1) seq) (drop (at + 1) rest)) }
 
-  pub more-left : (Next e rest at → ⊥) → e ≡ selector → Walk seq rest (i + 1) at s
+  pub more-equal : Next e rest at → Walk seq rest (i + 1) (at + 1)
+  more-equal n = go (eqb e selector) refl
+    where
+      go : (b : Bool) → eqb e selector ≡ b → Walk seq rest (i + 1) (at + 1)
+      go true p = more-selector n (eqb-true _ _ p)
+      go false p = more-same n (eqb-false _ _ p)
+
+  pub more-left : (Next e rest at → ⊥) → e ≡ selector → Walk seq rest (i + 1) at
   more-left n p =
       let o : takes (drop i seq) (drop at rest) ≡ takes (drop (i + 1) seq) (drop at rest) =
       rw (here, takes-other e (drop (i + 1) seq) rest at n, eq-eqb e selector p) in
-      record { low = omega arith; room = w .room; few = omega arith; so = w .so ∙ ap (ahead at s) o }
+      record { low = omega arith; room = w .room; selectors = s; so = w .so ∙ ap (ahead at s) o }
 
   pub walk-fails : (Next e rest at → ⊥) → (e ≡ selector → ⊥) → none ≡ takes seq rest
   walk-fails n p =
@@ -105,12 +117,28 @@ module _ (seq rest : List ℕ) (i at s : ℕ) (w : Walk seq rest i at s) (h : i 
       rw (here, takes-other e (drop (i + 1) seq) rest at n, ne-eqb e selector p) in
       sym (w .so ∙ ap (ahead at s) o)
 
-pub walk-end : (seq rest : List ℕ) (i at s : ℕ) → Walk seq rest i at s → length seq ≤ i → some (record { length = at; selectors = s }) ≡ takes seq rest
+-- what both start with is matched
+walk-along : (seq rest : List ℕ) (k : ℕ) → Shared seq rest k → (j : ℕ) → j ≤ k → Walk seq rest j j
+walk-along seq rest k w zero h = walk-start seq rest
+walk-along seq rest k w (suc j) h =
+    let below : j < k = omega arith in
+    let equal : getD rest j 0 ≡ getD seq j 0
+    = sym (getD-take k rest j 0 below) ∙ ap (λ (l : List ℕ). getD l j 0) (sym (w .same)) ∙ getD-take k seq j 0 below in
+    rw (← add-one j) (more-equal seq rest j j (walk-along seq rest k w j (omega arith)) (omega (arith, w .left)) (omega (arith, w .right), equal))
+
+pub walk-shared : (seq rest : List ℕ) (k : ℕ) → Shared seq rest k → Walk seq rest k k
+walk-shared seq rest k w = walk-along seq rest k w k (omega arith)
+
+pub walk-end : (seq rest : List ℕ) (i at : ℕ) → Walk seq rest i at → length seq ≤ i
+    → some (record { length = at; selectors = selectorsIn (take at rest) }) ≡ takes seq rest
 unfolding takes
-walk-end seq rest i at s w h =
+walk-end seq rest i at w h =
+    let s : ℕ = w .selectors in
     let o : takes (drop i seq) (drop at rest) ≡ some (record { length = 0; selectors = 0 }) = rw (drop-of-length-le seq h) in
     let p : ahead at s (some (record { length = 0; selectors = 0 })) ≡ some (record { length = at; selectors = s }) =
     let a : at + 0 ≡ at = omega arith in
     let b : s + 0 ≡ s = omega arith in
     rw (a, b) in
-    sym (w .so ∙ ap (ahead at s) o ∙ p)
+    let found : takes seq rest ≡ some (record { length = at; selectors = s }) = w .so ∙ ap (ahead at s) o ∙ p in
+    let count : selectorsIn (take at rest) ≡ s = takes-selectors seq rest (record { length = at; selectors = s }) found in
+    rw count (sym found)

@@ -4,7 +4,7 @@ use mathlib.Core.Bool.{not, cond}
 use mathlib.Core.List.{List, [], _∷_}
 use mathlib.Core.Option.{Option, none, some, Option·map}
 use lib.Dec.{leb, ltb, eqb}
-use Rattle.lists.specs.Lists.{keep, onSome}
+use Rattle.lists.specs.Lists.{keep, countWith, onSome}
 
 -- the presentation selector, "each FE0F of the sequence being optional"
 abbrev pub selector : ℕ
@@ -13,6 +13,10 @@ selector = 0xFE0F
 -- "stripped of FE0F"
 unfoldable pub strip : List ℕ → List ℕ
 strip s = keep (λ c. not (eqb c selector)) s
+
+-- the FE0F of a text
+abbrev pub selectorsIn : List ℕ → ℕ
+selectorsIn s = countWith (λ c. eqb c selector) s
 
 -- how much of the input a sequence takes, and how many FE0F are among that
 pub record Taken : Type 0 where

@@ -1,3 +1,4 @@
+pub mod Shared
 pub mod Emoji
 pub mod Matching
 pub mod Finding

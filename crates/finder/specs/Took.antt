@@ -8,14 +8,9 @@ use mathlib.Core.Option.{some}
 use lib.ListN.{length, getD, take}
 use lib.Seq.{length-take-le}
 use lib.Dec.{eqb}
-use Rattle.lists.specs.Lists.{countWith}
-use Rattle.finder.specs.Emoji.{selector, strip, Found, find}
+use Rattle.finder.specs.Emoji.{selector, strip, selectorsIn, Taken, takes, Found, find}
 use Rattle.finder.specs.Matching.{takes-fits}
 use Rattle.finder.specs.Finding.{find-best}
-
--- the FE0F of a text
-abbrev pub selectorsIn : List ℕ → ℕ
-selectorsIn s = countWith (λ c. eqb c selector) s
 
 -- a text is what is left of it when it is stripped, and its FE0F
 strip-count : (s : List ℕ) → length s ≡ length (strip s) + selectorsIn s
@@ -27,6 +22,15 @@ strip-count (c ∷ s) = go (eqb c selector) (strip-count s)
         → suc (length s) ≡ length (cond (not b) (c ∷ strip s) (strip s)) + cond b (suc (selectorsIn s)) (selectorsIn s)
     go true e = omega arith
     go false e = omega arith
+
+-- what a sequence took has as many FE0F as it says
+pub takes-selectors : (seq inp : List ℕ) (k : Taken) → takes seq inp ≡ some k → selectorsIn (take (k .length) inp) ≡ k .selectors
+takes-selectors seq inp k e =
+    let fit = takes-fits seq inp k e in
+    let part : List ℕ = take (k .length) inp in
+    let long : length part ≡ k .length = length-take-le (k .length) inp (fit .inside) in
+    let left : length (strip part) ≡ length (strip seq) = rw (fit .stripped) refl in
+    omega (arith, strip-count part, fit .count)
 
 pub record Took (seqs : List (List ℕ)) (inp : List ℕ) (f : Found) : Type 0 where
   -- there is a record of that number, and the match is its
@@ -44,13 +48,10 @@ find-took seqs inp f e =
     let b = find-best seqs inp f e in
     let here : b .place ≡ f .number = omega (arith, b .number) in
     let fit = takes-fits (getD seqs (b .place) []) inp (f .taken) (b .taken) in
-    let part : List ℕ = take (f .taken .length) inp in
-    let long : length part ≡ f .taken .length = length-take-le (f .taken .length) inp (fit .inside) in
-    let left : length (strip part) ≡ length (strip (getD seqs (b .place) [])) = rw (fit .stripped) refl in
     record {
       inside = omega (arith, b .inside);
       its = rw (← here) (b .stripped);
       stripped = rw (← here) (fit .stripped);
-      selectors = omega (arith, strip-count part, fit .count);
+      selectors = takes-selectors (getD seqs (b .place) []) inp (f .taken) (b .taken);
       count = rw (b .stripped) (fit .count);
     }

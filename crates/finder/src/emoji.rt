@@ -1,6 +1,7 @@
 // Finding an emoji sequence at the start of an input.
+use crate::shared::shared;
 use firsts::seek;
-use heads::Marks;
+use place_marks::Marks;
 use sections::Sections;
 use table::Span;
 use table::lookup::counted;
@@ -8,12 +9,12 @@ ghost use mathlib.Core.Path.{_≡_};
 ghost use Rattle.firsts.specs.Firsts.{sequencesIn, FirstsKnown};
 ghost use Rattle.sections.specs.Laid.{Laid};
 ghost use Rattle.table.specs.Layout.{theTable};
-ghost use Rattle.finder.specs.Emoji.{takes, find};
-ghost use Rattle.finder.specs.Match.{takenOf, matchOf, betterOf, FoundBy};
+ghost use Rattle.finder.specs.Emoji.{takes, selectorsIn, find};
+ghost use Rattle.finder.specs.Match.{takenOf, matchOf, betterOf, UncountedBy, FoundBy};
 
-// What a sequence takes of an input: so many codepoints, with so many FE0F among them.
+// What a sequence takes of an input: so many codepoints.
 pub enum Taking {
-    Whole { length: usize, selectors: usize },
+    Whole { length: usize },
     Nothing,
 }
 
@@ -28,91 +29,91 @@ pub enum Match {
     Nothing,
 }
 
+// A match whose FE0F are not counted yet.
+pub enum Uncounted {
+    Found {
+        number: usize,
+        sequence: Span,
+        taken: usize,
+    },
+    Nothing,
+}
+
 // What the sequence takes from the start of the rest.
 pub fn takes(seq: &[u32], rest: &[u32]) -> Taking
-    ensures { λ r. ⌜ takenOf r ≡ takes (now (seq .entry)) (now (rest .entry)) ⌝ }
+    ensures { λ r. ⌜ takenOf (now (rest .entry)) r ≡ takes (now (seq .entry)) (now (rest .entry)) ⌝ }
 {
-    let mut i: usize = 0;
-    let mut at: usize = 0;
-    let mut selectors: usize = 0;
+    let mut i = shared(seq, rest);
+    let mut at = i;
     while i < seq.len() {
         let e = seq[i];
         i += 1;
         if at < rest.len() && rest[at] == e {
             at += 1;
-            if e == 0xFE0F {
-                selectors += 1;
-            }
             continue;
         }
         if e != 0xFE0F {
             return Taking::Nothing;
         }
     }
-    Taking::Whole {
-        length: at,
-        selectors,
-    }
+    Taking::Whole { length: at }
 }
 
 // The match of a record that takes so much: "A match takes at least one codepoint."
-fn matched(number: usize, sequence: Span, taking: Taking) -> Match
+fn matched(number: usize, sequence: Span, taking: Taking) -> Uncounted
     ensures { λ r. ⌜ r ≡ matchOf number sequence taking ⌝ }
 {
     match taking {
-        Taking::Whole { length, selectors } => {
+        Taking::Whole { length } => {
             if length == 0 {
-                return Match::Nothing;
+                return Uncounted::Nothing;
             }
-            Match::Found {
+            Uncounted::Found {
                 number,
                 sequence,
                 taken: length,
-                selectors,
             }
         }
-        Taking::Nothing => Match::Nothing,
+        Taking::Nothing => Uncounted::Nothing,
     }
 }
 
 // Of two matches the one that takes more, and of equals the first.
-fn better(a: Match, b: Match) -> Match
+fn better(a: Uncounted, b: Uncounted) -> Uncounted
     ensures { λ r. ⌜ r ≡ betterOf a b ⌝ }
 {
     match a {
-        Match::Found {
+        Uncounted::Found {
             number: _,
             sequence: _,
             taken,
-            selectors: _,
         } => {
             let k = taken;
             match b {
-                Match::Found {
+                Uncounted::Found {
                     number: _,
                     sequence: _,
                     taken,
-                    selectors: _,
                 } => {
                     if k < taken {
                         return b;
                     }
                     a
                 }
-                Match::Nothing => a,
+                Uncounted::Nothing => a,
             }
         }
-        Match::Nothing => b,
+        Uncounted::Nothing => b,
     }
 }
 
 // The match of the sequences of a section that takes most of the rest, "ties go to the first record". Most records are passed over by
 // their first codepoint. Where the section is sorted, the search starts at the first record that can match, and ends behind the last.
-fn find_in(part: &[u32], sorted: bool, places: Marks, numbers: Marks, rest: &[u32]) -> Match
+fn find_in(part: &[u32], sorted: bool, places: Marks, numbers: Marks, rest: &[u32]) -> Uncounted
     requires { ⌜ FirstsKnown (now part) sorted places numbers ⌝ }
-    ensures { λ r. ⌜ FoundBy (now (part .entry)) (now (rest .entry)) (find (sequencesIn (now (part .entry))) (now (rest .entry))) r ⌝ }
+    ensures { λ r. ⌜ UncountedBy (now (part .entry)) (now (rest .entry)) (find (sequencesIn (now (part .entry))) (now (rest .entry))) r ⌝ }
 {
-    let mut best = Match::Nothing;
+    let mut best = Uncounted::Nothing;
     if rest.len() == 0 {
         return best;
     }
@@ -139,6 +140,21 @@ fn find_in(part: &[u32], sorted: bool, places: Marks, numbers: Marks, rest: &[u3
     best
 }
 
+// The number of FE0F of a text.
+fn selectors_in(text: &[u32]) -> usize
+    ensures { λ r. ⌜ r ≡ selectorsIn (now (text .entry)) ⌝ }
+{
+    let mut i: usize = 0;
+    let mut n: usize = 0;
+    while i < text.len() {
+        if text[i] == 0xFE0F {
+            n += 1;
+        }
+        i += 1;
+    }
+    n
+}
+
 // The emoji sequence of the table that matches the rest of a label and takes most of it.
 pub fn find(words: &[u32], ix: Sections, rest: &[u32]) -> Match
     requires { ⌜ Laid (now words) ix ⌝ }
@@ -157,20 +173,22 @@ pub fn find(words: &[u32], ix: Sections, rest: &[u32]) -> Match
         rest,
     );
     match m {
-        Match::Found {
+        Uncounted::Found {
             number,
             sequence,
             taken,
-            selectors,
-        } => Match::Found {
-            number,
-            sequence: Span {
-                from: from + sequence.from,
-                to: from + sequence.to,
-            },
-            taken,
-            selectors,
-        },
-        Match::Nothing => Match::Nothing,
+        } => {
+            let selectors = selectors_in(&rest[..taken]);
+            Match::Found {
+                number,
+                sequence: Span {
+                    from: from + sequence.from,
+                    to: from + sequence.to,
+                },
+                taken,
+                selectors,
+            }
+        }
+        Uncounted::Nothing => Match::Nothing,
     }
 }

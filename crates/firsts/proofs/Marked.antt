@@ -12,8 +12,8 @@ use Rattle.table.specs.Layout.{sequences}
 use Rattle.table.specs.Part.{recordsIn, SequenceHere}
 use Rattle.table.proofs.Lookups.{false-true}
 use Rattle.table.proofs.Records.{records-start, sequences-step}
-use Rattle.heads.specs.declared.Marks.{Marks}
-use Rattle.heads.specs.Heads.{noMarks, mostPlace, withMark}
+use Rattle.place_marks.specs.declared.Marks.{Marks}
+use Rattle.place_marks.specs.Places.{noMarks, mostPlace, withMark}
 use Rattle.firsts.specs.Firsts.{sequencesIn, steady, FirstsSteady, Avoids, SequencesFrom, Numbered, FourNumbered, MarksNumbered, FirstsKnown, Passing}
 use Rattle.firsts.proofs.Steady.{first-item, steady-first, steady-behind, avoid-before, avoid-more}
 
@@ -102,3 +102,10 @@ passing-more ws e at number s p h i =
       from = from-more ws at number w h;
       avoids = avoid-more e (w .passed) (x .first) (p .avoids) (λ z. omega (arith, first-item ws at (w .left) x, i, z)) (f .plain);
     }
+
+-- the same of a record of n items
+pub passing-run : (ws : List ℕ) (e at number n : ℕ) → FirstsSteady ws → Passing ws e (record { place = at; number = number }) → at < length ws → getD ws at 0 ≡ n
+    → getD ws (at + 1) 0 < e → Passing ws e (record { place = at + (n + 1); number = number + 1 })
+passing-run ws e at number n s p h count i =
+    let same : at + 1 + getD ws at 0 ≡ at + (n + 1) = omega arith in
+    rw (← same) (passing-more ws e at number s p h i)

@@ -16,11 +16,11 @@ use Rattle.table.specs.Layout.{mostItems, inFront, countFits, sequences}
 use Rattle.table.proofs.Lookups.{both, false-true, drop-next}
 use Rattle.table.proofs.Fuels.{sequences-next}
 use Rattle.table.proofs.Records.{sequences-end}
-use Rattle.halving.specs.declared.Order.{Order}
-use Rattle.halving.specs.declared.Order.the-variants.{Fault}
-use Rattle.halving.specs.Order.{isFault, isSorted}
-use Rattle.heads.specs.declared.Marks.{Marks}
-use Rattle.heads.specs.Heads.{noMarks, mostPlace, withMark}
+use Rattle.apart.specs.declared.Order.{Order}
+use Rattle.apart.specs.declared.Order.the-variants.{Fault}
+use Rattle.apart.specs.Order.{isFault, isSorted}
+use Rattle.place_marks.specs.declared.Marks.{Marks}
+use Rattle.place_marks.specs.Places.{noMarks, mostPlace, withMark}
 use Rattle.firsts.specs.declared.Start.{Start}
 use Rattle.firsts.specs.declared.FirstsOrder.{FirstsOrder}
 use Rattle.firsts.specs.Firsts.{optional, sequencesIn, steady, SequencesFrom, MarksNumbered, FirstsFound}

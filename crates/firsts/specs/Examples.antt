@@ -7,8 +7,8 @@ use mathlib.Core.Bool.{true, false}
 use mathlib.Core.List.{List, [], _∷_}
 use Rattle.table.specs.Layout.{sequences}
 use Rattle.table.specs.Part.{recordsIn}
-use Rattle.heads.specs.declared.Four.{Four}
-use Rattle.heads.specs.declared.Marks.{Marks}
+use Rattle.place_marks.specs.declared.Four.{Four}
+use Rattle.place_marks.specs.declared.Marks.{Marks}
 use Rattle.firsts.specs.Firsts.{sequencesIn, steady, SequencesFrom, FirstsKnown}
 
 -- 231A, and 1F44D 1F3FB

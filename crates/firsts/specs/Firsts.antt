@@ -9,9 +9,9 @@ use lib.Dec.{leb, eqb}
 use Rattle.lists.specs.Lists.{isSome}
 use Rattle.table.specs.Layout.{sequences}
 use Rattle.table.specs.Part.{recordsIn, SequencesAt}
-use Rattle.halving.specs.Order.{OrderOf}
-use Rattle.heads.specs.declared.Four.{Four}
-use Rattle.heads.specs.declared.Marks.{Marks}
+use Rattle.apart.specs.Order.{OrderOf}
+use Rattle.place_marks.specs.declared.Four.{Four}
+use Rattle.place_marks.specs.declared.Marks.{Marks}
 use Rattle.firsts.specs.declared.Start.{Start}
 use Rattle.firsts.specs.declared.FirstsOrder.{FirstsOrder}
 

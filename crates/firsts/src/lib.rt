@@ -1,17 +1,19 @@
 // The section of emoji sequences: one walk finds whether it is well formed and sorted by first items, and sets marks; a search starts at a
 // mark.
 
-use halving::Order;
-use heads::Four;
-use heads::Marks;
-use heads::count_fits;
-use heads::no_marks;
-use heads::order_of;
-use heads::with_mark;
+use apart::Order;
+use place_marks::Four;
+use place_marks::Marks;
+use place_marks::count_fits;
+use place_marks::no_marks;
+use place_marks::order_of;
+use place_marks::with_mark;
+ghost use Prim.Native.Nat.{_+_, _≤_};
 ghost use mathlib.Core.Path.{_≡_};
 ghost use mathlib.Core.Bool.{not, _&&_};
+ghost use lib.ListN.{length};
 ghost use lib.Dec.{leb, eqb};
-ghost use Rattle.halving.specs.declared.Order.the-variants.{Fault};
+ghost use Rattle.apart.specs.declared.Order.the-variants.{Fault};
 ghost use Rattle.firsts.specs.Firsts.{
   optional,
   FirstsSteady,
@@ -137,6 +139,37 @@ fn latest(part: &[u32], found: Start, places: Four, numbers: Four, e: u32) -> St
     later(part, r, places.s, numbers.s, e)
 }
 
+// Passes the records of n items from `from` on whose first item is below e, up to the first of another count, or the first that stands at
+// `stop` or behind it. The place of the next one is then known before the count of this one is read.
+fn pass_below(part: &[u32], from: Start, n: usize, stop: usize, e: u32) -> Start
+    requires { ⌜ FirstsSteady (now part) × Passing (now part) e from × (1 ≤ n) × (stop + n ≤ length (now part)) ⌝ }
+    ensures { λ r. ⌜ Passing (now (part .entry)) e r × (from .place ≤ r .place) ⌝ }
+{
+    let step = n + 1;
+    let mut at = from.place;
+    let mut number = from.number;
+    while at < stop {
+        if part[at] as usize != n {
+            return Start {
+                place: at,
+                number: number,
+            };
+        }
+        if part[at + 1] >= e {
+            return Start {
+                place: at,
+                number: number,
+            };
+        }
+        at += step;
+        number += 1;
+    }
+    Start {
+        place: at,
+        number: number,
+    }
+}
+
 // Where a search for sequences that match from e on starts. In a section that is sorted it is the first record whose first item is not below
 // e: a walk from a mark finds it.
 pub fn seek(part: &[u32], sorted: bool, places: Marks, numbers: Marks, e: u32) -> Start
@@ -149,20 +182,18 @@ pub fn seek(part: &[u32], sorted: bool, places: Marks, numbers: Marks, e: u32) -
     }
     let first = latest(part, start, places.a, numbers.a, e);
     let found = latest(part, first, places.b, numbers.b, e);
-    let mut at = found.place;
-    let mut number = found.number;
-    while at < part.len() {
+    let mut here = found;
+    while here.place < part.len() {
+        let at = here.place;
         if part[at + 1] >= e {
-            return Start {
-                place: at,
-                number: number,
-            };
+            return here;
         }
-        at = at + 1 + part[at] as usize;
-        number += 1;
+        let n = part[at] as usize;
+        let next = Start {
+            place: at + 1 + n,
+            number: here.number + 1,
+        };
+        here = pass_below(part, next, n, part.len() - n, e);
     }
-    Start {
-        place: at,
-        number: number,
-    }
+    here
 }

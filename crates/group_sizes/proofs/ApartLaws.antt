@@ -17,9 +17,9 @@ use Rattle.table.specs.GroupPart.{groupsIn, endSize}
 use Rattle.table.proofs.Fuels.{groups-next}
 use Rattle.table.proofs.Records.{end-rest}
 use Rattle.table.proofs.Lookups.{false-true}
-use Rattle.halving.specs.declared.Order.{Order}
-use Rattle.halving.specs.Order.{isFault, isSorted, OrderOf}
-use Rattle.halving.specs.Halving.{Apart}
+use Rattle.apart.specs.declared.Order.{Order}
+use Rattle.apart.specs.Order.{isFault, isSorted, OrderOf}
+use Rattle.apart.specs.Apart.{Apart}
 use Rattle.sections.specs.Known.{spelled, GroupsApart}
 use Rattle.sections.proofs.LaidParts.{ranges-spelled}
 use Rattle.group_sizes.specs.declared.Seen.{Seen}

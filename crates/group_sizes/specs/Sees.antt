@@ -5,7 +5,7 @@ use mathlib.Core.Bool.{Bool, true}
 use mathlib.Core.List.{List}
 use Rattle.lists.specs.Lists.{isSome}
 use Rattle.table.specs.Layout.{ranges}
-use Rattle.halving.specs.Halving.{Apart}
+use Rattle.apart.specs.Apart.{Apart}
 use Rattle.group_sizes.specs.declared.Seen.{Seen}
 
 -- it is seen whether the section is well formed, and where it is, whether it is sorted

@@ -6,7 +6,7 @@ use mathlib.Core.List.{List}
 use lib.ListN.{length, getD, take, drop}
 use lib.Dec.{leb}
 use Rattle.lists.specs.Lists.{isSome, given}
-use Rattle.halving.specs.Halving.{Apart}
+use Rattle.apart.specs.Apart.{Apart}
 use Rattle.group_sizes.specs.declared.GroupSeen.{GroupSeen}
 use Rattle.table.specs.Layout.{hasList, flagsFit, ranges, groupEnd, groups}
 use Rattle.table.specs.GroupPart.{listSize, endSize}

@@ -1,7 +1,7 @@
 // The walk over the words of the groups, one behind the other: whether each is well formed, and whether its pairs are sorted.
 
-use halving::Order;
-use halving::pairs_order;
+use apart::Order;
+use apart::pairs_order;
 use table::lookup::list_size;
 
 // "at most 256 groups"
@@ -16,7 +16,7 @@ ghost use mathlib.Core.Bool.{not};
 ghost use lib.ListN.{length};
 ghost use Rattle.table.specs.Layout.{mostGroups, flagsFit};
 ghost use Rattle.table.specs.GroupPart.{groupsIn};
-ghost use Rattle.halving.specs.Order.{isFault, isSorted};
+ghost use Rattle.apart.specs.Order.{isFault, isSorted};
 ghost use Rattle.sections.specs.Known.{GroupsApart};
 ghost use Rattle.group_sizes.specs.Walk.{endAt, GroupSized, groupsWithin};
 ghost use Rattle.group_sizes.specs.Sees.{Sees};

@@ -1,23 +1,16 @@
 -- Laws of a search by halves over entries of one length.
-use Prim.Native.Nat.{ℕ, zero, suc, _+_, _-_, _*_, _/_, _%_, _^_, _<_, _≤_}
+use Prim.Native.Nat.{ℕ, _+_, _-_, _*_, _/_, _%_, _^_, _<_, _≤_}
 use native.Mathlib.Nat.{div-le-self}
 use native.Mathlib.Omega.{arith}
-use mathlib.Core.Path.{_≡_, refl, sym, _∙_}
-use mathlib.Core.Bool.{Bool, true, false, _&&_, cond}
+use mathlib.Core.Path.{_≡_, refl, _∙_}
+use mathlib.Core.Bool.{Bool, true, false, cond}
 use mathlib.Core.List.{List}
 use lib.ListN.{length, getD}
 use lib.Bits.{bitAnd, and-mask, and-zero-r}
 use lib.Dec.{leb}
-use borrow.Author.Tests.{leb-true, leb-false, le-leb, lt-leb}
-use Rattle.lists.specs.Lists.{mem}
-use Rattle.table.specs.Part.{inPairs, classAmong}
-use Rattle.halving.specs.Halving.{Rising, Apart, Ranked, maskMost, ifMost}
-use Rattle.halving.specs.Stride.{entry-fits, pairs-found, class-found, item-found}
-
--- a number that is not 0
-pub positive : (n : ℕ) → (n ≡ 0 → ⊥) → 0 < n
-positive zero f = absurd (f refl)
-positive (suc n) f = omega arith
+use borrow.Author.Tests.{leb-true, leb-false}
+use Rattle.apart.specs.Entries.{entry-fits}
+use Rattle.halving.specs.Halving.{Rising, Ranked, maskMost, ifMost}
 
 -- a wrapped difference has the upper bits just where it wraps
 pub mask-wrapped : (x c r : ℕ) → x < 2 ^ 32 → c < 2 ^ 32 → r < 2 ^ 64 → (r + (c + 1)) % 2 ^ 64 ≡ x → r / 2 ^ 32 * 4294967297 ≡ maskMost x c
@@ -119,35 +112,3 @@ module _ (ws : List ℕ) (step c low n : ℕ) (w : Halving ws step c low n) wher
             below = λ up k b. w .below up k (omega arith);
             above = λ up k b i. omega (arith, up .up low k (omega arith) i);
           }
-
--- what the lookups answer where no entry starts at or below c, and where one does
-module _ (ws : List ℕ) (c r : ℕ) where
-  led : (b : Bool) → (r ≡ 0 → ⊥) → (leb 1 r && b) ≡ b
-  led b n = rw (le-leb 1 r (omega (arith, positive r n)))
-
-  module _ (a : Apart 2 1 ws) (q : Ranked ws 2 c r) where
-    pub pairs-none : r ≡ 0 → false ≡ inPairs c ws
-    pairs-none e = sym (rw e at (pairs-found ws c r a q))
-
-    pub pairs-some : (r ≡ 0 → ⊥) → leb c (getD ws ((r - 1) * 2 + 1) 0) ≡ inPairs c ws
-    pairs-some n = sym (pairs-found ws c r a q ∙ led _ n)
-
-  module _ (a : Apart 1 0 ws) (q : Ranked ws 1 c r) where
-    pub item-none : r ≡ 0 → false ≡ mem c ws
-    item-none e = sym (rw e at (item-found ws c r a q))
-
-    pub item-some : (r ≡ 0 → ⊥) → leb c (getD ws (r - 1) 0) ≡ mem c ws
-    item-some n =
-        let here : (r - 1) * 1 + 0 ≡ r - 1 = omega arith in
-        sym (rw here at (item-found ws c r a q ∙ led _ n))
-
-  module _ (a : Apart 3 1 ws) (q : Ranked ws 3 c r) where
-    pub class-none : r ≡ 0 → 0 ≡ classAmong c ws
-    class-none e = sym (rw e at (class-found ws c r a q))
-
-    module _ (n : r ≡ 0 → ⊥) where
-      pub class-some : c ≤ getD ws ((r - 1) * 3 + 1) 0 → getD ws ((r - 1) * 3 + 2) 0 ≡ classAmong c ws
-      class-some h = sym (class-found ws c r a q ∙ rw (led (leb c (getD ws ((r - 1) * 3 + 1) 0)) n, le-leb _ _ h))
-
-      pub class-over : getD ws ((r - 1) * 3 + 1) 0 < c → 0 ≡ classAmong c ws
-      class-over h = sym (class-found ws c r a q ∙ rw (led (leb c (getD ws ((r - 1) * 3 + 1) 0)) n, lt-leb _ _ h))

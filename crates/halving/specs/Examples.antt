@@ -6,9 +6,10 @@ use mathlib.Core.Bool.{true, false}
 use mathlib.Core.List.{List, [], _∷_}
 use lib.ListN.{getD}
 use Rattle.table.specs.Part.{inPairs}
-use Rattle.halving.specs.Halving.{Apart, Ranked}
+use Rattle.apart.specs.Apart.{Apart}
+use Rattle.apart.specs.Tested.{allBelow, tested-apart}
+use Rattle.halving.specs.Halving.{Ranked}
 use Rattle.halving.specs.Stride.{pairs-found}
-use Rattle.halving.specs.Tested.{allBelow, tested-apart}
 
 -- 5 to 9, 20, 30 to 41
 abbrev sample : List ℕ

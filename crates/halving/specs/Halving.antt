@@ -1,22 +1,15 @@
--- Sections whose entries are of `step` words each: how they stand, and what a search by halves finds. Only whole entries count, of which there
--- are `length ws / step`; entry k starts at k * step.
+-- Sections whose entries are of `step` words each: what a search by halves finds. Only whole entries count, of which there are
+-- `length ws / step`; entry k starts at k * step.
 use Prim.Native.Nat.{ℕ, _+_, _-_, _*_, _/_, _^_, _≤_, _<_}
 use mathlib.Core.Path.{_≡_}
-use mathlib.Core.Bool.{Bool, true, false, _&&_, cond}
+use mathlib.Core.Bool.{Bool, _&&_, cond}
 use mathlib.Core.List.{List}
 use lib.ListN.{length, getD, drop}
 use lib.Dec.{leb}
-use Rattle.halving.specs.declared.Order.{Order}
-use Rattle.halving.specs.declared.Order.the-variants.{Fault, AsGiven, Sorted}
 
 -- the first words of the entries do not fall
 pub record Rising (step : ℕ) (ws : List ℕ) : Type 0 where
   pub up : (i j : ℕ) → i ≤ j → j < length ws / step → getD ws (i * step) 0 ≤ getD ws (j * step) 0
-
--- 02, Item 11: "sorted without overlap". Each entry covers the numbers from its first word to word `last` of it, and the next starts above them.
-pub record Apart (step last : ℕ) (ws : List ℕ) : Type 0 where
-  pub whole : (i : ℕ) → i < length ws / step → getD ws (i * step) 0 ≤ getD ws (i * step + last) 0
-  pub apart : (i j : ℕ) → i < j → j < length ws / step → getD ws (i * step + last) 0 < getD ws (j * step) 0
 
 -- where the first words rise, r of the entries start at or below c, and they stand first
 pub record Ranked (ws : List ℕ) (step c r : ℕ) : Type 0 where
@@ -39,12 +32,6 @@ reaches ws step last c r = leb 1 r && leb c (getD ws ((r - 1) * step + last) 0)
 -- what is found where that entry alone is asked
 abbrev pub atRank : {A : Type 0} → List ℕ → ℕ → ℕ → ℕ → A → (List ℕ → ℕ → A) → ℕ → A
 atRank ws step last c none found r = cond (reaches ws step last c r) (found ws ((r - 1) * step)) none
-
--- what a walk says of a section whose entries fit or not, and stand apart or not
-abbrev pub orderIf : Bool → Bool → Order
-orderIf false apart = Fault
-orderIf true false = AsGiven
-orderIf true true = Sorted
 
 -- all of 64 bits where x is at most c
 unfoldable pub maskMost : ℕ → ℕ → ℕ

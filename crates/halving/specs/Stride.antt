@@ -1,6 +1,6 @@
 -- The law of a search by halves, over the stride, and its corollaries for pairs, triples and items.
 use Prim.Native.Nat.{ℕ, zero, suc, _+_, _-_, _*_, _/_, _≤_, _<_}
-use native.Mathlib.Nat.{zero-mul, suc-mul, mul-le-mul-right, div-mul-le-self, div-add-mod', mod-lt}
+use native.Mathlib.Nat.{zero-mul, suc-mul}
 use native.Mathlib.Omega.{arith}
 use mathlib.Core.Path.{_≡_, refl, _∙_}
 use mathlib.Core.Bool.{Bool, true, false, _&&_, cond}
@@ -11,16 +11,9 @@ use borrow.Author.Tests.{leb-true, leb-false, le-leb, ltb-true, ltb-false, eq-eq
 use Rattle.lists.specs.Lists.{mem}
 use Rattle.table.specs.Part.{inPairs, classAmong}
 use Rattle.table.proofs.Lookups.{drop-next, drop-two, drop-three}
-use Rattle.halving.specs.Halving.{Rising, Apart, Ranked, FirstCovers, reaches, atRank}
-
--- a whole entry lies within the words, and no whole entry is left behind the last one
-pub entry-fits : (n step k : ℕ) → k < n / step → k * step + step ≤ n
-entry-fits n step k h =
-    let up : suc k * step ≤ n / step * step = mul-le-mul-right step (omega arith) in
-    omega (arith, div-mul-le-self n step, suc-mul k step)
-
-pub entries-end : (n step : ℕ) → 1 ≤ step → n < n / step * step + step
-entries-end n step h = omega (arith, div-add-mod' n step, mod-lt n {m = step} (omega arith))
+use Rattle.apart.specs.Apart.{Apart}
+use Rattle.apart.specs.Entries.{entry-fits, entries-end}
+use Rattle.halving.specs.Halving.{Rising, Ranked, FirstCovers, reaches, atRank}
 
 -- a test that c is covered does not pass where c is not
 covers-not : (c a b : ℕ) → (a ≤ c → c ≤ b → ⊥) → (leb a c && leb c b) ≡ false

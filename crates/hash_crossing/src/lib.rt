@@ -2,7 +2,7 @@
 // it its name outside.
 use fields::WanlophengName;
 use fields::name_fields;
-use keccak::sponge::Digest;
+use keccak_bytes::Digest;
 ghost use Rattle.hash_crossing.specs.HashCrossing.{NamehashCrosses};
 
 // What the name call answers, and the hash of its answer: 32 zero bytes beside a refusal.

@@ -1,4 +1,3 @@
 pub mod Rising
 pub mod MarkLaws
 pub mod Passing
-pub mod Searching

@@ -1,13 +1,11 @@
 -- Marks stand where records do: at the start, and with one more that does.
-use Prim.Native.Nat.{ℕ, _≤_, _<_}
-use native.Mathlib.Omega.{arith}
+use Prim.Native.Nat.{ℕ, _≤_}
 use mathlib.Core.Path.{_≡_, refl}
 use mathlib.Core.Bool.{Bool, true, false, cond}
 use mathlib.Core.List.{List, []}
 use mathlib.Core.Option.{Option, none, some}
-use lib.ListN.{length, getD}
+use lib.ListN.{length}
 use lib.Dec.{leb}
-use borrow.Author.Tests.{le-leb, lt-leb}
 use Rattle.lists.specs.Lists.{isSome}
 use Rattle.table.specs.Table.{Headed}
 use Rattle.table.specs.Layout.{mostItems, headed}
@@ -15,9 +13,10 @@ use Rattle.table.specs.Part.{recordsIn, headsIn, HeadedAt}
 use Rattle.table.proofs.Lookups.{false-true}
 use Rattle.table.proofs.Records.{records-start}
 use Rattle.table.proofs.Searches.{headed-wider}
-use Rattle.heads.specs.declared.Four.{Four}
-use Rattle.heads.specs.declared.Marks.{Marks}
-use Rattle.heads.specs.Heads.{RecordsFrom, Stands, FourStand, MarksStand, noMarks, mostPlace, withMark, StartsAt}
+use Rattle.place_marks.specs.declared.Four.{Four}
+use Rattle.place_marks.specs.declared.Marks.{Marks}
+use Rattle.place_marks.specs.Places.{noMarks, mostPlace, withMark}
+use Rattle.heads.specs.Heads.{RecordsFrom, FourStand, MarksStand}
 
 -- the records of a section that is well formed
 pub heads-are : (ws : List ℕ) (most : ℕ) → most ≤ mostItems → isSome (headed (length ws) most ws) ≡ true → headed (length ws) most ws ≡ some (headsIn ws)
@@ -57,19 +56,3 @@ marks-more ws m at h w = go (leb at mostPlace)
     go : (t : Bool) → MarksStand ws (cond t (record { a = record { p = a .q; q = a .r; r = a .s; s = b .p }; b = record { p = b .q; q = b .r; r = b .s; s = at } }) m)
     go true = record { a = record { p = h .a .q; q = h .a .r; r = h .a .s; s = h .b .p }; b = record { p = h .b .q; q = h .b .r; r = h .b .s; s = λ i. w } }
     go false = h
-
-module _ (m : Marks) (at : ℕ) where
-  pub mark-large : mostPlace < at → m ≡ withMark m at
-  unfolding withMark
-  mark-large h = rw (lt-leb at mostPlace h)
-
-  pub mark-set : at ≤ mostPlace → record { a = record { p = m .a .q; q = m .a .r; r = m .a .s; s = m .b .p }; b = record { p = m .b .q; q = m .b .r; r = m .b .s; s = at } } ≡ withMark m at
-  unfolding withMark
-  mark-set h = rw (le-leb at mostPlace h)
-
--- A search starts at the start, or at a mark whose head is not above c.
-pub start-first : (ws : List ℕ) (c : ℕ) → RecordsFrom ws 0 → StartsAt ws c 0
-start-first ws c w = record { from = w; low = λ i. absurd (omega arith) }
-
-pub start-mark : (ws : List ℕ) (c at : ℕ) → Stands ws at → at < length ws → getD ws at 0 ≤ c → StartsAt ws c at
-start-mark ws c at s h i = record { from = s h; low = λ j. (h, i) }

@@ -4,48 +4,31 @@ use native.Mathlib.Omega.{arith}
 use native.Mathlib.Numerals.{add-one}
 use mathlib.Core.Path.{_≡_, refl, sym, _∙_, ap}
 use mathlib.Core.Logic.{_⊎_, inl, inr}
-use mathlib.Core.Bool.{Bool, true, false, not, _&&_, and-assoc}
+use mathlib.Core.Bool.{Bool, true, false, _&&_, and-assoc}
 use mathlib.Core.List.{List, [], _∷_, _++_, append-assoc}
 use mathlib.Core.Option.{Option, none, some}
 use lib.ListN.{length, getD, take, drop, length-drop, drop-of-length-le}
 use lib.Seq.{drop-drop}
 use lib.Dec.{leb, ltb}
-use borrow.Author.Tests.{leb-true, le-leb, ltb-true, ltb-false}
+use borrow.Author.Tests.{le-leb, ltb-true, ltb-false}
 use Rattle.lists.specs.Lists.{isSome}
-use Rattle.lists.specs.Tests.{not-so, never, untrue}
+use Rattle.lists.specs.Tests.{not-so, never}
 use Rattle.table.specs.Table.{Headed}
 use Rattle.table.specs.Layout.{mostItems, inFront, countFits, headed}
 use Rattle.table.specs.Part.{headsIn}
 use Rattle.table.proofs.Lookups.{both, false-true, drop-two}
 use Rattle.table.proofs.Fuels.{headed-next}
 use Rattle.table.proofs.Records.{headed-end, headed-step}
-use Rattle.halving.specs.declared.Order.{Order}
-use Rattle.halving.specs.declared.Order.the-variants.{Fault}
-use Rattle.halving.specs.Order.{isFault, isSorted}
+use Rattle.apart.specs.declared.Order.{Order}
+use Rattle.apart.specs.declared.Order.the-variants.{Fault}
+use Rattle.apart.specs.Order.{isFault, isSorted}
+use Rattle.place_marks.specs.declared.Marks.{Marks}
+use Rattle.place_marks.specs.Places.{noMarks, withMark}
 use Rattle.heads.specs.declared.HeadsOrder.{HeadsOrder}
-use Rattle.heads.specs.declared.Marks.{Marks}
-use Rattle.heads.specs.Heads.{rising, noMarks, withMark, HeadsFound}
+use Rattle.heads.specs.Heads.{rising, HeadsFound}
 use Rattle.heads.specs.declared.HeadsWalk.{HeadsWalk}
 use Rattle.heads.specs.Walk.{fitsFrom, HeadsPass, RunPassed}
 use Rattle.heads.proofs.MarkLaws.{heads-at, wider-at, from-start, marks-none, marks-more}
-
--- the test of a count of items, passed or not
-module _ (n most room : ℕ) (r : Bool) (e : r ≡ (leb 1 n && leb n most && leb n room)) where
-  pub count-good : not r ≡ false → (1 ≤ n) × (n ≤ most) × (n ≤ room)
-  count-good h =
-      let t : (leb 1 n && leb n most && leb n room) ≡ true = sym e ∙ passed r h in
-      let p = both (leb 1 n && leb n most) (leb n room) t in
-      let q = both (leb 1 n) (leb n most) (p .0) in
-      (leb-true _ _ (q .0), leb-true _ _ (q .1), leb-true _ _ (p .1))
-    where
-      passed : (b : Bool) → not b ≡ false → b ≡ true
-      passed true f = refl
-      passed false f = sym f
-
-  pub count-broken : not r ≡ true → 1 ≤ n → n ≤ most → n ≤ room → ⊥
-  count-broken h low high fit =
-      let t : r ≡ true = e ∙ rw (le-leb 1 n low, le-leb n most high, le-leb n room fit) in
-      never r t (untrue r h)
 
 pub pass-start : (ws : List ℕ) (most : ℕ) → most ≤ mostItems → HeadsPass ws most 0 0 true noMarks
 pass-start ws most i =

@@ -8,8 +8,8 @@ use mathlib.Core.Option.{some}
 use Rattle.table.specs.Layout.{headed}
 use Rattle.table.specs.Lookup.{itemsOf}
 use Rattle.table.specs.Part.{recordsIn, headsIn}
-use Rattle.heads.specs.declared.Four.{Four}
-use Rattle.heads.specs.declared.Marks.{Marks}
+use Rattle.place_marks.specs.declared.Four.{Four}
+use Rattle.place_marks.specs.declared.Marks.{Marks}
 use Rattle.heads.specs.Heads.{rising, RecordsFrom, HeadsKnown}
 
 -- A is mapped to a, and DF to s s

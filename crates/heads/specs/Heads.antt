@@ -1,18 +1,18 @@
 -- Sections of records head, count, items: whether the heads ascend, and places where records stand, from which a search may start.
 -- 02, Item 11: "which sections are sorted without overlap".
-use Prim.Native.Nat.{ℕ, suc, _≤_, _<_}
+use Prim.Native.Nat.{ℕ, suc, _<_}
 use mathlib.Core.Path.{_≡_}
-use mathlib.Core.Bool.{Bool, true, _&&_, cond}
+use mathlib.Core.Bool.{Bool, true, _&&_}
 use mathlib.Core.List.{List, [], _∷_, _++_}
-use lib.ListN.{length, getD}
+use lib.ListN.{length}
 use lib.Dec.{leb}
 use Rattle.lists.specs.Lists.{isSome}
 use Rattle.table.specs.Table.{Headed}
 use Rattle.table.specs.Layout.{mostItems, headed}
 use Rattle.table.specs.Part.{headsIn, HeadedAt}
-use Rattle.halving.specs.Order.{OrderOf}
-use Rattle.heads.specs.declared.Four.{Four}
-use Rattle.heads.specs.declared.Marks.{Marks}
+use Rattle.apart.specs.Order.{OrderOf}
+use Rattle.place_marks.specs.declared.Four.{Four}
+use Rattle.place_marks.specs.declared.Marks.{Marks}
 use Rattle.heads.specs.declared.HeadsOrder.{HeadsOrder}
 
 -- the heads ascend strictly, and the first is not below `floor`
@@ -43,26 +43,6 @@ pub record FourStand (ws : List ℕ) (f : Four) : Type 0 where
 pub record MarksStand (ws : List ℕ) (m : Marks) : Type 0 where
   pub a : FourStand ws (m .a)
   pub b : FourStand ws (m .b)
-
--- no mark: each stands at the start
-abbrev pub noMarks : Marks
-noMarks = let f : Four = record { p = 0; q = 0; r = 0; s = 0 } in record { a = f; b = f }
-
--- the largest place that a mark holds
-abbrev pub mostPlace : ℕ
-mostPlace = 4294967295
-
--- a mark is added behind the others, and the first of them dropped; a place that is too large is not set
-unfoldable pub withMark : Marks → ℕ → Marks
-withMark m at =
-    let a = m .a in
-    let b = m .b in
-    cond (leb at mostPlace) (record { a = record { p = a .q; q = a .r; r = a .s; s = b .p }; b = record { p = b .q; q = b .r; r = b .s; s = at } }) m
-
--- a place where a search for c may start if the heads ascend: the start of the section, or one where the head is not above c
-pub record StartsAt (ws : List ℕ) (c at : ℕ) : Type 0 where
-  pub from : RecordsFrom ws at
-  pub low : 0 < at → (at < length ws) × (getD ws at 0 ≤ c)
 
 -- what the walk over a section finds: whether it is well formed and sorted, and where it is well formed, marks
 pub record HeadsFound (ws : List ℕ) (most : ℕ) (r : HeadsOrder) : Type 0 where

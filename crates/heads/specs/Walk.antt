@@ -1,5 +1,4 @@
--- How a walk over a section of records head, count, items stands, and a search in it: what is known of the records that are passed, and what is
--- left.
+-- How a walk over a section of records head, count, items stands: what is known of the records that are passed, and what is left.
 use Prim.Native.Nat.{ℕ, _+_, _≤_, _<_}
 use mathlib.Core.Path.{_≡_}
 use mathlib.Core.Bool.{Bool, true, _&&_}
@@ -8,9 +7,8 @@ use lib.ListN.{length, getD, drop}
 use Rattle.lists.specs.Lists.{isSome}
 use Rattle.table.specs.Table.{Headed}
 use Rattle.table.specs.Layout.{mostItems, headed}
-use Rattle.table.specs.Lookup.{itemsOf}
 use Rattle.table.specs.Part.{headsIn, HeadedAt}
-use Rattle.heads.specs.declared.Marks.{Marks}
+use Rattle.place_marks.specs.declared.Marks.{Marks}
 use Rattle.heads.specs.declared.HeadsWalk.{HeadsWalk}
 use Rattle.heads.specs.Heads.{rising, MarksStand}
 
@@ -44,15 +42,3 @@ pub record Lower (a b r : ℕ) : Type 0 where
 pub record RunPassed (ws : List ℕ) (n stop : ℕ) (v w : HeadsWalk) : Type 0 where
   pub on : (most : ℕ) (m : Marks) → n ≤ most → HeadsPass ws most (v .at) (v .floor) (v .rising) m → HeadsPass ws most (w .at) (w .floor) (w .rising) m
   pub further : v .at < stop → getD ws (v .at + 1) 0 ≡ n → v .at < w .at
-
--- A search for the record with head c that has come to `at`: the records left are those that the answer hangs on.
-pub record Search (ws : List ℕ) (sorted : Bool) (c at : ℕ) : Type 0 where
-  pub left : List Headed
-  pub walk : HeadedAt mostItems ws at left
-  pub same : itemsOf left c ≡ itemsOf (headsIn ws) c
-  pub rise : sorted ≡ true → rising 0 left ≡ true
-
--- a search that has come to `from` has come to `at` as well
-pub record SearchPassed (ws : List ℕ) (sorted : Bool) (c from at : ℕ) : Type 0 where
-  pub forward : from ≤ at
-  pub on : Search ws sorted c from → Search ws sorted c at

@@ -9,8 +9,8 @@ use lib.Seq.{getD-set-same, set-set, set-getD, getD-at, set-at}
 use lib.Bits.{xor-zero-r}
 use Rattle.lists.specs.Laws.{Every, every-front, every-back}
 use Rattle.keccak_f.specs.Permutation.{_⊕_}
-use Rattle.keccak.specs.Sponge.{number, xorBlock}
-use Rattle.keccak.specs.State.{xorByte}
+use Rattle.keccak_bytes.specs.Sponge.{number, xorBlock}
+use Rattle.keccak_bytes.specs.XorByte.{xorByte}
 use Rattle.keccak.specs.Xor.{xor-assoc, byte-below}
 
 -- bytes

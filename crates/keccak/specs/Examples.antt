@@ -3,8 +3,8 @@ use Prim.Native.Nat.{ℕ}
 use mathlib.Core.Path.{_≡_, refl}
 use mathlib.Core.List.{List, [], _∷_, _++_}
 use lib.ListN.{replicate}
-use Rattle.keccak.specs.Sponge.{padding}
-use Rattle.keccak.specs.State.{fresh, digested}
+use Rattle.keccak_bytes.specs.Sponge.{padding}
+use Rattle.keccak_sponge.specs.State.{fresh, digested}
 use Rattle.keccak.specs.Promise.{absorbedAll, cutting}
 
 -- room for one byte, for two, and for none, where the padding is a block

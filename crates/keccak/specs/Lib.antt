@@ -1,7 +1,5 @@
 pub mod Blocks
 pub mod Examples
 pub mod Promise
-pub mod Sponge
-pub mod State
 pub mod Taken
 pub mod Xor

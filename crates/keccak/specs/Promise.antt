@@ -8,11 +8,13 @@ use lib.ListN.{length, replicate, length-append}
 use Rattle.lists.specs.Lists.{joined}
 use Rattle.lists.specs.Laws.{every-append}
 use Rattle.keccak_f.specs.Permutation.{keccakF}
-use Rattle.keccak.specs.declared.sponge.Keccak256.{Keccak256}
-use Rattle.keccak.specs.Sponge.{rate, padding, squeezed, keccak256}
-use Rattle.keccak.specs.State.{state, fresh, xorByte, filled, taken, absorbed, digested}
+use Rattle.keccak_bytes.specs.Sponge.{rate, padding, squeezed, keccak256}
+use Rattle.keccak_bytes.specs.XorByte.{xorByte}
+use Rattle.keccak_sponge.specs.declared.Keccak256.{Keccak256}
+use Rattle.keccak_sponge.specs.State.{state, fresh, filled, taken, absorbed, digested}
+use Rattle.keccak_sponge.specs.Filled.{full-or-open}
 use Rattle.keccak.specs.Blocks.{Bytes}
-use Rattle.keccak.specs.Taken.{full-or-open, taken-append, blocks-taken, Fed, fed, padding-length, padded-digest, padding-bytes}
+use Rattle.keccak.specs.Taken.{taken-append, blocks-taken, Fed, fed, padding-length, padded-digest, padding-bytes}
 
 -- the pieces taken one after another
 unfoldable pub absorbedAll : Keccak256 → List (List ℕ) → Keccak256

@@ -10,31 +10,17 @@ use lib.Dec.{eqb}
 use lib.ListN.{length, getD, take, drop, set, replicate, length-append, length-replicate, length-take, length-drop, length-set, take-append-drop}
 use lib.Seq.{getD-set-same, set-set, set-getD}
 use lib.Bits.{xor-zero-r}
-use borrow.Author.Tests.{eq-eqb, ne-eqb, eqb-true, eqb-false}
+use borrow.Author.Tests.{eqb-true, eqb-false}
 use Rattle.lists.specs.Laws.{every-append}
 use Rattle.keccak_f.specs.Permutation.{_⊕_, keccakF}
 use Rattle.keccak_f.specs.Lengths.{permuted-length}
-use Rattle.keccak.specs.declared.sponge.Keccak256.{Keccak256}
-use Rattle.keccak.specs.Sponge.{rate, padding, xorBlock, absorbBlocks, squeezed}
-use Rattle.keccak.specs.State.{state, xorByte, filled, taken, digested}
+use Rattle.keccak_bytes.specs.Sponge.{rate, padding, xorBlock, absorbBlocks, squeezed}
+use Rattle.keccak_bytes.specs.XorByte.{xorByte}
+use Rattle.keccak_sponge.specs.declared.Keccak256.{Keccak256}
+use Rattle.keccak_sponge.specs.State.{state, filled, taken, digested}
+use Rattle.keccak_sponge.specs.Filled.{block-full, block-open, full-or-open}
 use Rattle.keccak.specs.Xor.{xor-assoc}
 use Rattle.keccak.specs.Blocks.{Bytes, xorBytes, bytes-append, block-xored, front-bytes, back-bytes}
-
--- a full block is permuted, another is left as it is
-pub block-full : (s : List ℕ) (n : ℕ) → n ≡ rate → filled s n ≡ state (keccakF s) 0
-block-full s n e = rw (eq-eqb n rate e)
-
-pub block-open : (s : List ℕ) (n : ℕ) → (n ≡ rate → ⊥) → filled s n ≡ state s n
-block-open s n e = rw (ne-eqb n rate e)
-
--- what holds in both cases
-pub full-or-open : (P : Keccak256 → Type 0) (s : List ℕ) (n : ℕ) → (n ≡ rate → P (state (keccakF s) 0)) → ((n ≡ rate → ⊥) → P (state s n))
-    → P (filled s n)
-full-or-open P s n full open′ = go (eqb n rate) refl
-  where
-    go : (b : Bool) → eqb n rate ≡ b → P (cond b (state (keccakF s) 0) (state s n))
-    go true e = full (eqb-true n rate e)
-    go false e = open′ (eqb-false n rate e)
 
 byte-length : (s : List ℕ) (p b : ℕ) → length (xorByte s p b) ≡ length s
 unfolding xorByte

@@ -1,10 +1,8 @@
 // Keccak-256 (02, Item 10): the sponge over Keccak-f[1600], which takes bytes in pieces of any size.
-use sponge::Digest;
-use sponge::Keccak256;
+use keccak_bytes::Digest;
+use keccak_sponge::Keccak256;
 ghost use mathlib.Core.Path.{_≡_};
-ghost use Rattle.keccak.specs.Sponge.{keccak256};
-
-pub mod sponge;
+ghost use Rattle.keccak_bytes.specs.Sponge.{keccak256};
 
 // The digest of a slice.
 pub fn keccak256(bytes: &[u8]) -> Digest

@@ -2,7 +2,7 @@
 use mathlib.Core.Path.{_≡_, refl}
 use mathlib.Core.List.{[], _∷_}
 use Rattle.keccak_f.specs.Permutation.{keccakF}
-use Rattle.keccak.specs.Sponge.{padding, number, xorBlock, absorbBlocks, squeezed, keccak256}
+use Rattle.keccak_bytes.specs.Sponge.{padding, number, xorBlock, absorbBlocks, squeezed, keccak256}
 
 -- of the empty string
 pub empty : keccak256 [] ≡

@@ -10,7 +10,7 @@ use groups::GroupFound;
 use groups::group_of;
 use limits::MOST_WORKED;
 use lookalike::confusable;
-use nsm::runs::nsm_fits;
+use nsm_text::nsm_fits;
 use sections::Sections;
 use spelling::all_ascii;
 use spelling::fenced;

@@ -6,7 +6,7 @@ use Rattle.lists.specs.Lists.{isSome}
 use Rattle.table.specs.Layout.{mostItems, mostParts, mostGroups, classRanges, excluded}
 use Rattle.table.specs.Spans.{within}
 use Rattle.table.specs.GroupPart.{groupsIn}
-use Rattle.halving.specs.Halving.{Apart}
+use Rattle.apart.specs.Apart.{Apart}
 use Rattle.sections.specs.declared.Sections.{Sections}
 use Rattle.sections.specs.Known.{behindCount, GroupsApart}
 use Rattle.seen_sections.specs.declared.Sets.{Sets}

@@ -25,6 +25,9 @@ ghost use Rattle.memo.specs.Memo.{Memo};
 // The most characters of a text that is looked at first, before any component is found.
 const LOOKED: usize = 64;
 
+// The most words of the wholes where it is: each character costs a walk over them.
+const FEW_WHOLES: usize = 8192;
+
 // Keeps the flags of the groups that hold c.
 fn keep_holders(words: &[u32], ix: Sections, flags: &mut [u32; 256], c: u32)
     requires { ⌜ Laid (now words) ix ⌝ }
@@ -120,13 +123,18 @@ fn is_confused(words: &[u32], ix: Sections, filter: &[u32], c: u32) -> bool
 }
 
 // Whether a text of few characters shows without a component that it is not confusable: none of them is confused, or every group is ruled out. Of
-// one character alone nothing is gained.
+// one character alone nothing is gained, nor where the wholes are many or the groups are walked.
 fn looks_plain(words: &[u32], ix: Sections, filter: &[u32], text: &[u32]) -> bool
     requires { ⌜ Laid (now words) ix ⌝ }
     requires { ⌜ Filter (theTable (now words) .wholes) (now filter) ⌝ }
     ensures { λ r. ⌜ (r ≡ true → definition.confusable (theTable (now (words .entry))) (now (text .entry)) ≡ false) ⌝ }
 {
     if text.len() < 2 || LOOKED < text.len() {
+        return false;
+    }
+    let wholes = ix.wholes;
+    let sorted = ix.sorted;
+    if !sorted.groups || FEW_WHOLES < wholes.to - wholes.from {
         return false;
     }
     !any_confused(words, ix, filter, text) || ruled_out(words, ix, filter, text)

@@ -8,11 +8,11 @@ use lib.Seq.{take-suc}
 use Rattle.lists.specs.Laws.{Every, every-member, every-append, joined-append}
 use Rattle.lists.specs.Elements.{getD-member}
 use Rattle.utf8_scheme.specs.Scheme.{octets}
-use Rattle.keccak.specs.declared.sponge.Keccak256.{Keccak256}
-use Rattle.keccak.specs.Sponge.{keccak256}
-use Rattle.keccak.specs.State.{fresh, taken, absorbed, digested}
+use Rattle.keccak_bytes.specs.Sponge.{keccak256}
+use Rattle.keccak_sponge.specs.declared.Keccak256.{Keccak256}
+use Rattle.keccak_sponge.specs.State.{fresh, taken, absorbed, digested}
 use Rattle.keccak.specs.Promise.{two-pieces, whole}
-use Rattle.keccak.proofs.Taking.{all-bytes}
+use Rattle.keccak.proofs.AllBytes.{all-bytes}
 use Rattle.name_node.specs.Node.{octetsOf}
 
 -- nothing taken

@@ -11,7 +11,7 @@ use borrow.Author.Tests.{ne-eqb}
 use Rattle.lists.specs.Lists.{split}
 use Rattle.lists.specs.Laws.{Every, every-front, every-back}
 use Rattle.lists.specs.Splits.{split-joined, split-whole}
-use Rattle.keccak.specs.Sponge.{keccak256}
+use Rattle.keccak_bytes.specs.Sponge.{keccak256}
 use Rattle.name.specs.Label.{stop}
 use Rattle.name.specs.Name.{labelsOf}
 use Rattle.name_node.specs.Node.{octetsOf, node}

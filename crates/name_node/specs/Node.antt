@@ -5,7 +5,7 @@ use mathlib.Core.List.{List, [], _∷_, _++_}
 use lib.ListN.{replicate}
 use Rattle.lists.specs.Lists.{joinedMap}
 use Rattle.utf8_scheme.specs.Scheme.{octets}
-use Rattle.keccak.specs.Sponge.{keccak256}
+use Rattle.keccak_bytes.specs.Sponge.{keccak256}
 
 -- the UTF-8 bytes of a label
 abbrev pub octetsOf : List ℕ → List ℕ

@@ -1,6 +1,6 @@
 // The hash of the labels of a text, from the right: EIP-137, "namehash". specs/Node.antt states it.
-use keccak::sponge::Digest;
-use keccak::sponge::Keccak256;
+use keccak_bytes::Digest;
+use keccak_sponge::Keccak256;
 use utf8::WriteAnswer;
 ghost use mathlib.Core.Path.{_≡_};
 ghost use mathlib.Core.Bool.{true};
@@ -8,8 +8,8 @@ ghost use mathlib.Core.List.{_++_};
 ghost use lib.ListN.{replicate};
 ghost use Rattle.scalar.specs.Scalar.{isScalar};
 ghost use Rattle.utf8_scheme.specs.Scheme.{octets};
-ghost use Rattle.keccak.specs.Sponge.{keccak256};
-ghost use Rattle.keccak.specs.State.{absorbed};
+ghost use Rattle.keccak_bytes.specs.Sponge.{keccak256};
+ghost use Rattle.keccak_sponge.specs.State.{absorbed};
 ghost use Rattle.name.specs.Name.{labelsOf};
 ghost use Rattle.name_node.specs.Node.{octetsOf, node};
 ghost use Rattle.name_node.specs.Parts.{Scalars, Starts};

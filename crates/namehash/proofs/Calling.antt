@@ -17,7 +17,7 @@ use Rattle.utf8_scheme.specs.Scheme.{write}
 use Rattle.utf8.specs.Promise.{WriteCalls}
 use Rattle.utf8.specs.Callers.{was-written, was-not-scalar, was-too-long}
 use Rattle.utf8.specs.declared.WriteAnswer.{WriteAnswer}
-use Rattle.keccak.specs.declared.sponge.Digest.{Digest}
+use Rattle.keccak_bytes.specs.declared.Digest.{Digest}
 use Rattle.name.specs.Label.{Label}
 use Rattle.name.specs.Name.{labelsOf, nameAnswer, nameAnswering, nameResult, nameBefore15, nameVerdict, nameCall}
 use Rattle.name.specs.Calls.{NameCalls}

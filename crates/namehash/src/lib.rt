@@ -1,7 +1,7 @@
 // The name hash of EIP-137 (02, Item 10). specs/Namehash.antt states it, and what the call answers.
 use answers::NameAnswer;
 use answers::Refusal;
-use keccak::sponge::Digest;
+use keccak_bytes::Digest;
 use name_node::no_node;
 use name_node::node_of;
 use utf8::WriteAnswer;

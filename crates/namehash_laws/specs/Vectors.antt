@@ -3,7 +3,7 @@ use mathlib.Core.Path.{_≡_, refl}
 use mathlib.Core.List.{[], _∷_, map}
 use lib.ListN.{replicate}
 use Rattle.keccak_f.specs.Permutation.{keccakF}
-use Rattle.keccak.specs.Sponge.{padding, number, xorBlock, absorbBlocks, squeezed, keccak256}
+use Rattle.keccak_bytes.specs.Sponge.{padding, number, xorBlock, absorbBlocks, squeezed, keccak256}
 use Rattle.utf8_scheme.specs.Scheme.{octets}
 use Rattle.name.specs.Name.{labelsOf}
 use Rattle.name_node.specs.Node.{node}

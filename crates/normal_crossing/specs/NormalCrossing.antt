@@ -1,5 +1,5 @@
 -- What the fields of an answer on a normal form say.
-use Rattle.normal_forms.specs.Forms.{FormValues}
+use Rattle.full_decomposition.specs.Within.{FormValues}
 use Rattle.normal_crossing.specs.declared.WanlophengForm.{WanlophengForm}
 
 -- the values that the fields stand for

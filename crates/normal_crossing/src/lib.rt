@@ -1,8 +1,9 @@
 // NFD and NFC of a text for C and Rust, each with the promise of the call that it hands on and its answer as a struct of plain numbers. The crate
 // `boundary` gives them their names outside.
-use normal_forms::FormAnswer;
+use full_decomposition::FormAnswer;
 ghost use mathlib.Core.Path.{_≡_};
-ghost use Rattle.normal_forms.specs.Forms.{formValues, nfdCall, nfcCall};
+ghost use Rattle.full_decomposition.specs.Within.{formValues};
+ghost use Rattle.normal_forms.specs.Forms.{nfdCall, nfcCall};
 ghost use Rattle.normal_forms.specs.Promise.{Forms};
 ghost use Rattle.normal_crossing.specs.NormalCrossing.{formFields};
 

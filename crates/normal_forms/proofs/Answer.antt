@@ -1,18 +1,16 @@
 -- The ends of the calls, each from what the steps before it leave.
-use Prim.Native.Nat.{ℕ, _+_, _≤_, _<_}
+use Prim.Native.Nat.{ℕ, _≤_}
 use native.Mathlib.Omega.{arith}
-use mathlib.Core.Path.{_≡_, refl, sym, ap, _∙_, subst}
+use mathlib.Core.Path.{_≡_, refl, _∙_}
 use mathlib.Core.Bool.{Bool}
 use mathlib.Core.Logic.{⊎-elim}
 use mathlib.Core.Option.{none}
-use mathlib.Core.List.{List, [], _∷_, _++_, map}
-use lib.ListN.{length, take, drop, length-map}
-use lib.Seq.{sets-eq, take-at, take-append-le, length-front, length-sets, length-take-le}
+use mathlib.Core.List.{List, [], _∷_, _++_}
+use lib.ListN.{length, take, drop}
+use lib.Seq.{take-append-le, length-front, length-take-le}
 use types.Run.{OneOf}
 use denote.Enum.Declared.{tagOf}
-use borrow.Author.Tests.{le-leb, lt-leb}
-use Rattle.limits.specs.Limits.{mostWorked}
-use Rattle.answers.specs.Verdict.{accepted, refused}
+use Rattle.answers.specs.Verdict.{refused}
 use Rattle.ending.specs.Ending.{resultOf}
 use Rattle.ending.specs.Ends.{Told, ends-fitting}
 use Rattle.ending.specs.Finish.{Finishes}
@@ -20,54 +18,17 @@ use Rattle.sections.specs.declared.Sections.{Sections}
 use Rattle.table.specs.Table.{Table}
 use Rattle.table.specs.Layout.{parse, theTable}
 use Rattle.sections.specs.Laid.{Laid}
-use Rattle.text.specs.Decomposition.{classOf, fourRounds}
 use Rattle.text.specs.Ordering.{nfd}
 use Rattle.text.specs.Composition.{compose, nfc}
-use Rattle.ordering.specs.Sorting.{sortBy}
-use Rattle.decomposition.specs.Rounds.{Appended}
-use Rattle.composition.specs.Work.{Ready, ComposedInto}
+use Rattle.composition.specs.Work.{ComposedInto}
 use Rattle.sections.proofs.SectionLaws.{laid-parse}
-use Rattle.ordering.proofs.SortingLaws.{length-sort, map-sort, order-sort, sort-in-order}
-use Rattle.normal_forms.specs.declared.FormAnswer.{FormAnswer}
-use Rattle.normal_forms.specs.declared.FormAnswer.the-variants.{Formed, LayoutFault, WorkedTooLong, WorkAreaTooSmall, BufferTooSmall}
-use Rattle.normal_forms.proofs.FormAnswer.{the-type}
-use Rattle.normal_forms.specs.Forms.{formValues, lengthOf, formWithin, formBy, formAnswering, nfdCall, nfcCall, Forming}
-use Rattle.normal_forms.specs.Promise.{Forms, Stands, Arranged, Ordered, RefusedAs, Standing}
-
--- the text and its classes, sorted by these, are the text in order with its own classes
-pub arranged : (t : Table) (d ks text classes : List ℕ) → ks ≡ map (classOf t) d → text ≡ sortBy ks d → classes ≡ sortBy ks ks → Arranged t d text classes
-arranged t d ks text classes e q k =
-    let f : ℕ → ℕ = classOf t in
-    let l : length ks ≡ length d = rw e (length-map d f) in
-    let own : map f text ≡ sortBy ks ks = rw (q, map-sort f ks d, ← e) in
-    record {
-      is = q ∙ rw e (sym (order-sort t d));
-      ready = record { classes = k ∙ sym own; ordered = rw k (sort-in-order ks) };
-      same = rw q (length-sort ks d l);
-      same-classes = rw k (length-sort ks ks refl) ∙ l;
-    }
-
--- the tests of a text, in turn
-module _ (t : Table) (text : List ℕ) (room work : ℕ) where
-  pub too-long : mostWorked < length (fourRounds t text) → RefusedAs t text room work WorkedTooLong
-  unfolding formWithin
-  too-long h form = rw (lt-leb (length (fourRounds t text)) mostWorked h)
-
-  module _ (n : ℕ) (short : n ≤ mostWorked) (e : n ≡ 0 + length (fourRounds t text)) where
-    long : length (fourRounds t text) ≡ n
-    long = omega arith
-
-    pub no-work : work < n → RefusedAs t text room work WorkAreaTooSmall
-    unfolding formWithin
-    no-work h form = rw (long, le-leb n mostWorked short, lt-leb n work h)
-
-    pub no-room : n ≤ work → room < n → RefusedAs t text room work BufferTooSmall
-    unfolding formWithin
-    no-room w h form = rw (long, le-leb n mostWorked short, le-leb n work w, lt-leb n room h)
-
-    passes : n ≤ work → n ≤ room → (form : Table → List ℕ → List ℕ) → formWithin form t text room work ≡ accepted (form t text)
-    unfolding formWithin
-    passes w h form = rw (long, le-leb n mostWorked short, le-leb n work w, le-leb n room h)
+use Rattle.full_decomposition.specs.declared.FormAnswer.{FormAnswer}
+use Rattle.full_decomposition.specs.declared.FormAnswer.the-variants.{Formed, LayoutFault, WorkedTooLong, WorkAreaTooSmall, BufferTooSmall}
+use Rattle.full_decomposition.proofs.FormAnswer.{the-type}
+use Rattle.full_decomposition.specs.Within.{formValues, formWithin}
+use Rattle.full_decomposition.specs.Promise.{Ordered, Standing}
+use Rattle.normal_forms.specs.Forms.{lengthOf, formBy, formAnswering, nfdCall, nfcCall, Forming}
+use Rattle.normal_forms.specs.Promise.{Forms, Stands}
 
 -- by words with a layout fault
 pub fault-form : (form : Table → List ℕ → List ℕ) (text ws : List ℕ) (room work : ℕ) → parse ws ≡ none → formBy form text ws room work ≡ refused 1 0
@@ -79,37 +40,6 @@ pub laid-form : (form : Table → List ℕ → List ℕ) (text ws : List ℕ) (i
     → formBy form text ws room work ≡ formWithin form (theTable ws) text room work
 unfolding formBy
 laid-form form text ws ix room work l = rw (laid-parse ws ix l)
-
--- the four rounds stand at the front of a buffer that has room for them
-front-rounds : (out out′ d : List ℕ) (n : ℕ) → Appended out out′ 0 d n → n ≤ length out → take n out′ ≡ d
-front-rounds out out′ d n w h =
-    let l : length d ≡ n = omega (arith, w .end) in
-    rw (w .put, sets-eq d out 0 (omega arith)) (take-at d (drop (0 + length d) out) n l)
-
--- the front of a buffer, once ys have come back in its place
-put-front : (n : ℕ) (ys s : List ℕ) → length ys ≡ n → take n (ys ++ drop n s) ≡ ys
-put-front n ys s e = take-at ys (drop n s) n e
-
--- the text is decomposed, and put into order in the front of the two buffers
-pub ordered : (t : Table) (text answer out work part classes : List ℕ) (n : ℕ) → n ≤ mostWorked → Appended answer out 0 (fourRounds t text) n
-    → n ≤ length work → n ≤ length out → Arranged t (take n out) part classes → Ordered t text answer (part ++ drop n out) work (classes ++ drop n work) n
-unfolding nfd
-ordered t text answer out work part classes n short w hw ho a =
-    let same : length out ≡ length answer = ap length (w .put) ∙ length-sets answer 0 (fourRounds t text) in
-    let ha : n ≤ length answer = omega arith in
-    let d : take n out ≡ fourRounds t text = front-rounds answer out (fourRounds t text) n w ha in
-    let is : part ≡ nfd t text = rw d at (a .is) in
-    let long : length (take n out) ≡ n = length-take-le n out ho in
-    let lp : length part ≡ n = a .same ∙ long in
-    let lc : length classes ≡ n = a .same-classes ∙ long in
-    record {
-      passes = passes t text (length answer) (length work) n short (w .end) hw ha;
-      count = rw (← is) (sym lp);
-      front = put-front n part out lp ∙ is;
-      ready = rw (put-front n classes work lc, ← is) (a .ready);
-      room = rw (length-front out part n (a .same)) ho;
-      work-room = rw (length-front work classes n (lc ∙ sym (length-take-le n work hw))) hw;
-    }
 
 -- the answer buffer as it was, by words with a layout fault
 pub fault-stands : (form : Table → List ℕ → List ℕ) (text ws answer : List ℕ) (work : ℕ) → parse ws ≡ none → Stands form text ws answer answer work LayoutFault
@@ -165,15 +95,6 @@ module _ (text ws answer answer′ work work′ : List ℕ) (ix : Sections) (l :
       let told : Told formAnswering (formWithin nfc t text (length answer) (length work)) (part ++ drop n answer′) (formValues (Formed r)) =
       rw (o .passes nfc) (rw count refl, λ h. rw (← count) front) in
       record { told = rw (laid-form nfc text ws ix (length answer) (length work) l) told; fits = omega (arith, o .room, all); same = all ∙ e }
-
--- NFD stands there, once the answer is known
-pub standing-formed : (t : Table) (text answer answer′ work work′ : List ℕ) (r : FormAnswer) (n : ℕ) → r ≡ Formed n → Standing t text answer answer′ work work′ r
-    → Ordered t text answer answer′ work work′ n
-standing-formed t text answer answer′ work work′ r n e o = subst (λ (x : FormAnswer). Standing t text answer answer′ work work′ x) e o
-
--- what composition asks
-pub ordered-ready : (t : Table) (text answer answer′ work work′ : List ℕ) (n : ℕ) → Ordered t text answer answer′ work work′ n → Ready t (take n answer′) (take n work′)
-ordered-ready t text answer answer′ work work′ n o = rw (o .front) (o .ready)
 
 -- the end of a call
 pub finished : (form : Table → List ℕ → List ℕ) (call : List ℕ → List ℕ → ℕ → ℕ → Forming)

@@ -16,7 +16,7 @@ use Rattle.lists.specs.Laws.{then-some}
 use Rattle.answers.specs.Verdict.{accepted}
 use Rattle.table.specs.Table.{Range, Table}
 use Rattle.table.specs.Layout.{onlyIf, inFront, mostItems, mostParts, mostGroups, sections, ranges, classRanges, headed, sequences, excluded, groups, wholes, tableOf, parse}
-use Rattle.unpack.specs.Unpack.{counted, fileWords}
+use Rattle.file_words.specs.FileWords.{counted, fileWords}
 
 -- A reading of words as n sections, at most `most` words in all. A section that is not there reads as an empty one. Each section is read as today,
 -- groups with their lists (`groups`): flags 6 and 7, which 01 calls a fault, are read too.

@@ -23,9 +23,10 @@ use Rattle.sections.proofs.SectionLaws.{laid-small}
 use Rattle.sections.specs.declared.Sections.{Sections}
 use Rattle.pairs.specs.declared.Composed.the-variants.{To, Nothing}
 use Rattle.text.specs.Composition.{isTwo, isPair, tablePair, pair}
-use Rattle.unpaired.specs.Index.{wordsOf, EachFrom, StandsIn, Bounds}
+use Rattle.pair_index.specs.Index.{wordsOf, EachFrom, StandsIn, Bounds}
 use Rattle.unpaired.specs.Unpaired.{mayCompose, pairPlaces, recordAt, isPairAt, Unpaired, Asked}
-use Rattle.unpaired.proofs.Places.{each-map, each-past, walk-past, record-past, part-walk, part-words}
+use Rattle.pair_entering.proofs.Each.{each-map, each-past}
+use Rattle.unpaired.proofs.Places.{walk-past, record-past, part-walk, part-words}
 use Rattle.pairs.specs.Found.{headedAt, isPairOf, pairAt, composedTo, PairFound}
 use Rattle.pairs.specs.declared.Composed.{Composed}
 use Rattle.text.specs.Hangul.{hangulPair}

@@ -13,7 +13,7 @@ ghost use Rattle.table.specs.Spans.{within};
 ghost use Rattle.text.specs.Hangul.{hangulPair};
 ghost use Rattle.text.specs.Composition.{isPair, pair, tablePair};
 ghost use Rattle.pairs.specs.Found.{composedTo, headedAt, pairAt, PairFound};
-ghost use Rattle.unpaired.specs.Index.{Bounds};
+ghost use Rattle.pair_index.specs.Index.{Bounds};
 ghost use Rattle.unpaired.specs.Unpaired.{pairPlaces, isPairAt, Unpaired, Asked};
 
 // What two codepoints compose to.

@@ -1,10 +1,10 @@
 // Whether a call leaves text that needs no NFC as it is: rules 6 to 8 are looked for where the input is long enough to bear the look, and no
 // longer than the worked length may be, since text over that is given up at the limit and scanned again.
 use limits::MOST_WORKED;
+use pair_index::put_bit;
 use quick_found::finds;
 use sections::Sections;
 use unpaired::QUICK_PLACE;
-use unpaired::put_bit;
 ghost use mathlib.Core.Path.{_≡_};
 ghost use mathlib.Core.Bool.{true};
 ghost use mathlib.Core.Logic.{_⊎_};

@@ -2,13 +2,14 @@
 use Prim.Native.Nat.{ℕ, _+_, _<_}
 use native.Mathlib.Omega.{arith}
 use mathlib.Core.Path.{_≡_, refl, sym, _∙_, ap}
-use mathlib.Core.Bool.{Bool, true, false, _&&_, _||_, false≢true}
+use mathlib.Core.Bool.{Bool, true, false, not, _&&_, _||_, false≢true}
 use mathlib.Core.List.{List, [], _∷_, _++_}
 use mathlib.Core.Option.{some}
 use lib.ListN.{length, getD, drop}
 use lib.Dec.{eqb}
-use borrow.Author.Tests.{eq-eqb, ne-eqb}
+use borrow.Author.Tests.{eq-eqb, ne-eqb, eqb-false, not-true}
 use Rattle.lists.specs.Lists.{any, sameList}
+use Rattle.lists.specs.Laws.{both-left, both-right}
 use Rattle.table.specs.declared.Span.{Span}
 use Rattle.table.specs.Layout.{sequences}
 use Rattle.table.specs.Spans.{within}
@@ -85,6 +86,25 @@ module _ {A : Type 0} (f : List (List ℕ) → A) (sorted : Bool) (part : List �
             walk = record { left = here .rest; walk = sequence-next f part at (w .walk) h s e; same = w .walk .same ∙ ap f q ∙ k ∙ ap f rest-is };
             rise = rest-rises;
           }
+
+-- a sequence that starts otherwise, and not with FE0F, is passed over
+module _ (items : List ℕ) (sorted : Bool) (part : List ℕ) (at : ℕ) (w : Rising (any (sameStripped items)) sorted part at) (h : at < length part) (s : Span)
+    (e : s ≡ countedAt part at) (certain : Bool) (bounded : certain ≡ true → Bounded true items) (first : ℕ) (f : first ≡ getD items 0 0) where
+  other-first : firstOf (within s part) ≡ getD part (at + 1) 0
+  other-first =
+      let x = sequence-here (any (sameStripped items)) part at (w .walk) h in
+      ap firstOf (sequence-is (any (sameStripped items)) part at (w .walk) h s e) ∙ first-item part at (w .walk .left) x
+
+  pub rising-other : ((certain && not (eqb (getD part (at + 1) 0) first)) && not (eqb (getD part (at + 1) 0) selector)) ≡ true
+      → Rising (any (sameStripped items)) sorted part (s .to)
+  rising-other k =
+      let other : ℕ = getD part (at + 1) 0 in
+      let l : (certain && not (eqb other first)) ≡ true = both-left (certain && not (eqb other first)) (not (eqb other selector)) k in
+      let b : Bounded true items = bounded (both-left certain (not (eqb other first)) l) in
+      let m : other ≡ first → ⊥ = eqb-false other first (not-true (eqb other first) (both-right certain (not (eqb other first)) l)) in
+      let n : other ≡ selector → ⊥ = eqb-false other selector (not-true (eqb other selector) (both-right (certain && not (eqb other first)) (not (eqb other selector)) k)) in
+      rising-on (any (sameStripped items)) sorted part at w h s e
+      (rw (differ items (within s part) (b .some) (b .plain) (λ q. m (sym other-first ∙ q ∙ sym f)) (λ q. n (sym other-first ∙ q))))
 
 -- a search for a sequence that is none where those that start with e, or with FE0F, are left out
 module _ (q : List ℕ → Bool) (e : ℕ) (none : (ss : List (List ℕ)) → Avoids e ss → any q ss ≡ false) where

@@ -5,7 +5,7 @@ use native.Mathlib.Omega.{arith}
 use mathlib.Core.Path.{_≡_, refl, sym, _∙_, ap}
 use mathlib.Core.Bool.{Bool, true, false, not, _&&_, _||_}
 use mathlib.Core.List.{List, [], _∷_, _++_, append-nil}
-use lib.ListN.{length, getD, take, drop, length-drop, drop-of-length-le}
+use lib.ListN.{length, getD, take, drop, length-drop, drop-of-length-le, take-append-drop}
 use lib.Seq.{take-suc}
 use lib.Dec.{leb, eqb}
 use borrow.Author.Tests.{eq-eqb, ne-eqb, leb-true, leb-false}
@@ -102,6 +102,18 @@ pub strip-past : (s : List ℕ) (i : ℕ) → length s ≤ i → strip (drop i s
 unfolding strip
 strip-past s i h = rw (drop-of-length-le s h)
 
+-- a start that two sequences share makes no difference
+same-front : (p a b : List ℕ) → sameList (p ++ a) (p ++ b) ≡ sameList a b
+same-front [] a b = refl
+same-front (x ∷ p) a b = rw (eq-eqb x x refl) (same-front p a b)
+
+pub stripped-behind : (a b : List ℕ) (k : ℕ) → take k a ≡ take k b → sameStripped a b ≡ sameStripped (drop k a) (drop k b)
+unfolding sameStripped
+stripped-behind a b k e =
+    let parts : (s : List ℕ) → strip s ≡ strip (take k s) ++ strip (drop k s) = λ s. ap strip (sym (take-append-drop k s)) ∙ strip-append (take k s) (drop k s) in
+    let q : strip b ≡ strip (take k a) ++ strip (drop k b) = parts b ∙ ap (λ (l : List ℕ). strip l ++ strip (drop k b)) (sym e) in
+    rw (parts a, q) (same-front (strip (take k a)) (strip (drop k a)) (strip (drop k b)))
+
 -- Two sequences compared item by item have come to i and j.
 pub record Aligned (a b : List ℕ) (i j : ℕ) : Type 0 where
   pub same : sameStripped a b ≡ sameList (strip (drop i a)) (strip (drop j b))
@@ -111,12 +123,11 @@ pub record Aligned (a b : List ℕ) (i j : ℕ) : Type 0 where
   pub right-item : j < length b → eqb (getD b j 0) selector ≡ false
 
 module _ (a b : List ℕ) (i j : ℕ) where
-  pub align-start : NextItem a 0 i → NextItem b 0 j → Aligned a b i j
+  pub align-start : (k : ℕ) → take k a ≡ take k b → NextItem a k i → NextItem b k j → Aligned a b i j
   unfolding sameStripped
-  align-start m n =
-      let p : strip a ≡ strip (drop i a) = m .same in
-      let q : strip b ≡ strip (drop j b) = n .same in
-      record { same = rw (p, q); left-in = m .inside; right-in = n .inside; left-item = m .item; right-item = n .item }
+  align-start k e m n =
+      let p : sameList (strip (drop k a)) (strip (drop k b)) ≡ sameList (strip (drop i a)) (strip (drop j b)) = rw (m .same, n .same) in
+      record { same = stripped-behind a b k e ∙ p; left-in = m .inside; right-in = n .inside; left-item = m .item; right-item = n .item }
 
   module _ (w : Aligned a b i j) where
     pub align-short : i < length a → length b ≤ j → false ≡ sameStripped a b

@@ -1,4 +1,5 @@
 // Rule 4, on emoji sequences.
+use finder::shared::shared;
 use sections::Sections;
 use table::Span;
 use table::lookup::counted;
@@ -71,12 +72,13 @@ pub fn next_item(items: &[u32], i: usize) -> usize
     r
 }
 
-// Whether two sequences are equal when stripped.
+// Whether two sequences are equal when stripped: compared item by item behind the start that they share.
 fn same_stripped(a: &[u32], b: &[u32]) -> bool
     ensures { λ r. ⌜ r ≡ sameStripped (now (a .entry)) (now (b .entry)) ⌝ }
 {
-    let mut i = next_item(a, 0);
-    let mut j = next_item(b, 0);
+    let k = shared(a, b);
+    let mut i = next_item(a, k);
+    let mut j = next_item(b, k);
     while i < a.len() {
         if b.len() <= j {
             return false;
@@ -123,22 +125,28 @@ pub fn is_bounded(sorted: bool, items: &[u32]) -> bool
     sorted
 }
 
-// Whether one of the sequences is equal to the items when stripped. Where they are sorted, none from one on that starts above the items is.
+// Whether one of the sequences is equal to the items when stripped. Where the items start with one that is not FE0F, no sequence is that starts with
+// another, save FE0F; where the sequences are sorted, none is from one on that starts above the items.
 pub fn any_same(part: &[u32], sorted: bool, items: &[u32]) -> bool
     requires { ⌜ Holds sequences (now part) ⌝ }
     requires { ⌜ (sorted ≡ true → FirstsSteady (now part)) ⌝ }
     ensures { λ r. ⌜ r ≡ any (sameStripped (now (items .entry))) (recordsIn sequences (now (part .entry))) ⌝ }
 {
     let bounded = is_bounded(sorted, items);
+    let certain = is_bounded(true, items);
     let first = first_of(items);
     let mut i: usize = 0;
     while i < part.len() {
-        if bounded & (first < part[i + 1]) {
-            return false;
-        }
         let s = counted(part, i);
-        if same_stripped_of(items, part, s) {
-            return true;
+        let other = part[i + 1];
+        if (certain & (other != first)) & (other != SELECTOR) {
+            if bounded & (first < other) {
+                return false;
+            }
+        } else {
+            if same_stripped_of(items, part, s) {
+                return true;
+            }
         }
         i = s.to;
     }

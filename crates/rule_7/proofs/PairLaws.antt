@@ -56,6 +56,11 @@ module _ (t : Table) (h : ℕ) (s : List ℕ) where
       unfolding pairOf
       pair-first k f g = rw (are-two s two, e, eq-eqb (classOf t h) 0 f, first-is s two, g)
 
+-- a record with other items
+pub other-items : (t : Table) (s : List ℕ) (h : ℕ) (items : List ℕ) → sameList s items ≡ false → samePair t s h items ≡ false
+unfolding samePair
+other-items t s h items e = rw e
+
 -- Two lists of one length compared word by word have come to i.
 pub record SameSoFar (a b : List ℕ) (i : ℕ) : Type 0 where
   pub inside : i ≤ length a

@@ -63,6 +63,15 @@ fn same_pair(words: &[u32], ix: Sections, items: &[u32], head: u32, others: &[u3
     false
 }
 
+fn same_items_of(items: &[u32], part: &[u32], s: Span) -> bool
+    requires { ⌜ Fits (now part) s ⌝ }
+    ensures { λ r. ⌜ r ≡ sameList (now (items .entry)) (within s (now (part .entry))) ⌝ }
+{
+    let from = s.from;
+    let to = s.to;
+    same_items(items, &part[from..to])
+}
+
 fn same_pair_of(
     words: &[u32],
     ix: Sections,
@@ -80,7 +89,7 @@ fn same_pair_of(
     same_pair(words, ix, items, head, &part[from..to])
 }
 
-// Whether one of the records is a composition pair with the items.
+// Whether one of the records is a composition pair with the items. Most have other items, and are told by these alone.
 fn any_pair(words: &[u32], ix: Sections, part: &[u32], items: &[u32]) -> bool
     requires { ⌜ Laid (now words) ix ⌝ }
     requires { ⌜ Holds asHeaded (now part) ⌝ }
@@ -89,8 +98,10 @@ fn any_pair(words: &[u32], ix: Sections, part: &[u32], items: &[u32]) -> bool
     let mut i: usize = 0;
     while i < part.len() {
         let s = counted(part, i + 1);
-        if same_pair_of(words, ix, items, part[i], part, s) {
-            return true;
+        if same_items_of(items, part, s) {
+            if same_pair_of(words, ix, items, part[i], part, s) {
+                return true;
+            }
         }
         i = s.to;
     }

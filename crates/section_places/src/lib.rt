@@ -1,6 +1,6 @@
 // The places of the fourteen sections among the words of a table.
 
-use heads::no_marks;
+use place_marks::no_marks;
 use sections::Sections;
 use sections::Sorted;
 use sections::Starts;

@@ -8,7 +8,7 @@ use Rattle.table.specs.declared.Span.{Span}
 use Rattle.table.specs.Layout.{mostItems, headed, sequences, groups, parse}
 use Rattle.table.specs.Spans.{within}
 use Rattle.table.specs.Part.{recordsIn}
-use Rattle.halving.specs.Tested.{allBelow, tested-apart}
+use Rattle.apart.specs.Tested.{allBelow, tested-apart}
 use Rattle.heads.specs.Heads.{rising}
 use Rattle.heads.proofs.MarkLaws.{heads-at, from-start, marks-none}
 use Rattle.firsts.specs.Firsts.{steady}

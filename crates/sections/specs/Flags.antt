@@ -18,8 +18,9 @@ use mathlib.Core.Bool.{Bool, false}
 use mathlib.Core.List.{List}
 use Rattle.table.specs.Layout.{mostItems}
 use Rattle.table.proofs.Lookups.{false-true}
-use Rattle.heads.specs.declared.Marks.{Marks}
-use Rattle.heads.specs.Heads.{noMarks, HeadsKnown}
+use Rattle.place_marks.specs.declared.Marks.{Marks}
+use Rattle.place_marks.specs.Places.{noMarks}
+use Rattle.heads.specs.Heads.{HeadsKnown}
 use Rattle.heads.proofs.MarkLaws.{heads-at, from-start, marks-none}
 use Rattle.firsts.specs.Firsts.{FirstsKnown}
 use Rattle.firsts.proofs.Marked.{numbered-none}

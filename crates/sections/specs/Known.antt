@@ -8,8 +8,9 @@ use Rattle.table.specs.declared.Span.{Span}
 use Rattle.table.specs.Table.{Range, Group}
 use Rattle.table.specs.Spans.{within}
 use Rattle.table.specs.GroupPart.{groupsIn}
-use Rattle.halving.specs.Halving.{Apart}
-use Rattle.heads.specs.Heads.{noMarks, HeadsRise, HeadsKnown}
+use Rattle.apart.specs.Apart.{Apart}
+use Rattle.place_marks.specs.Places.{noMarks}
+use Rattle.heads.specs.Heads.{HeadsRise, HeadsKnown}
 use Rattle.firsts.specs.Firsts.{FirstsSteady, FirstsKnown}
 use Rattle.sections.specs.declared.Sorted.{Sorted}
 use Rattle.sections.specs.declared.Starts.{Starts}

@@ -1,7 +1,7 @@
 // The places of the sections among the words of a table, and lookups by them.
 pub mod lookup;
 
-use heads::Marks;
+use place_marks::Marks;
 use table::Span;
 
 // Which sections were found to be sorted. 02, Item 11: "which sections are sorted without overlap". To a lookup a flag may be false where it is

@@ -1,10 +1,10 @@
 // Lookups over the words of a table and the places of its sections.
 use crate::Sections;
-use halving::class_apart;
-use halving::in_apart;
-use halving::mem_apart;
-use heads::Marks;
-use heads::items_by;
+use apart_lookup::class_apart;
+use apart_lookup::in_apart;
+use apart_lookup::mem_apart;
+use head_search::items_by;
+use place_marks::Marks;
 use table::Items;
 use table::Span;
 use table::WholeAt;
@@ -19,7 +19,7 @@ ghost use Rattle.table.specs.Layout.{mostItems, mostParts, theTable};
 ghost use Rattle.table.specs.Lookup.{inRanges, itemsOf, wholeOf, shouldEscape, inQuickCheck};
 ghost use Rattle.table.specs.Part.{inPairs, classAmong, headsIn, ClassFound, ItemsFound, WholeFound};
 ghost use Rattle.table.specs.Spans.{within, Fits};
-ghost use Rattle.halving.specs.Halving.{Apart};
+ghost use Rattle.apart.specs.Apart.{Apart};
 ghost use Rattle.heads.specs.Heads.{HeadsKnown};
 ghost use Rattle.sections.specs.Known.{PairsKnown};
 ghost use Rattle.sections.specs.Laid.{Laid};

@@ -14,7 +14,7 @@ use Rattle.table.specs.Layout.{mostItems, headed, excluded}
 use Rattle.table.specs.Spans.{within}
 use Rattle.table.proofs.Lookups.{false-true}
 use Rattle.table.proofs.Searches.{headed-wider}
-use Rattle.halving.specs.Order.{isFault, isSorted}
+use Rattle.apart.specs.Order.{isFault, isSorted}
 use Rattle.heads.specs.declared.HeadsOrder.{HeadsOrder}
 use Rattle.heads.specs.Heads.{HeadsFound}
 use Rattle.firsts.specs.declared.FirstsOrder.{FirstsOrder}

@@ -1,14 +1,14 @@
 // What is seen of one section of a table, by its place: whether it is well formed and sorted, and where a search in it may start.
 
+use apart::pairs_order;
+use apart::triples_order;
 use firsts::firsts_order;
 use group_sizes::Seen;
 use group_sizes::groups_fit;
 use group_sizes::told;
-use halving::items_rise;
-use halving::pairs_order;
-use halving::triples_order;
-use heads::Marks;
 use heads::heads_order;
+use place_marks::Marks;
+use rising_items::items_rise;
 use table::Span;
 use whole_sizes::excluded_fit;
 use whole_sizes::wholes_fit;
@@ -18,7 +18,7 @@ ghost use Rattle.lists.specs.Lists.{isSome};
 ghost use Rattle.table.specs.Layout.{mostItems, mostGroups, ranges, classRanges, excluded};
 ghost use Rattle.table.specs.Spans.{within, Fits};
 ghost use Rattle.table.specs.GroupPart.{groupsIn};
-ghost use Rattle.halving.specs.Halving.{Apart};
+ghost use Rattle.apart.specs.Apart.{Apart};
 ghost use Rattle.sections.specs.Known.{behindCount, GroupsApart};
 ghost use Rattle.whole_sizes.specs.Wholes.{wholesFit};
 ghost use Rattle.group_sizes.specs.Walk.{groupsWithin};

@@ -5,7 +5,7 @@ use mathlib.Core.Bool.{Bool, true, false, _&&_, _||_, cond}
 use mathlib.Core.List.{List, [], _∷_}
 use mathlib.Core.Option.{Option, none, some, Option·getD}
 use lib.ListN.{length, getD, take, drop}
-use lib.Dec.{leb}
+use lib.Dec.{leb, eqb}
 use Rattle.lists.specs.Lists.{isSome}
 use Rattle.table.specs.declared.Span.{Span}
 use Rattle.table.specs.declared.Items.{Items}
@@ -35,6 +35,12 @@ abbrev pub inFour : ℕ → List ℕ → ℕ → ℕ → Bool
 inFour c ws i step =
     let at : ℕ → Bool = λ j. leb (getD ws j 0) c && leb c (getD ws (j + 1) 0) in
     (at i || at (i + step)) || (at (i + step + step) || at (i + step + step + step))
+
+-- c is one of four items, of which the first stands at i
+abbrev pub memFour : ℕ → List ℕ → ℕ → Bool
+memFour c ws i =
+    let at : ℕ → Bool = λ j. eqb (getD ws j 0) c in
+    (at i || at (i + 1)) || (at (i + 2) || at (i + 3))
 
 -- f gives for the words from i on what it gives for all
 pub record Skipped {A : Type 0} (f : List ℕ → A) (ws : List ℕ) (i : ℕ) : Type 0 where

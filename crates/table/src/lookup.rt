@@ -21,7 +21,7 @@ ghost use Rattle.table.specs.Layout.{mostItems, headed, wholes};
 ghost use Rattle.table.specs.Lookup.{itemsOf, wholeOf};
 ghost use Rattle.table.specs.Spans.{Fits, within};
 ghost use Rattle.table.specs.GroupPart.{listSize, listAt, groupAt};
-ghost use Rattle.table.specs.Part.{inPairs, classAmong, inFour, Skipped, countedAt, headsIn, wholesIn, WholesPart, ItemsFound, WholeFound};
+ghost use Rattle.table.specs.Part.{inPairs, classAmong, inFour, memFour, Skipped, countedAt, headsIn, wholesIn, WholesPart, ItemsFound, WholeFound};
 
 // Whether c lies from first to last. Both tests are made, since where pairs stand in random order a branch at the first would be a guess.
 pub fn between(c: u32, first: u32, last: u32) -> bool
@@ -118,8 +118,34 @@ pub fn class_in(part: &[u32], c: u32) -> u32
     class_of_any(&part[i..], c)
 }
 
-// Whether c is one of the items.
-pub fn mem_in(items: &[u32], c: u32) -> bool
+// Whether c is one of four items, of which the first stands at i. One branch is then enough for four.
+fn mem_four(items: &[u32], i: usize, c: u32) -> bool
+    requires { ⌜ i + 4 ≤ length (now items) ⌝ }
+    ensures { λ r. ⌜ r ≡ memFour c (now (items .entry)) i ⌝ }
+{
+    let first = items[i] == c;
+    let second = items[i + 1] == c;
+    let third = items[i + 2] == c;
+    let fourth = items[i + 3] == c;
+    (first | second) | (third | fourth)
+}
+
+// A place up to which c is none of the items: that of four items with c, or one with fewer than four left.
+fn skip_items(items: &[u32], c: u32) -> usize
+    ensures { λ r. ⌜ Skipped (mem c) (now (items .entry)) r ⌝ }
+{
+    let mut i: usize = 0;
+    while 3 < items.len() - i {
+        if mem_four(items, i, c) {
+            return i;
+        }
+        i += 4;
+    }
+    i
+}
+
+// Whether c is one of the items, asked one by one.
+fn mem_any(items: &[u32], c: u32) -> bool
     ensures { λ r. ⌜ r ≡ mem c (now (items .entry)) ⌝ }
 {
     let mut i: usize = 0;
@@ -130,6 +156,14 @@ pub fn mem_in(items: &[u32], c: u32) -> bool
         i += 1;
     }
     false
+}
+
+// Whether c is one of the items.
+pub fn mem_in(items: &[u32], c: u32) -> bool
+    ensures { λ r. ⌜ r ≡ mem c (now (items .entry)) ⌝ }
+{
+    let i = skip_items(items, c);
+    mem_any(&items[i..], c)
 }
 
 // Whether c is one of the items of a part.

@@ -14,9 +14,10 @@ use Rattle.answers.specs.Verdict.{accepted, refused}
 use Rattle.answers.specs.Values.{UnpackValues, unpackValues}
 use Rattle.answers.specs.declared.Unpacked.{Unpacked}
 use Rattle.answers.specs.declared.Unpacked.the-variants.{Words, WrongVersion, WrongLength, TooLittleRoom}
-use Rattle.unpack.specs.Unpack.{fileWords, unpackCall}
+use Rattle.file_words.specs.FileWords.{fileWords}
+use Rattle.file_words.proofs.File.{Said, holding, refusing, file-said}
+use Rattle.unpack.specs.Unpack.{unpackCall}
 use Rattle.unpack.specs.Promise.{Unpacks}
-use Rattle.unpack.proofs.File.{Said, holding, refusing, file-said}
 use Rattle.table_file.specs.File.{mostFile, mostTable, tableWords}
 use Rattle.table_file.specs.Promise.{TableRead, NoTable, TableIs, ReadsTable}
 

@@ -6,7 +6,7 @@ use mathlib.Core.Option.{Option, none, some}
 use lib.ListN.{length}
 use lib.Dec.{leb}
 use Rattle.answers.specs.Verdict.{Verdict, accepted, refused}
-use Rattle.unpack.specs.Unpack.{fileWords}
+use Rattle.file_words.specs.FileWords.{fileWords}
 
 -- "reads the table file `names.tab` of at most 32,768 bytes"
 abbrev pub mostFile : ℕ

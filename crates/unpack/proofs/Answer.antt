@@ -14,9 +14,11 @@ use Rattle.buffers.proofs.Parts.{mid-tail, put-filled}
 use borrow.Author.Tests.{le-leb, lt-leb}
 use Rattle.answers.specs.declared.Unpacked.{Unpacked}
 use Rattle.answers.specs.declared.Unpacked.the-variants.{Words, WrongVersion, WrongLength, TooLittleRoom}
-use Rattle.unpack.specs.Unpack.{wordsOf, unpackCall}
-use Rattle.unpack.specs.Promise.{Unpacks, ownWords, Holds, Inspected}
-use Rattle.unpack.proofs.Words.{length-words}
+use Rattle.file_words.specs.FileWords.{wordsOf}
+use Rattle.file_words.specs.Promise.{ownWords, Holds, Inspected}
+use Rattle.file_words.proofs.WordLaws.{length-words}
+use Rattle.unpack.specs.Unpack.{unpackCall}
+use Rattle.unpack.specs.Promise.{Unpacks}
 
 -- a file has its own words behind its first five bytes
 pub holds-rest : (file : List ℕ) (n : ℕ) → Holds file n → length (midOf 5 (length file - 5) file) ≡ 4 * ownWords file

@@ -3,7 +3,8 @@
 use Prim.Native.Nat.{ℕ}
 use mathlib.Core.Path.{_≡_, refl}
 use mathlib.Core.List.{List, _∷_}
-use Rattle.unpack.specs.Unpack.{fileWords, unpackCall}
+use Rattle.file_words.specs.FileWords.{fileWords}
+use Rattle.unpack.specs.Unpack.{unpackCall}
 
 pub words-like-3 : (rest : List ℕ) → fileWords (4 ∷ rest) ≡ fileWords (3 ∷ rest)
 unfolding fileWords

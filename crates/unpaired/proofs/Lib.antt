@@ -1,3 +1,3 @@
 pub mod Places
 pub mod Noting
-pub mod Entering
+pub mod Asking

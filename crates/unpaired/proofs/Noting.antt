@@ -1,21 +1,21 @@
 -- Laws of the test of a composition pair, and of the set of the records that are none.
-use Prim.Native.Nat.{ℕ, _+_, _-_, _*_, _/_, _≤_, _<_}
+use Prim.Native.Nat.{ℕ, _<_}
 use native.Mathlib.Omega.{arith}
-use mathlib.Core.Path.{_≡_, refl, sym, _∙_, ap}
+use mathlib.Core.Path.{_≡_, refl, sym, _∙_}
 use mathlib.Core.Bool.{Bool, true, false, _||_, false≢true}
-use mathlib.Core.List.{List, _++_}
-use lib.ListN.{length, getD, take, drop, replicate, length-append, length-take, length-drop, length-replicate, List·getD-append}
-use lib.Seq.{getD-take, getD-drop, getD-append-add}
+use mathlib.Core.List.{List}
+use lib.ListN.{getD, replicate, length-replicate}
 use lib.Dec.{eqb}
 use borrow.Author.Tests.{eq-eqb, ne-eqb, eqb-true}
 use Rattle.lists.specs.Lists.{mem}
 use Rattle.table.specs.Table.{Table, Headed}
-use Rattle.bit_sets.specs.Sets.{has, bit, Put}
+use Rattle.bit_sets.specs.Sets.{has}
 use Rattle.bit_sets.proofs.PutLaws.{empty-has}
 use Rattle.text.specs.Decomposition.{classOf}
-use Rattle.unpaired.specs.Index.{bitWords, knownWords, madePlace, secondsPlace, secondPlace, slotPlace, Listed, Entered, Indexed, BitPut, Filled}
+use Rattle.pair_index.specs.Index.{knownWords, madePlace, secondsPlace, slotPlace, Listed, Entered, Indexed, BitPut, Filled}
+use Rattle.pair_index.proofs.Bits.{bit-kept, bit-second}
+use Rattle.pair_entering.proofs.Each.{each-map}
 use Rattle.unpaired.specs.Unpaired.{mayCompose, pairPlaces, isPairAt, QuickHolds, Unpaired, Asked}
-use Rattle.unpaired.proofs.Places.{each-map}
 
 -- what is asked of a head and a first item, in turn
 module _ (t : Table) (head a : ℕ) where
@@ -29,44 +29,8 @@ module _ (t : Table) (head a : ℕ) where
     pub may-first : (j : ℕ) → k ≡ 0 → j ≡ classOf t a → eqb j 0 ≡ mayCompose t head a
     may-first j z je = rw (← e, n, ← ke, eq-eqb k 0 z, ← je)
 
--- a bit that is put among the first words
-pub bit-put : (old mid : List ℕ) (d : ℕ) → length old ≡ knownWords → Put (take bitWords old) mid (λ e. eqb e d) → BitPut old (mid ++ drop bitWords old) d
-unfolding has
-bit-put old mid d size p =
-    record {
-      room = length-append mid (drop bitWords old) ∙ simp length-drop (omega (arith, long));
-      each = λ e h. front e h ∙ p .each e (omega (arith, short, h)) ∙ ap (λ (b : Bool). eqb e d || b) (behind e h);
-      slots = λ k h. let n : length mid + (k - bitWords) ≡ k = omega (arith, long) in
-          rw n at (getD-append-add mid (drop bitWords old) (k - bitWords) 0) ∙ slot k h;
-    }
-  where
-    short : length (take bitWords old) ≡ bitWords
-    short = simp length-take (omega arith)
-
-    long : length mid ≡ bitWords
-    long = p .room ∙ short
-
-    front : (e : ℕ) → e < bitWords * 32 → has (mid ++ drop bitWords old) e ≡ has mid e
-    front e h = rw (List·getD-append mid (drop bitWords old) 0 (e / 32) (omega (arith, long)))
-
-    behind : (e : ℕ) → e < bitWords * 32 → has (take bitWords old) e ≡ has old e
-    behind e h = rw (getD-take bitWords old (e / 32) 0 (omega arith))
-
-    slot : (k : ℕ) → bitWords ≤ k → getD (drop bitWords old) (k - bitWords) 0 ≡ getD old k 0
-    slot k h = let n : bitWords + (k - bitWords) ≡ k = omega arith in rw n at (getD-drop bitWords old (k - bitWords) 0)
-
-or-right : (a b : Bool) → b ≡ true → (a || b) ≡ true
-or-right true b e = refl
-or-right false b e = e
-
+-- another bit leaves the index as it is
 module _ (old new : List ℕ) (d : ℕ) (p : BitPut old new d) where
-  -- another bit stays
-  pub bit-kept : (e : ℕ) → e < bitWords * 32 → (e ≡ d → ⊥) → has new e ≡ has old e
-  bit-kept e h n = rw (ne-eqb e d n) at (p .each e h)
-
-  pub bit-second : (b : ℕ) → has old (secondPlace b) ≡ true → has new (secondPlace b) ≡ true
-  bit-second b h = p .each (secondPlace b) (omega arith) ∙ or-right (eqb (secondPlace b) d) (has old (secondPlace b)) h
-
   index-kept : (rs : List Headed) → Indexed rs old → Indexed rs new
   index-kept rs i =
       record {
@@ -77,7 +41,7 @@ module _ (old new : List ℕ) (d : ℕ) (p : BitPut old new d) where
       listed : (q a b : ℕ) → Listed old q a b → Listed new q a b
       listed q a b l =
           let s : getD new (slotPlace a b) 0 ≡ getD old (slotPlace a b) 0 = p .slots (slotPlace a b) (omega arith) in
-          record { second = bit-second b (l .second); from = rw s (l .from); below = rw s (l .below) }
+          record { second = bit-second old new d p b (l .second); from = rw s (l .from); below = rw s (l .below) }
 
 -- the set of the records that were found to be none
 module _ (t : Table) (set : List ℕ) (number : ℕ) (u : Unpaired t set) where

@@ -16,42 +16,8 @@ use Rattle.table.proofs.Records.{records-start, headed-step, headed-end}
 use Rattle.sections.specs.declared.Sections.{Sections}
 use Rattle.sections.specs.Laid.{Laid}
 use Rattle.sections.proofs.SectionLaws.{laid-fits, laid-reads}
-use Rattle.unpaired.specs.Index.{wordsOf, partRecords, EachFrom}
+use Rattle.pair_index.specs.Index.{wordsOf, partRecords}
 use Rattle.unpaired.specs.Unpaired.{noRecord, recordAt}
-
-pub words-append : (xs ys : List Headed) → wordsOf (xs ++ ys) ≡ wordsOf xs + wordsOf ys
-unfolding wordsOf
-words-append [] ys = omega arith
-words-append (x ∷ xs) ys = rw (words-append xs ys) (omega arith)
-
-module _ (P Q : ℕ → Headed → Type 0) (up : (p : ℕ) (x : Headed) → P p x → Q p x) where
-  pub each-map : (at : ℕ) (xs : List Headed) → EachFrom P at xs → EachFrom Q at xs
-  unfolding EachFrom
-  each-map at [] e = tt
-  each-map at (x ∷ xs) e = (up at x (e .0), each-map (at + 2 + length (x .items)) xs (e .1))
-
-module _ (P : ℕ → Headed → Type 0) where
-  -- what is so of every place before the end
-  pub each-below : (end at : ℕ) (xs : List Headed) → at + wordsOf xs ≤ end → ((p : ℕ) (x : Headed) → p < end → P p x) → EachFrom P at xs
-  unfolding EachFrom wordsOf
-  each-below end at [] h f = tt
-  each-below end at (x ∷ xs) h f = (f at x (omega arith), each-below end (at + 2 + length (x .items)) xs (omega arith) f)
-
-  -- one record more
-  pub each-more : (at : ℕ) (xs : List Headed) (x : Headed) → EachFrom P at xs → P (at + wordsOf xs) x → EachFrom P at (xs ++ x ∷ [])
-  unfolding EachFrom wordsOf
-  each-more at [] x e h = let z : at + 0 ≡ at = omega arith in (rw z at h, tt)
-  each-more at (y ∷ xs) x e h =
-      let n : at + (2 + length (y .items) + wordsOf xs) ≡ at + 2 + length (y .items) + wordsOf xs = omega arith in
-      (e .0, each-more (at + 2 + length (y .items)) xs x (e .1) (rw n at h))
-
-  -- those behind others
-  pub each-past : (at : ℕ) (xs ys : List Headed) → EachFrom P at (xs ++ ys) → EachFrom P (at + wordsOf xs) ys
-  unfolding EachFrom wordsOf
-  each-past at [] ys e = let z : at + 0 ≡ at = omega arith in rw z e
-  each-past at (x ∷ xs) ys e =
-      let n : at + (2 + length (x .items) + wordsOf xs) ≡ at + 2 + length (x .items) + wordsOf xs = omega arith in
-      rw n (each-past (at + 2 + length (x .items)) xs ys (e .1))
 
 -- the record at a place where records are left
 pub record HereOf (most : ℕ) (part : List ℕ) (at : ℕ) (x : Headed) (xs : List Headed) : Type 0 where

@@ -13,7 +13,7 @@ use Rattle.text.specs.Composition.{isPair}
 use Rattle.lists.specs.Lists.{mem}
 use Rattle.text.specs.Decomposition.{classOf}
 use Rattle.text.specs.QuickCheck.{Quick}
-use Rattle.unpaired.specs.Index.{knownWords, madePlace, Indexed}
+use Rattle.pair_index.specs.Index.{knownWords, madePlace, Indexed}
 
 -- a decomposition of head to two items, the first of them a, is a composition pair
 abbrev pub mayCompose : Table → ℕ → ℕ → Bool

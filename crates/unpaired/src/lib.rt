@@ -4,34 +4,21 @@
 pub mod index;
 
 use bit_sets::has;
-use bit_sets::put;
+use pair_index::put_bit;
 use sections::Sections;
 use text::class;
 
 // The words of that set: 1,366 of bits for the records, of which at most 43,691 stand in 131,073 words, one of two bits more, and the index.
 pub const KNOWN_WORDS: usize = 2519;
 
-// Those of them that are bits.
-const BIT_WORDS: usize = 1495;
-
 // The bit that says that text outside the quick-check set whose classes stand in order is its own NFC.
 pub const QUICK_PLACE: u32 = 43712;
 
 ghost use mathlib.Core.Path.{_≡_};
-ghost use Prim.Native.Nat.{_<_, _*_};
-ghost use lib.ListN.{length};
+ghost use Prim.Native.Nat.{_<_};
 ghost use Rattle.sections.specs.Laid.{Laid};
 ghost use Rattle.table.specs.Layout.{theTable};
-ghost use Rattle.unpaired.specs.Index.{bitWords, knownWords, BitPut};
 ghost use Rattle.unpaired.specs.Unpaired.{mayCompose, pairPlaces, isPairAt, Unpaired, Asked};
-
-// Puts a bit.
-pub fn put_bit(unpaired: &mut [u32], d: u32)
-    requires { ⌜ (length (now unpaired) ≡ knownWords) × (d < bitWords * 32) ⌝ }
-    ensures { λ _. ⌜ BitPut (now (unpaired .entry)) (now (unpaired .exit)) d ⌝ }
-{
-    put(&mut unpaired[..BIT_WORDS], d);
-}
 
 // Whether a decomposition of head to two items, the first of them a, is a composition pair.
 pub fn may_compose(head: u32, words: &[u32], ix: Sections, a: u32) -> bool

@@ -9,8 +9,8 @@ use lib.ListN.{length, getD}
 use lib.Dec.{leb, ltb}
 use borrow.Author.Tests.{leb-true}
 use Rattle.table.proofs.Lookups.{both}
-use Rattle.heads.specs.Heads.{mostPlace}
-use Rattle.heads.proofs.Passing.{count-good, count-broken}
+use Rattle.place_marks.specs.Places.{mostPlace}
+use Rattle.place_marks.proofs.Setting.{count-good, count-broken}
 use Rattle.firsts.proofs.Walks.{FirstsPass, pass-start, pass-marked, pass-fault, pass-more, pass-stop}
 use Rattle.firsts.proofs.firsts_order.Statement.{statement}
 use Rattle.firsts.proofs.firsts_order.Tie as tie

@@ -10,10 +10,10 @@ use Rattle.firsts.proofs.seek.Statement.{statement}
 use Rattle.firsts.proofs.seek.Tie as tie
 
 abbrev Inv-loop : tie.InvT-loop
-Inv-loop part sorted e at₀ number₀ at number = Passing part e (record { place = at; number = number })
+Inv-loop part sorted e here₀ here = Passing part e here
 
 abbrev μ-loop : tie.MeasureT-loop
-μ-loop part sorted e at₀ number₀ at number = length part - at
+μ-loop part sorted e here₀ here = length part - here .place
 
 first-record-requires : tie.Need-first-record-requires Inv-loop μ-loop
 first-record-requires c κs = search needs
@@ -34,54 +34,72 @@ latest-requires-2 c κs =
 loop-holds : tie.Need-loop-holds Inv-loop μ-loop
 loop-holds c = c .latest2 .ensures
 
-add-if2 : tie.Need-add-if2 Inv-loop μ-loop
-add-if2 c = search needs
+add-if3 : tie.Need-add-if3 Inv-loop μ-loop
+add-if3 c = search needs
 
-mul-if2 : tie.Need-mul-if2 Inv-loop μ-loop
-mul-if2 c = search needs
+mul-if3 : tie.Need-mul-if3 Inv-loop μ-loop
+mul-if3 c = search needs
 
-shared-slice-read-if2 : tie.Need-shared-slice-read-if2 Inv-loop μ-loop
-shared-slice-read-if2 c =
-    let l = c .before .before in
-    let x = from-here _ _ _ (l .loop .inv .from) (c .before .loop-test .taken) in
+shared-slice-read-if3 : tie.Need-shared-slice-read-if3 Inv-loop μ-loop
+shared-slice-read-if3 c =
+    let l = c .before .before .before in
+    let x = from-here _ _ _ (l .loop .inv .from) (omega arith) in
     omega (arith, x .low, x .fits)
 
 returns-2 : tie.Need-returns-2 Inv-loop μ-loop
-returns-2 c = c .before .before .before .loop .inv
+returns-2 c = c .before .before .before .before .loop .inv
 
-add-at : tie.Need-add-at Inv-loop μ-loop
-add-at c = search needs
+mul-n : tie.Need-mul-n Inv-loop μ-loop
+mul-n c = search needs
 
-mul-at : tie.Need-mul-at Inv-loop μ-loop
-mul-at c = search needs
+shared-slice-read-n : tie.Need-shared-slice-read-n Inv-loop μ-loop
+shared-slice-read-n c = search needs
 
-shared-slice-read-at : tie.Need-shared-slice-read-at Inv-loop μ-loop
-shared-slice-read-at c = search needs
+cast-n : tie.Need-cast-n Inv-loop μ-loop
+cast-n c =
+    let l = c .before .before .before .before .before in
+    let x = from-here _ _ _ (l .loop .inv .from) (omega arith) in
+    omega (arith, x .high)
 
-cast-at : tie.Need-cast-at Inv-loop μ-loop
-cast-at c =
-    let l = c .before .before .before .before in
-    omega (arith, from-here _ _ _ (l .loop .inv .from) (c .before .before .before .loop-test .taken) .high)
+add-t16 : tie.Need-add-t16 Inv-loop μ-loop
+add-t16 c =
+    let l = c .before .before .before .before .before in
+    let x = from-here _ _ _ (l .loop .inv .from) (omega arith) in
+    omega (arith, x .fits)
 
-add-at-2 : tie.Need-add-at-2 Inv-loop μ-loop
-add-at-2 c =
-    let l = c .before .before .before .before in
-    omega (arith, from-here _ _ _ (l .loop .inv .from) (c .before .before .before .loop-test .taken) .fits)
+add-t14 : tie.Need-add-t14 Inv-loop μ-loop
+add-t14 c =
+    let l = c .before .before .before .before .before in
+    let x = from-here _ _ _ (l .loop .inv .from) (omega arith) in
+    omega (arith, x .fits)
 
-add-number : tie.Need-add-number Inv-loop μ-loop
-add-number c = search needs
+add-pass-below : tie.Need-add-pass-below Inv-loop μ-loop
+add-pass-below c =
+    let l = c .before .before .before .before .before .before in
+    omega (arith, l .loop .inv .from .few)
+
+sub-pass-below : tie.Need-sub-pass-below Inv-loop μ-loop
+sub-pass-below c =
+    let l = c .before .before .before .before .before .before in
+    let x = from-here _ _ _ (l .loop .inv .from) (omega arith) in
+    omega (arith, x .fits)
+
+pass-below-requires : tie.Need-pass-below-requires Inv-loop μ-loop
+pass-below-requires c κs =
+    let l = c .before .before .before .before .before .before in
+    let k = l .before .before .before in
+    let steady = known-steady _ _ _ _ (k .before .before .before .pre) (k .if1 .left) in
+    let x = from-here _ _ _ (l .loop .inv .from) (omega arith) in
+    (steady, passing-more _ _ _ _ steady (l .loop .inv) (omega arith) (c .before .before .if3 .left), x .low, omega (arith, x .fits))
 
 loop-less : tie.Need-loop-less Inv-loop μ-loop
-loop-less c = search needs
+loop-less c = omega (arith, c .pass-below .ensures .1)
 
 loop-again : tie.Need-loop-again Inv-loop μ-loop
-loop-again c =
-    let l = c .before .before .before .before in
-    let k = l .before .before .before in
-    passing-more _ _ _ _ (known-steady _ _ _ _ (k .before .before .before .pre) (k .if1 .left)) (l .loop .inv) (c .before .before .before .loop-test .taken) (c .before .if2 .left)
+loop-again c = c .pass-below .ensures .0
 
 returns-3 : tie.Need-returns-3 Inv-loop μ-loop
-returns-3 c = c .before .loop .inv
+returns-3 c = c .before .before .loop .inv
 
 pub seek-spec : {M : Type 1} → statement M
 seek-spec =
@@ -94,16 +112,18 @@ seek-spec =
     latest-requires
     latest-requires-2
     loop-holds
-    add-if2
-    mul-if2
-    shared-slice-read-if2
+    add-if3
+    mul-if3
+    shared-slice-read-if3
     returns-2
-    add-at
-    mul-at
-    shared-slice-read-at
-    cast-at
-    add-at-2
-    add-number
+    mul-n
+    shared-slice-read-n
+    cast-n
+    add-t16
+    add-t14
+    add-pass-below
+    sub-pass-below
+    pass-below-requires
     loop-less
     loop-again
     returns-3)

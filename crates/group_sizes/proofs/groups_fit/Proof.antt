@@ -8,7 +8,7 @@ use borrow.Author.Needs.{needs}
 use Rattle.table.specs.Layout.{mostGroups}
 use Rattle.table.specs.GroupPart.{groupsIn}
 use Rattle.table.proofs.Lookups.{false-true}
-use Rattle.halving.specs.Halving.{Apart}
+use Rattle.apart.specs.Apart.{Apart}
 use Rattle.sections.specs.Known.{GroupsApart}
 use Rattle.group_sizes.specs.Walk.{groupsWithin, groupSize, groupPairs}
 use Rattle.group_sizes.proofs.GroupLaws.{groups-end, groups-more, groups-none, groups-full, group-fits, both-true}

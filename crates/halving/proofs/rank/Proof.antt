@@ -1,7 +1,8 @@
 -- `halving::rank` meets its contract, by the laws of a search by halves.
 use Prim.Native.Nat.{_/_}
 use native.Mathlib.Omega.{arith}
-use Rattle.halving.proofs.Halves.{positive, if-most-least, Halving, halving-start, none-ranked, middle-fits, low-fits, halving-on, halving-stop}
+use Rattle.apart.specs.Entries.{positive}
+use Rattle.halving.proofs.Halves.{if-most-least, Halving, halving-start, none-ranked, middle-fits, low-fits, halving-on, halving-stop}
 use borrow.Author.Needs.{needs}
 use Rattle.halving.proofs.rank.Statement.{statement}
 use Rattle.halving.proofs.rank.Tie as tie

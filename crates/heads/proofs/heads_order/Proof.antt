@@ -6,7 +6,8 @@ use mathlib.Core.Path.{refl, _∙_}
 use mathlib.Core.Logic.{⊎-elim, inl, inr}
 use lib.ListN.{length, getD}
 use Rattle.heads.specs.Walk.{HeadsPass}
-use Rattle.heads.proofs.Passing.{count-good, count-broken, pass-start, pass-marked, pass-fault, pass-stop}
+use Rattle.place_marks.proofs.Setting.{count-good, count-broken}
+use Rattle.heads.proofs.Passing.{pass-start, pass-marked, pass-fault, pass-stop}
 use Rattle.heads.proofs.heads_order.Statement.{statement}
 use Rattle.heads.proofs.heads_order.Tie as tie
 

@@ -1,10 +1,10 @@
 -- `keccak256`: the digest of a fresh sponge that took the slice.
 use mathlib.Core.Path.{ap, _∙_}
 use borrow.Author.Needs.{needs}
-use Rattle.keccak.specs.declared.sponge.Keccak256.{Keccak256}
-use Rattle.keccak.specs.State.{absorbed, digested}
+use Rattle.keccak_sponge.specs.declared.Keccak256.{Keccak256}
+use Rattle.keccak_sponge.specs.State.{absorbed, digested}
 use Rattle.keccak.specs.Promise.{whole}
-use Rattle.keccak.proofs.Taking.{all-bytes}
+use Rattle.keccak.proofs.AllBytes.{all-bytes}
 use Rattle.keccak.proofs.keccak256.Statement.{statement}
 use Rattle.keccak.proofs.keccak256.Tie as tie
 

@@ -4,7 +4,7 @@ use mathlib.Core.Path.{sym, ap, _∙_}
 use lib.ListN.{length}
 use lib.Seq.{length-take-le}
 use borrow.Author.Needs.{needs}
-use Rattle.keccak.specs.State.{absorbed}
+use Rattle.keccak_sponge.specs.State.{absorbed}
 use Rattle.name_node.proofs.Writing.{one-room, one-written, one-only}
 use Rattle.name_node.proofs.absorb_one.Statement.{statement}
 use Rattle.name_node.proofs.absorb_one.Tie as tie

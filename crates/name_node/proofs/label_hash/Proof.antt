@@ -6,7 +6,7 @@ use mathlib.Core.List.{List}
 use lib.ListN.{length, take}
 use lib.Seq.{take-all}
 use borrow.Author.Needs.{needs}
-use Rattle.keccak.specs.State.{fresh, absorbed, digested}
+use Rattle.keccak_sponge.specs.State.{fresh, absorbed, digested}
 use Rattle.keccak.specs.Promise.{whole}
 use Rattle.name_node.specs.Node.{octetsOf}
 use Rattle.name_node.specs.Octets.{text-bytes}

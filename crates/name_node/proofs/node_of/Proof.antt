@@ -6,7 +6,7 @@ use mathlib.Core.List.{List}
 use lib.ListN.{length, length-take}
 use lib.Seq.{length-take-le}
 use borrow.Author.Needs.{needs}
-use Rattle.keccak.specs.Sponge.{keccak256}
+use Rattle.keccak_bytes.specs.Sponge.{keccak256}
 use Rattle.name_node.specs.Node.{octetsOf}
 use Rattle.buffers.proofs.Parts.{mid-tail}
 use Rattle.table.proofs.Lookups.{drop-take}

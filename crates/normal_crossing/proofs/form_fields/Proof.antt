@@ -1,6 +1,6 @@
 -- `form_fields`: each arm's struct has the values of its case.
 use mathlib.Core.Path.{sym, ap}
-use Rattle.normal_forms.specs.Forms.{formValues}
+use Rattle.full_decomposition.specs.Within.{formValues}
 use borrow.Author.Needs.{needs}
 use Rattle.normal_crossing.proofs.form_fields.Statement.{statement}
 use Rattle.normal_crossing.proofs.form_fields.Tie as tie

@@ -5,8 +5,9 @@ use lib.Seq.{length-take-le}
 use denote.Ref.{now}
 use Rattle.table.specs.Layout.{theTable}
 use Rattle.text.specs.Composition.{nfc}
-use Rattle.normal_forms.specs.Promise.{Ordered}
-use Rattle.normal_forms.proofs.Answer.{fault-stands, refused-stands, standing-formed, ordered-ready, composed-stands}
+use Rattle.full_decomposition.specs.Promise.{Ordered}
+use Rattle.full_decomposition.proofs.Placing.{standing-formed, ordered-ready}
+use Rattle.normal_forms.proofs.Answer.{fault-stands, refused-stands, composed-stands}
 use borrow.Author.Needs.{needs}
 use Rattle.normal_forms.proofs.nfc_front.Statement.{statement}
 use Rattle.normal_forms.proofs.nfc_front.Tie as tie

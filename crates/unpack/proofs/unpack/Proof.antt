@@ -1,7 +1,7 @@
 -- `unpack`: each return is one law of an answer.
 use native.Mathlib.Omega.{arith}
 use denote.Ref.{now}
-use Rattle.unpack.specs.Promise.{Holds}
+use Rattle.file_words.specs.Promise.{Holds}
 use Rattle.unpack.proofs.Answer.{holds-rest, found-words, file-refused, room-refused, words-put}
 use borrow.Author.Needs.{needs}
 use Rattle.unpack.proofs.unpack.Statement.{statement}

@@ -1,5 +1,7 @@
 -- `finder::emoji::find` meets its contract: what is found in the emoji section is what the table has.
 use native.Mathlib.Omega.{arith}
+use mathlib.Core.Path.{sym}
+use lib.Seq.{length-take-le}
 use borrow.Author.Needs.{needs}
 use Rattle.sections.proofs.SectionLaws.{laid-fits}
 use Rattle.finder.proofs.FindingLaws.{found-at, found-nothing}
@@ -32,18 +34,28 @@ find-in-requires c κs = c .before .before .before .before .before .before .pre 
 enum-known-m : tie.Need-enum-known-m
 enum-known-m c = search needs
 
-add-t20 : tie.Need-add-t20
-add-t20 c =
+slice-aggregate-selectors-in : tie.Need-slice-aggregate-selectors-in
+slice-aggregate-selectors-in c =
     let d = c .before .before in
     let b = d .before .before .before .before .before .before .before .before .before in
-    let r = found-at _ _ (b .pre) _ _ (d .before .before .find-in .ensures) _ _ _ _ (d .m .given .1) in
+    let r = found-at _ _ (b .pre) _ _ (d .before .before .find-in .ensures) _ _ _ (d .m .given .1) in
+    sym (length-take-le _ _ (r .takes .1))
+
+selectors-in-requires : tie.Need-selectors-in-requires
+selectors-in-requires c κs = search needs
+
+add-t22 : tie.Need-add-t22
+add-t22 c =
+    let d = c .before .before .before .before in
+    let b = d .before .before .before .before .before .before .before .before .before in
+    let r = found-at _ _ (b .pre) _ _ (d .before .before .find-in .ensures) _ _ _ (d .m .given .1) in
     omega (arith, b .good .0, r .fits .ordered, r .fits .inside)
 
-add-t21 : tie.Need-add-t21
-add-t21 c =
-    let d = c .before .before .before in
+add-t23 : tie.Need-add-t23
+add-t23 c =
+    let d = c .before .before .before .before .before in
     let b = d .before .before .before .before .before .before .before .before .before in
-    let r = found-at _ _ (b .pre) _ _ (d .before .before .find-in .ensures) _ _ _ _ (d .m .given .1) in
+    let r = found-at _ _ (b .pre) _ _ (d .before .before .find-in .ensures) _ _ _ (d .m .given .1) in
     omega (arith, b .good .0, r .fits .inside)
 
 enum-told : tie.Need-enum-told
@@ -51,9 +63,10 @@ enum-told c = search needs
 
 returns : tie.Need-returns
 returns c =
-    let d = c .before .before .before in
+    let d = c .before .before .before .before .before in
     let b = d .before .before .before .before .before .before .before .before .before in
-    found-at _ _ (b .pre) _ _ (d .before .before .find-in .ensures) _ _ _ _ (d .m .given .1)
+    let r = found-at _ _ (b .pre) _ _ (d .before .before .find-in .ensures) _ _ _ (d .m .given .1) in
+    rw (c .before .before .selectors-in .ensures) r
 
 returns-2 : tie.Need-returns-2
 returns-2 c =
@@ -70,8 +83,10 @@ find-spec =
     part-find-in-end
     find-in-requires
     enum-known-m
-    add-t20
-    add-t21
+    slice-aggregate-selectors-in
+    selectors-in-requires
+    add-t22
+    add-t23
     enum-told
     returns
     returns-2)

@@ -5,18 +5,21 @@ use mathlib.Core.Logic.{⊎-elim}
 use lib.ListN.{length}
 use borrow.Author.Needs.{needs}
 use borrow.Author.Tests.{eqb-true, eqb-false}
-use Rattle.finder.proofs.Taking.{Walk, walk-start, more-selector, more-same, more-left, walk-fails, walk-end}
+use Rattle.finder.proofs.Taking.{Walk, walk-shared, more-equal, more-left, walk-fails, walk-end}
 use Rattle.finder.proofs.emoji.takes.Tie as tie
 use Rattle.finder.proofs.emoji.takes.Statement.{statement}
 
 abbrev Inv-loop : tie.InvT-loop
-Inv-loop seq rest i₀ at₀ selectors₀ i at selectors = Walk seq rest i at selectors
+Inv-loop seq rest i₀ at₀ i at = Walk seq rest i at
 
 abbrev μ-loop : tie.MeasureT-loop
-μ-loop seq rest i₀ at₀ selectors₀ i at selectors = length seq - i
+μ-loop seq rest i₀ at₀ i at = length seq - i
+
+shared-requires : tie.Need-shared-requires Inv-loop μ-loop
+shared-requires c κs = search needs
 
 loop-holds : tie.Need-loop-holds Inv-loop μ-loop
-loop-holds c = walk-start _ _
+loop-holds c = walk-shared _ _ _ (c .shared .ensures)
 
 mul-e : tie.Need-mul-e Inv-loop μ-loop
 mul-e c = search needs
@@ -36,27 +39,20 @@ shared-slice-read-if2 c = search needs
 add-at : tie.Need-add-at Inv-loop μ-loop
 add-at c = search needs
 
-add-selectors : tie.Need-add-selectors Inv-loop μ-loop
-add-selectors c = search needs
-
 loop-less : tie.Need-loop-less Inv-loop μ-loop
 loop-less c = search needs
 
 loop-again : tie.Need-loop-again Inv-loop μ-loop
 loop-again c =
-    let l = c .before .before .before .before .before .before in
-    let inside = c .before .before .before .before .before .loop-test .taken in
-    ⊎-elim
-    (λ w. rw (w .1) (more-selector _ _ _ _ _ (l .loop .inv) inside (c .before .before .before .if1 .taken, eqb-true _ _ (c .before .if2 .taken)) (w .0 .taken)))
-    (λ w. rw (w .1) (more-same _ _ _ _ _ (l .loop .inv) inside (c .before .before .before .if1 .taken, eqb-true _ _ (c .before .if2 .taken)) (w .0 .left)))
-    (c .if3 .came)
+    let l = c .before .before .before .before .before in
+    more-equal _ _ _ _ (l .loop .inv) (c .before .before .before .before .loop-test .taken) (c .before .before .if1 .taken, eqb-true _ _ (c .if2 .taken))
 
 returns : tie.Need-returns Inv-loop μ-loop
 returns c =
     let l = c .before .before .before .before in
-    walk-fails _ _ _ _ _ (l .loop .inv) (c .before .before .before .loop-test .taken)
+    walk-fails _ _ _ _ (l .loop .inv) (c .before .before .before .loop-test .taken)
     (λ n. ⊎-elim (λ w. eqb-false _ _ (w .2 .left) (n .1)) (λ w. omega arith) (c .before .if1 .came))
-    (c .if4 .taken)
+    (c .if3 .taken)
 
 loop-less-2 : tie.Need-loop-less-2 Inv-loop μ-loop
 loop-less-2 c = search needs
@@ -64,12 +60,12 @@ loop-less-2 c = search needs
 loop-again-2 : tie.Need-loop-again-2 Inv-loop μ-loop
 loop-again-2 c =
     let l = c .before .before .before .before in
-    more-left _ _ _ _ _ (l .loop .inv) (c .before .before .before .loop-test .taken)
+    more-left _ _ _ _ (l .loop .inv) (c .before .before .before .loop-test .taken)
     (λ n. ⊎-elim (λ w. eqb-false _ _ (w .2 .left) (n .1)) (λ w. omega arith) (c .before .if1 .came))
-    (c .if4 .left)
+    (c .if3 .left)
 
 returns-2 : tie.Need-returns-2 Inv-loop μ-loop
-returns-2 c = walk-end _ _ _ _ _ (c .before .loop .inv) (c .loop-test .left)
+returns-2 c = walk-end _ _ _ _ (c .before .loop .inv) (c .loop-test .left)
 
 pub takes-spec : {M : Type 1} → statement M
 takes-spec =
@@ -77,6 +73,7 @@ takes-spec =
     (tie.spec
     Inv-loop
     μ-loop
+    shared-requires
     loop-holds
     mul-e
     shared-slice-read-e
@@ -84,7 +81,6 @@ takes-spec =
     mul-if2
     shared-slice-read-if2
     add-at
-    add-selectors
     loop-less
     loop-again
     returns

@@ -1,4 +1,4 @@
--- `rule_4::rule4::same_stripped` meets its contract, item by item.
+-- `rule_4::rule4::same_stripped` meets its contract, item by item behind the shared start.
 use Prim.Native.Nat.{_-_}
 use lib.ListN.{length}
 use Rattle.rule_4.proofs.StripLaws.{Aligned, align-start, align-short, align-differ, align-on, align-done}
@@ -8,20 +8,23 @@ use Rattle.rule_4.proofs.rule4.same_stripped.Statement.{statement}
 use Rattle.rule_4.proofs.rule4.same_stripped.Tie as tie
 
 abbrev Inv-loop : tie.InvT-loop
-Inv-loop a b i₀ j₀ i j = Aligned a b i j
+Inv-loop a b k i₀ j₀ i j = Aligned a b i j
 
 abbrev μ-loop : tie.MeasureT-loop
-μ-loop a b i₀ j₀ i j = length a - i
+μ-loop a b k i₀ j₀ i j = length a - i
+
+shared-requires : tie.Need-shared-requires Inv-loop μ-loop
+shared-requires c κs = search needs
 
 next-item-requires : tie.Need-next-item-requires Inv-loop μ-loop
-next-item-requires c κs = search needs
+next-item-requires c κs = c .shared .ensures .left
 
 next-item-requires-2 : tie.Need-next-item-requires-2 Inv-loop μ-loop
-next-item-requires-2 c κs = search needs
+next-item-requires-2 c κs = c .before .shared .ensures .right
 
 loop-holds : tie.Need-loop-holds Inv-loop μ-loop
 loop-holds c =
-    align-start _ _ (c .before .next-item .result) (c .next-item2 .result) (c .before .next-item .ensures) (c .next-item2 .ensures)
+    align-start _ _ (c .before .next-item .result) (c .next-item2 .result) (c .before .before .shared .result) (c .before .before .shared .ensures .same) (c .before .next-item .ensures) (c .next-item2 .ensures)
 
 returns : tie.Need-returns Inv-loop μ-loop
 returns c =
@@ -71,6 +74,7 @@ same-stripped-spec =
     (tie.spec
     Inv-loop
     μ-loop
+    shared-requires
     next-item-requires
     next-item-requires-2
     loop-holds

@@ -3,7 +3,7 @@ use native.Mathlib.Omega.{arith}
 use mathlib.Core.Path.{sym, _∙_}
 use borrow.Author.Needs.{needs}
 use borrow.Author.Tests.{not-true, not-false}
-use Rattle.unpaired.proofs.Entering.{bounds-all, bounds-none, bounds-slot}
+use Rattle.unpaired.proofs.Asking.{bounds-all, bounds-none, bounds-slot}
 use Rattle.unpaired.proofs.index.bounds_of.Statement.{statement}
 use Rattle.unpaired.proofs.index.bounds_of.Tie as tie
 

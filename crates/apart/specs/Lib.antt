@@ -1,0 +1,4 @@
+pub mod Order
+pub mod Apart
+pub mod Entries
+pub mod Tested

@@ -1,0 +1,2 @@
+pub mod FileWords
+pub mod Promise

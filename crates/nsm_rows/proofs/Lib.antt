@@ -1,0 +1,4 @@
+pub mod Pouring
+pub mod ReadingLaws
+pub mod Rounding
+pub mod Filing
