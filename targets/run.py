@@ -40,7 +40,7 @@ LIBC = {"aarch64-linux-gnu-gcc": "libc6-dev-arm64-cross", "arm-linux-gnueabihf-g
 
 # Where two codepoints are left side by side (docs/STACK.md): `pairs::pair_of` has those that composing looks up at hand while it copies
 # the places of the table's sections, and writes them to its frame one behind the other.
-SIDE_BY_SIDE = ("aarch64-unknown-none", "riscv32", "thumbv6m")
+SIDE_BY_SIDE = ("armv7a-none-eabihf", "riscv32")
 
 
 def left_most(machine):
