@@ -4,7 +4,7 @@ use mathlib.Core.Path.{_≡_}
 use mathlib.Core.List.{List}
 use lib.ListN.{length, take}
 
--- the first k of both are the same
+-- the first k of both are the same; whether more are is left open
 pub record Shared (a b : List ℕ) (k : ℕ) : Type 0 where
   pub left : k ≤ length a
   pub right : k ≤ length b

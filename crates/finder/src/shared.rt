@@ -1,7 +1,7 @@
 // The start that two texts have in common.
 ghost use Rattle.finder.specs.Shared.{Shared};
 
-// How many items of a and b are the same, from the first on.
+// So many items of a and b, from the first on, are the same. That no more are is not promised: fewer would cost time and no answer.
 pub fn shared(a: &[u32], b: &[u32]) -> usize
     ensures { λ r. ⌜ Shared (now (a .entry)) (now (b .entry)) r ⌝ }
 {

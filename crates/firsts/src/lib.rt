@@ -140,7 +140,7 @@ fn latest(part: &[u32], found: Start, places: Four, numbers: Four, e: u32) -> St
 }
 
 // Passes the records of n items from `from` on whose first item is below e, up to the first of another count, or the first that stands at
-// `stop` or behind it. The place of the next one is then known before the count of this one is read.
+// `stop` or behind it; that it goes so far is not promised. The place of the next one is then known before the count of this one is read.
 fn pass_below(part: &[u32], from: Start, n: usize, stop: usize, e: u32) -> Start
     requires { ⌜ FirstsSteady (now part) × Passing (now part) e from × (1 ≤ n) × (stop + n ≤ length (now part)) ⌝ }
     ensures { λ r. ⌜ Passing (now (part .entry)) e r × (from .place ≤ r .place) ⌝ }
