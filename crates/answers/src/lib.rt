@@ -4,14 +4,14 @@ ghost use Rattle.answers.specs.Restriction.{barred};
 ghost use Rattle.answers.specs.Values.{number_of, place_of, name_values, label_values};
 
 // A group's number, counted from 0, and whether it is restricted.
-#[derive(Drop)]
+#[derive(Clone, Copy)]
 pub struct GroupKind {
     pub number: usize,
     pub restricted: bool,
 }
 
 // What a label consists of.
-#[derive(Drop)]
+#[derive(Clone, Copy)]
 pub enum Kind {
     Emoji,
     Ascii,
@@ -20,7 +20,7 @@ pub enum Kind {
 
 // Why a name or a label is refused. A case that carries a number carries its place: an index of
 // the input for the first two, the number of the label for the others.
-#[derive(Drop)]
+#[derive(Clone, Copy)]
 pub enum Refusal {
     LayoutFault,
     WorkAreaTooSmall,
@@ -42,28 +42,28 @@ pub enum Refusal {
 }
 
 // The name call: the length of the answer and the number of labels.
-#[derive(Drop)]
+#[derive(Clone, Copy)]
 pub enum NameAnswer {
     Accepted { length: usize, labels: usize },
     Refused(Refusal),
 }
 
 // The label call: the length of the answer and the label's kind.
-#[derive(Drop)]
+#[derive(Clone, Copy)]
 pub enum LabelAnswer {
     Accepted { length: usize, kind: Kind },
     Refused(Refusal),
 }
 
 // The soundness check: the lowest rule that is broken, 0 for a layout fault.
-#[derive(Drop)]
+#[derive(Clone, Copy)]
 pub enum Soundness {
     Sound,
     Broken(u32),
 }
 
 // Unpacking a table file: the number of words.
-#[derive(Drop)]
+#[derive(Clone, Copy)]
 pub enum Unpacked {
     Words(usize),
     WrongVersion,

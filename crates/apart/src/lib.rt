@@ -9,7 +9,7 @@ ghost use Rattle.apart.specs.Apart.{Apart, order_if};
 const MOST_CLASS: u32 = 255;
 
 // How the entries of a section stand.
-#[derive(Drop)]
+#[derive(Clone, Copy)]
 pub enum Order {
     Fault,
     AsGiven,

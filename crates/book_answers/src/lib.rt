@@ -3,7 +3,7 @@ use answers::Refusal;
 use book_slots::Account;
 
 // What a call answers: that it is done, or why not. The refusals of the name call are a case of their own.
-#[derive(Drop)]
+#[derive(Clone, Copy)]
 pub enum BookAnswer {
     Done,
     OtherSize,
@@ -16,7 +16,7 @@ pub enum BookAnswer {
 }
 
 // What find answers; the account is zeros beside a refusal.
-#[derive(Drop)]
+#[derive(Clone, Copy)]
 pub struct FindAnswer {
     pub answer: BookAnswer,
     pub account: Account,

@@ -10,7 +10,7 @@ use book_slots::Account;
 
 // The refusal number, 0 where there is none, and its place.
 #[repr(C)]
-#[derive(Drop)]
+#[derive(Clone, Copy)]
 pub struct WanlophengBook {
     pub number: u32,
     pub place: usize,
@@ -18,7 +18,7 @@ pub struct WanlophengBook {
 
 // The same and the account, zeros beside a refusal.
 #[repr(C)]
-#[derive(Drop)]
+#[derive(Clone, Copy)]
 pub struct WanlophengFound {
     pub number: u32,
     pub place: usize,

@@ -8,7 +8,7 @@ use book_damage::is_damaged;
 use book_slots::{AREA, FORM, FRONT, SLOTS};
 
 // What the area is.
-#[derive(Drop)]
+#[derive(Clone, Copy)]
 pub enum Opening {
     OtherSize,
     Damaged,
@@ -16,7 +16,7 @@ pub enum Opening {
 }
 
 // A refusal, or the length of the form that stands in front of the answer buffer.
-#[derive(Drop)]
+#[derive(Clone, Copy)]
 pub enum Filing {
     Refused(BookAnswer),
     Form(usize),

@@ -15,7 +15,7 @@ pub const FORM: usize = 255;
 
 // The account of a payee.
 #[repr(C)]
-#[derive(Drop)]
+#[derive(Clone, Copy)]
 pub struct Account {
     pub words: [u32; 8],
 }

@@ -8,7 +8,7 @@ ghost use Rattle.book_slots.specs.Walks.{place_is};
 use crate::SLOT;
 
 // The number of a slot, from 0.
-#[derive(Drop)]
+#[derive(Clone, Copy)]
 pub enum Spot {
     At(usize),
     Nothing,

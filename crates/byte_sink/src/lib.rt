@@ -7,7 +7,7 @@ ghost use Rattle.byte_sink.specs.Sinks.{Adds};
 use numerals::digit_byte;
 
 // How far the bytes have come, and whether one found no room: from there on nothing is stored.
-#[derive(Drop)]
+#[derive(Clone, Copy)]
 pub struct Sink {
     pub at: usize,
     pub full: bool,

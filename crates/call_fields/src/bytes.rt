@@ -11,7 +11,7 @@ use utf8::{ReadAnswer, WriteAnswer};
 
 // The refusal number, 0 where there is none, its place, and the number of elements that were read or written.
 #[repr(C)]
-#[derive(Drop)]
+#[derive(Clone, Copy)]
 pub struct WanlophengUtf8 {
     pub number: u32,
     pub place: usize,

@@ -7,7 +7,7 @@ use emoji_call::EmojiAnswer;
 
 // The refusal number, 1 where an emoji is found, how much of the part it takes, the number of its record from 0, and the FE0F that it takes.
 #[repr(C)]
-#[derive(Drop)]
+#[derive(Clone, Copy)]
 pub struct WanlophengEmoji {
     pub number: u32,
     pub found: u32,

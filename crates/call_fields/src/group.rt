@@ -7,7 +7,7 @@ use answers::{number_of, place_of};
 use groups::{GroupAnswer, GroupFound};
 
 // A group that was found, 1 with its number and 1 for each of its flags that is set; 0 throughout where none was.
-#[derive(Drop)]
+#[derive(Clone, Copy)]
 pub struct FoundNumbers {
     pub found: u32,
     pub group: usize,
@@ -18,7 +18,7 @@ pub struct FoundNumbers {
 // The number of the refusal or 0, its place, the group that was found with its flags, and how often it was asked whether a group holds a
 // character.
 #[repr(C)]
-#[derive(Drop)]
+#[derive(Clone, Copy)]
 pub struct WanlophengGroup {
     pub number: u32,
     pub place: usize,

@@ -15,7 +15,7 @@ use table::Span;
 use table::lookup::{counted, group_at};
 
 // Where the records of a group's list stand, if it has one.
-#[derive(Drop)]
+#[derive(Clone, Copy)]
 struct GroupList {
     listed: bool,
     records: Span,

@@ -13,7 +13,7 @@ use text::hangul;
 
 // What a single replacement puts in the place of a codepoint: nothing else, the items that stand at a place of the table, or the jamo of a
 // syllable, counted from 0. They are read one by one: what is copied stays on the stack.
-#[derive(Drop)]
+#[derive(Clone, Copy)]
 pub enum Replacement {
     Itself,
     Items(Span),
@@ -21,7 +21,7 @@ pub enum Replacement {
 }
 
 // At most four codepoints: the first `count` of the items.
-#[derive(Drop)]
+#[derive(Clone, Copy)]
 pub struct Parts {
     pub count: usize,
     pub items: [u32; 4],

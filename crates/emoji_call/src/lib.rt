@@ -6,7 +6,7 @@ use finder::emoji::{Match, find};
 use sections::Layout;
 
 // Why there is no answer, no match, or the match: how much of the part it takes, the number of its record from 0, and how many FE0F it takes.
-#[derive(Drop)]
+#[derive(Clone, Copy)]
 pub enum EmojiAnswer {
     LayoutFault,
     Nothing,

@@ -6,7 +6,7 @@ ghost use Rattle.fields.specs.Fields.{unpack_fields, name_fields, label_fields, 
 use answers::{Kind, LabelAnswer, NameAnswer, Soundness, Unpacked, number_of, place_of};
 
 // A kind: 1 emoji, 2 ASCII, 3 a group with its number and 1 where it is restricted; other fields are 0.
-#[derive(Drop)]
+#[derive(Clone, Copy)]
 pub struct KindNumbers {
     pub kind: u32,
     pub group: usize,
@@ -15,7 +15,7 @@ pub struct KindNumbers {
 
 // The unpack call: the refusal number, 0 where the file is unpacked, and the number of words.
 #[repr(C)]
-#[derive(Drop)]
+#[derive(Clone, Copy)]
 pub struct WanlophengUnpack {
     pub number: u32,
     pub count: usize,
@@ -23,7 +23,7 @@ pub struct WanlophengUnpack {
 
 // The name call: the number of the refusal or 0, its place, the length of the answer and the number of labels.
 #[repr(C)]
-#[derive(Drop)]
+#[derive(Clone, Copy)]
 pub struct WanlophengName {
     pub number: u32,
     pub place: usize,
@@ -34,7 +34,7 @@ pub struct WanlophengName {
 // The label call: the number of the refusal or 0, its place, the length of the answer, and the kind with its group; the kind is 0 beside a
 // refusal.
 #[repr(C)]
-#[derive(Drop)]
+#[derive(Clone, Copy)]
 pub struct WanlophengLabel {
     pub number: u32,
     pub place: usize,
@@ -46,7 +46,7 @@ pub struct WanlophengLabel {
 
 // The soundness check: 1 where the table is sound, else 0 and the lowest broken rule, which is 0 for a layout fault.
 #[repr(C)]
-#[derive(Drop)]
+#[derive(Clone, Copy)]
 pub struct WanlophengSoundness {
     pub sound: u32,
     pub rule: u32,

@@ -2,7 +2,7 @@
 ghost use Rattle.file_versions.specs.Versions.{Lacks};
 
 // How many sections a file lacks, by its version.
-#[derive(Drop)]
+#[derive(Clone, Copy)]
 pub enum Lacking {
     Sections(usize),
     NotNamed,

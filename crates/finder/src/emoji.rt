@@ -14,14 +14,14 @@ use table::Span;
 use table::lookup::counted;
 
 // What a sequence takes of an input: so many codepoints.
-#[derive(Drop)]
+#[derive(Clone, Copy)]
 pub enum Taking {
     Whole { length: usize },
     Nothing,
 }
 
 // A match: the number of the record, where its sequence stands, how many codepoints it takes and how many FE0F are among them.
-#[derive(Drop)]
+#[derive(Clone, Copy)]
 pub enum Match {
     Found {
         number: usize,
@@ -33,7 +33,7 @@ pub enum Match {
 }
 
 // A match whose FE0F are not counted yet.
-#[derive(Drop)]
+#[derive(Clone, Copy)]
 pub enum Uncounted {
     Found {
         number: usize,

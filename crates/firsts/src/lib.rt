@@ -23,14 +23,14 @@ const MOST_ITEMS: usize = 32;
 const MOST_PLACE: usize = 4294967295;
 
 // A record of the section: its place, and its number, counted from 0.
-#[derive(Drop)]
+#[derive(Clone, Copy)]
 pub struct Start {
     pub place: usize,
     pub number: usize,
 }
 
 // What the walk over the section finds.
-#[derive(Drop)]
+#[derive(Clone, Copy)]
 pub struct FirstsOrder {
     pub order: Order,
     pub places: Marks,

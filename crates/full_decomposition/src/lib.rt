@@ -10,7 +10,7 @@ use limits::MOST_WORKED;
 use sections::Sections;
 
 // The length of the form, or why there is none.
-#[derive(Drop)]
+#[derive(Clone, Copy)]
 pub enum FormAnswer {
     Formed(usize),
     LayoutFault,

@@ -18,14 +18,14 @@ ghost use Rattle.group_sizes.specs.Walk.{end_at, GroupSized, groups_within};
 ghost use Rattle.group_sizes.specs.Sees.{Sees};
 
 // What is seen of a section: whether it is well formed, and whether it is sorted.
-#[derive(Drop)]
+#[derive(Clone, Copy)]
 pub struct Seen {
     pub fits: bool,
     pub sorted: bool,
 }
 
 // The number of words of a group, or 0 where there is none, and whether its pairs are sorted.
-#[derive(Drop)]
+#[derive(Clone, Copy)]
 struct GroupSeen {
     size: usize,
     sorted: bool,

@@ -16,7 +16,7 @@ use sections::{Layout, Sections};
 use table::lookup::group_at;
 
 // The first group that holds a text: its number and its flags.
-#[derive(Drop)]
+#[derive(Clone, Copy)]
 pub enum GroupFound {
     At {
         number: usize,
@@ -27,14 +27,14 @@ pub enum GroupFound {
 }
 
 // What the search answers: the group, and how often it was asked whether a group holds a character.
-#[derive(Drop)]
+#[derive(Clone, Copy)]
 pub struct GroupSearch {
     pub found: GroupFound,
     pub asked: usize,
 }
 
 // What the call answers.
-#[derive(Drop)]
+#[derive(Clone, Copy)]
 pub enum GroupAnswer {
     Searched(GroupSearch),
     Refused(Refusal),

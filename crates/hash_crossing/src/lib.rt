@@ -7,7 +7,7 @@ use keccak_bytes::Digest;
 
 // What the name call answers, and the hash of its answer: 32 zero bytes beside a refusal.
 #[repr(C)]
-#[derive(Drop)]
+#[derive(Clone, Copy)]
 pub struct WanlophengNamehash {
     pub name: WanlophengName,
     pub node: Digest,

@@ -10,14 +10,14 @@ use apart::Order;
 use place_marks::{Marks, count_fits, no_marks, order_of, with_mark};
 
 // What the walk over a section finds.
-#[derive(Drop)]
+#[derive(Clone, Copy)]
 pub struct HeadsOrder {
     pub order: Order,
     pub marks: Marks,
 }
 
 // How far a walk has come: its place, a number below which no later head may be, and whether the heads ascend so far.
-#[derive(Drop)]
+#[derive(Clone, Copy)]
 struct HeadsWalk {
     at: usize,
     floor: u64,

@@ -5,7 +5,7 @@ ghost use Rattle.keccak_bytes.specs.XorByte.{xor_byte};
 
 // The digest.
 #[repr(C)]
-#[derive(Drop)]
+#[derive(Clone, Copy)]
 pub struct Digest {
     pub bytes: [u8; 32],
 }

@@ -15,7 +15,7 @@ const LAST: u8 = 0x80;
 
 // The lanes, and how many bytes of the next block are in them: counted modulo 136.
 #[repr(C)]
-#[derive(Drop)]
+#[derive(Clone, Copy)]
 pub struct Keccak256 {
     pub lanes: [u64; 25],
     pub fill: usize,

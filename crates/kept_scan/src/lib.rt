@@ -24,7 +24,7 @@ use tokens::single::{Single, alone};
 
 // What is laid down so far, its worked length, and the class of the last codepoint of the running text, 0 where there is none; once `fine` is
 // false, the scan is given up.
-#[derive(Drop)]
+#[derive(Clone, Copy)]
 pub struct Held {
     pub run: Run,
     pub worked: usize,
@@ -33,14 +33,14 @@ pub struct Held {
 }
 
 // What one step gave, and how much of the label it took.
-#[derive(Drop)]
+#[derive(Clone, Copy)]
 pub struct Took {
     pub taken: usize,
     pub held: Held,
 }
 
 // What the scan gives: nothing, or the number of codepoints that stand in the work area, and the tally of the tokens.
-#[derive(Drop)]
+#[derive(Clone, Copy)]
 pub enum Kept {
     No,
     Tokens { count: usize, tally: Tally },

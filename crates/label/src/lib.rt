@@ -5,7 +5,7 @@ pub mod cells;
 pub mod judging;
 
 // The verdict on the tokens of a label.
-#[derive(Drop)]
+#[derive(Clone, Copy)]
 pub enum Judged {
     Accepted(Kind),
     Refused(Refusal),

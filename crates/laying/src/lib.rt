@@ -18,7 +18,7 @@ use table::Span;
 
 // What is laid down so far: the number of codepoints, whether there are emoji and text, and the tag of the next codepoint of text. A number over
 // MOST_WORKED says that they are over, and not by how much: nothing is decomposed or laid down any more.
-#[derive(Drop)]
+#[derive(Clone, Copy)]
 pub struct Run {
     pub worked: usize,
     pub emoji: bool,

@@ -7,14 +7,14 @@ ghost use Rattle.line_reading.specs.Reading.{first_at};
 use crate::MOST_LINE;
 
 // What a word of a line is read as.
-#[derive(Drop)]
+#[derive(Clone, Copy)]
 pub enum Number {
     Value(u32),
     Unreadable,
 }
 
 // What a line is read as: so many numbers.
-#[derive(Drop)]
+#[derive(Clone, Copy)]
 pub enum Line {
     Numbers(usize),
     Unreadable,

@@ -7,7 +7,7 @@ use line_writing::write_word;
 
 // What a piece of input gives: a line that ended in it, with the number of the piece's bytes that are used up; or the length of the
 // line so far, where none ended.
-#[derive(Drop)]
+#[derive(Clone, Copy)]
 pub enum Taken {
     Line { length: usize, used: usize },
     Part(usize),

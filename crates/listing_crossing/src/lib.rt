@@ -12,7 +12,7 @@ use respelled::{RespelledAnswer, respelled};
 
 // The refusal number, 0 where there is none, its place, and the number of entries, 0 beside a refusal.
 #[repr(C)]
-#[derive(Drop)]
+#[derive(Clone, Copy)]
 pub struct WanlophengList {
     pub number: u32,
     pub place: usize,

@@ -9,7 +9,7 @@ use name::labels::put_label;
 use refiled::Change;
 
 // What the call answers: how many entries stand in the list, or why there are none.
-#[derive(Drop)]
+#[derive(Clone, Copy)]
 pub enum MovedAnswer {
     Listed(usize),
     OtherSize,

@@ -10,14 +10,14 @@ use scalar::is_scalar;
 use sections::{Layout, Sections};
 
 // Where a codepoint that is no scalar value stands.
-#[derive(Drop)]
+#[derive(Clone, Copy)]
 pub enum Place {
     At(usize),
     Nothing,
 }
 
 // What refusals 1 to 4 leave: a refusal, or the places of the table's sections.
-#[derive(Drop)]
+#[derive(Clone, Copy)]
 pub enum Admission {
     Refused(Refusal),
     Found(Sections),

@@ -9,7 +9,7 @@ use limits::MOST_INPUT;
 use utf8::ReadAnswer;
 
 // What the name call answers on what was read, or the byte index where the first sequence that is ill-formed starts.
-#[derive(Drop)]
+#[derive(Clone, Copy)]
 pub enum NameBytesAnswer {
     Name(NameAnswer),
     IllFormed(usize),

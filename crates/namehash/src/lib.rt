@@ -7,7 +7,7 @@ use name_node::{no_node, node_of};
 use utf8::WriteAnswer;
 
 // What the name call answers, and the hash of that answer: 32 zero bytes beside a refusal.
-#[derive(Drop)]
+#[derive(Clone, Copy)]
 pub struct HashedName {
     pub answer: NameAnswer,
     pub node: Digest,

@@ -10,7 +10,7 @@ use full_decomposition::FormAnswer;
 
 // The refusal number, 0 where there is none, and the length of the form.
 #[repr(C)]
-#[derive(Drop)]
+#[derive(Clone, Copy)]
 pub struct WanlophengForm {
     pub number: u32,
     pub length: usize,

@@ -19,7 +19,7 @@ use sections::Sections;
 use unpaired::QUICK_PLACE;
 
 // What is answered for one label: the length of its answer, its kind and its worked length, or a refusal.
-#[derive(Drop)]
+#[derive(Clone, Copy)]
 pub enum Judgement {
     Accepted {
         length: usize,
@@ -30,7 +30,7 @@ pub enum Judgement {
 }
 
 // How the tokens of a label stand in the work area: decomposed, or in normal form, so many codepoints.
-#[derive(Drop)]
+#[derive(Clone, Copy)]
 pub enum Standing {
     Decomposed,
     Normal(usize),

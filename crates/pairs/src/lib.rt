@@ -16,7 +16,7 @@ use unpaired::index::bounds_of;
 use unpaired::is_pair;
 
 // What two codepoints compose to.
-#[derive(Drop)]
+#[derive(Clone, Copy)]
 pub enum Composed {
     To(u32),
     Nothing,

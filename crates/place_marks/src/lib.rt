@@ -10,7 +10,7 @@ use apart::Order;
 const MOST_PLACE: usize = 4294967295;
 
 // Places in a section, the lowest first.
-#[derive(Drop)]
+#[derive(Clone, Copy)]
 pub struct Four {
     pub p: u32,
     pub q: u32,
@@ -19,7 +19,7 @@ pub struct Four {
 }
 
 // Eight of them, those of `a` first; 0 where fewer are set. (Not combining marks.)
-#[derive(Drop)]
+#[derive(Clone, Copy)]
 pub struct Marks {
     pub a: Four,
     pub b: Four,

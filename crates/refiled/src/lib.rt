@@ -5,7 +5,7 @@ ghost use Rattle.refiled.specs.Changes.{change_by, change_is};
 use book_slots::FORM;
 
 // A name stays as it is filed, or is listed beside this number.
-#[derive(Drop)]
+#[derive(Clone, Copy)]
 pub enum Change {
     Stays,
     Moved(u32),

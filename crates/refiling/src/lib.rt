@@ -19,7 +19,7 @@ use refiled::{Change, change_by};
 use sections::Sections;
 
 // What the labels of a name give: a refusal's number, or the length of the form and whether it is the name.
-#[derive(Drop)]
+#[derive(Clone, Copy)]
 pub enum Filed {
     Refused(u32),
     Form { length: usize, same: bool },

@@ -6,7 +6,7 @@ use name_call::judge_name;
 use report_walk::write_report;
 
 // The length of the report; a refusal of the name call; or too little room.
-#[derive(Drop)]
+#[derive(Clone, Copy)]
 pub enum ReportAnswer {
     Written(usize),
     Refused(Refusal),

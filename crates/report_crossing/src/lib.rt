@@ -9,7 +9,7 @@ use report::ReportAnswer;
 
 // The refusal number, 0 where there is none, its place, and the length of the report.
 #[repr(C)]
-#[derive(Drop)]
+#[derive(Clone, Copy)]
 pub struct WanlophengReport {
     pub number: u32,
     pub place: usize,

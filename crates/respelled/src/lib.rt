@@ -25,7 +25,7 @@ use unpaired::KNOWN_WORDS;
 use unpaired::index::index_pairs;
 
 // What the call answers: how many groups stand in the list, or why there are none.
-#[derive(Drop)]
+#[derive(Clone, Copy)]
 pub enum RespelledAnswer {
     Listed(usize),
     Refused(Refusal),

@@ -12,14 +12,14 @@ use sections::Sections;
 use tokens::single::{Single, alone};
 
 // What a step took: the emoji of the record with this number, with so many FE0F of the input, or one codepoint.
-#[derive(Drop)]
+#[derive(Clone, Copy)]
 pub enum Which {
     Emoji { number: usize, selectors: usize },
     Codepoint,
 }
 
 // What one step gave: a disallowed codepoint, or the run behind it, how much of the label it took, and what that was.
-#[derive(Drop)]
+#[derive(Clone, Copy)]
 pub enum Stepped {
     Disallowed,
     Went {
@@ -30,7 +30,7 @@ pub enum Stepped {
 }
 
 // The tokens of a label: their worked length, or a number over MOST_WORKED where it is over, and whether there are emoji and text.
-#[derive(Drop)]
+#[derive(Clone, Copy)]
 pub struct Tally {
     pub worked: usize,
     pub emoji: bool,
@@ -38,7 +38,7 @@ pub struct Tally {
 }
 
 // What the scan gives: the place of a disallowed codepoint, or the tokens.
-#[derive(Drop)]
+#[derive(Clone, Copy)]
 pub enum Scanned {
     Disallowed(usize),
     Tokens(Tally),

@@ -6,7 +6,7 @@ use table::Span;
 
 // Which sections were found to be sorted. 02, Item 11: "which sections are sorted without overlap". To a lookup a flag may be false where it is
 // so, and is never true where it is not; the layout pass finds each that is.
-#[derive(Drop)]
+#[derive(Clone, Copy)]
 pub struct Sorted {
     pub valid: bool,
     pub ignored: bool,
@@ -24,7 +24,7 @@ pub struct Sorted {
 }
 
 // Places of records from which a search may start, in the sections whose records differ in length; and the numbers of the emoji at theirs.
-#[derive(Drop)]
+#[derive(Clone, Copy)]
 pub struct Starts {
     pub mapped: Marks,
     pub decompositions: Marks,
@@ -34,7 +34,7 @@ pub struct Starts {
 
 // Where the sections stand among the words of a table, without the counts that lead them; and what the layout pass found of them: which are
 // sorted, and where a search may start.
-#[derive(Drop)]
+#[derive(Clone, Copy)]
 pub struct Sections {
     pub valid: Span,
     pub ignored: Span,
@@ -55,7 +55,7 @@ pub struct Sections {
 }
 
 // What the layout pass finds.
-#[derive(Drop)]
+#[derive(Clone, Copy)]
 pub enum Layout {
     Fault,
     Found(Sections),

@@ -22,7 +22,7 @@ use table::Span;
 use whole_sizes::{excluded_fit, wholes_fit};
 
 // The same of a section of records with heads, and places in it.
-#[derive(Drop)]
+#[derive(Clone, Copy)]
 pub struct HeadsSeen {
     pub fits: bool,
     pub sorted: bool,
@@ -30,7 +30,7 @@ pub struct HeadsSeen {
 }
 
 // The same of the section of emoji sequences, and the numbers of the records at those places.
-#[derive(Drop)]
+#[derive(Clone, Copy)]
 pub struct FirstsSeen {
     pub fits: bool,
     pub sorted: bool,

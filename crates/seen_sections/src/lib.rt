@@ -8,7 +8,7 @@ use sections::{Sections, Sorted, Starts};
 use seen_parts::{FirstsSeen, HeadsSeen};
 
 // What is seen of the sections of pairs.
-#[derive(Drop)]
+#[derive(Clone, Copy)]
 pub struct Sets {
     pub valid: Seen,
     pub ignored: Seen,
@@ -20,7 +20,7 @@ pub struct Sets {
 }
 
 // What is seen of the others.
-#[derive(Drop)]
+#[derive(Clone, Copy)]
 pub struct Others {
     pub mapped: HeadsSeen,
     pub decompositions: HeadsSeen,

@@ -2,21 +2,21 @@
 pub mod lookup;
 
 // A section or a part of one: the words from `from` up to, not including, `to`.
-#[derive(Drop)]
+#[derive(Clone, Copy)]
 pub struct Span {
     pub from: usize,
     pub to: usize,
 }
 
 // Where the items of a record stand among the words of a table.
-#[derive(Drop)]
+#[derive(Clone, Copy)]
 pub enum Items {
     At(Span),
     Nothing,
 }
 
 // Where the lists of the first whole that confuses a codepoint stand among the words of a table.
-#[derive(Drop)]
+#[derive(Clone, Copy)]
 pub enum WholeAt {
     Lists { valid: Span, confused: Span },
     Unconfused,
@@ -24,7 +24,7 @@ pub enum WholeAt {
 
 // The record of a group: its flags, where its pairs stand among the words and where the records of its list do, and the place behind the
 // record. Without a list its place has no words.
-#[derive(Drop)]
+#[derive(Clone, Copy)]
 pub struct GroupRecord {
     pub restricted: bool,
     pub whitelisted: bool,

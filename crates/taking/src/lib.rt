@@ -8,14 +8,14 @@ use lines::Taken;
 use replying::{REPLY_ROOM, write_reply};
 
 // Between two pieces of input: so many bytes of a line are held, and so many names are done.
-#[derive(Drop)]
+#[derive(Clone, Copy)]
 pub struct State {
     pub held: usize,
     pub names: u64,
 }
 
 // Whether to read on.
-#[derive(Drop)]
+#[derive(Clone, Copy)]
 pub enum Step {
     On(State),
     Stopped,

@@ -19,7 +19,7 @@ const TEXT: u32 = 1;
 const EMOJI: u32 = 2;
 
 // What stands at one place of a label: an emoji, with the number of its record and how much it takes, text, or what gives no token.
-#[derive(Drop)]
+#[derive(Clone, Copy)]
 pub enum Stands {
     Emoji { number: usize, taken: usize },
     Text,
@@ -27,7 +27,7 @@ pub enum Stands {
 }
 
 // Where the first token of the rest of a label ends, whether it is an emoji, and the number of its record, 0 for text.
-#[derive(Drop)]
+#[derive(Clone, Copy)]
 pub struct Extent {
     pub emoji: bool,
     pub number: usize,

@@ -13,7 +13,7 @@ use sections::Sections;
 use token_extent::token_end;
 
 // The first token of the rest of a label: how much of the input is its, and how many codepoints it has, which stand in front in the work area.
-#[derive(Drop)]
+#[derive(Clone, Copy)]
 pub struct Walked {
     pub emoji: bool,
     pub number: usize,

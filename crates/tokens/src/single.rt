@@ -13,7 +13,7 @@ use sections::lookup::{is_ignored, is_valid, mapped_items};
 use table::{Items, Span};
 
 // What becomes of the codepoint: it is kept, gives the items that stand at a place, gives nothing, or is disallowed.
-#[derive(Drop)]
+#[derive(Clone, Copy)]
 pub enum Single {
     Valid,
     Mapped(Span),

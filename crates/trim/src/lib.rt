@@ -4,7 +4,7 @@ ghost use Rattle.trim.specs.Trim.{is_blank, start_of, off_back, remaining, Remai
 
 // Where a part of a slice starts, and its length.
 #[repr(C)]
-#[derive(Drop)]
+#[derive(Clone, Copy)]
 pub struct Part {
     pub start: usize,
     pub length: usize,

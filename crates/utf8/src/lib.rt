@@ -9,7 +9,7 @@ use crate::reading::read_front;
 use crate::writing::write_front;
 
 // The reader: the number of codepoints; the byte index where the first sequence that is ill-formed starts; or no room.
-#[derive(Drop)]
+#[derive(Clone, Copy)]
 pub enum ReadAnswer {
     Read(usize),
     IllFormed(usize),
@@ -17,7 +17,7 @@ pub enum ReadAnswer {
 }
 
 // The writer: the number of bytes; the index of the first number that is no scalar value; or no room.
-#[derive(Drop)]
+#[derive(Clone, Copy)]
 pub enum WriteAnswer {
     Written(usize),
     NotScalar(usize),

@@ -9,7 +9,7 @@ use scalar::is_scalar;
 const NO_TAIL: u32 = 0x40;
 
 // The sequence that starts the rest of the bytes: its scalar value and the number of its octets.
-#[derive(Drop)]
+#[derive(Clone, Copy)]
 pub enum Decoded {
     Scalar { value: u32, length: usize },
     IllFormed,
