@@ -1,7 +1,7 @@
 -- "For a label that reaches this test, the source's early exit at a Unique character (in exactly one group, not confused) never changes the
 -- answer": the loop of the source (ENSIP-15, "Wholes"), its exits included, answers as `confusable` does.
 use Rattle.std.specs.Prelude.{ℕ, suc, ◌≡◌, refl, Bool, true, false, not, ◌&&◌, ◌||◌, cond, eqb}
-use Rattle.std.proofs.Common.{arith, sym, ap, ◌∙◌, true≢false, ⊎_elim, eqb-true}
+use Rattle.std.proofs.Common.{arith, sym, ap, subst, ◌∙◌, true≢false, ⊎_elim, eqb-true}
 use Rattle.std.proofs.lemmas.Bool.{false≢true, not-true}
 use mathlib.Core.List.{List, [], ◌∷◌, ◌++◌, Memᴰ}
 use Rattle.std.proofs.Math.Option.{Option, none, some}
@@ -120,8 +120,8 @@ stops t own gs buffer found c s i m h u true e =
     let once : count_with (λ g. holds g c) t.groups ≡ 1 = eqb-true (count_with (λ g. holds g c) t.groups) 1 (both_right (not (is_confused t c)) (eqb (count_with (λ g. holds g c) t.groups) 1) u) in
     let held : holds g c ≡ true = sym (plain-respells t g c plain) ∙ both_left (respells t g c) (all (respells t g) s) respelled in
     let same : g ≡ own = only_one (λ g. holds g c) once (i.groups p.member) held m (both_left (holds own c) (all (holds own) s) h) in
-    let own-respells : all (respells t own) (c ∷ s) ≡ true = rw same at respelled in
-    let own-remains : Memᴰ own gs = rw same at p.member in
+    let own-respells : all (respells t own) (c ∷ s) ≡ true = subst (λ (z : Group). all (respells t z) (c ∷ s) ≡ true) same respelled in
+    let own-remains : Memᴰ own gs = subst (λ (z : Group). Memᴰ z gs) same p.member in
     absurd
     (⊎_elim (λ f. i.gone f own-remains)
     (λ k. true≢false (sym own-respells ∙ own_group t own (c ∷ s) m h k))

@@ -64,10 +64,12 @@ order_most t x y h = rw (le-ltb (class_of t y) (class_of t x) h) (and_false (ltb
 
 -- records with heads that ascend are the same where the heads are
 rise_above : (f : ℕ) (rs : List Headed) (x : Headed) → rising f rs ≡ true → Memᴰ x rs → f ≤ x.head
+rise_above f [] x h m = elim m [ ]
 rise_above f (r ∷ rs) x h (Memᴰ.head e) = rw e (rise_first f r rs h).0
 rise_above f (r ∷ rs) x h (Memᴰ.tail m) = omega (arith, rise_above (suc r.head) rs x (rise_first f r rs h).1 m, (rise_first f r rs h).0)
 
 rise_same : (f : ℕ) (rs : List Headed) (x y : Headed) → rising f rs ≡ true → Memᴰ x rs → Memᴰ y rs → x.head ≡ y.head → x ≡ y
+rise_same f [] x y h m n k = elim m [ ]
 rise_same f (r ∷ rs) x y h (Memᴰ.head e) (Memᴰ.head g) k = e ∙ sym g
 rise_same f (r ∷ rs) x y h (Memᴰ.head e) (Memᴰ.tail n) k =
     absurd (omega (arith, rise_above (suc r.head) rs y (rise_first f r rs h).1 n, k, ap (λ (z : Headed). z.head) e))
