@@ -1,4 +1,6 @@
 // The answers of the public calls. specs/Values.antt states the number and the values of each case.
+#![tactic(auto)]
+
 ghost use Rattle.std.specs.Prelude.{◌≡◌};
 ghost use Rattle.answers.specs.Restriction.{barred};
 ghost use Rattle.answers.specs.Values.{number_of, place_of, name_values, label_values};

@@ -1,4 +1,6 @@
 // Sections whose entries are of one length: one walk sees whether they are sorted without overlap.
+#![tactic(auto)]
+
 ghost use Rattle.std.specs.Prelude.{◌≡◌};
 ghost use Rattle.lists.specs.Lists.{is_some};
 ghost use Rattle.table.specs.Layout.{ranges, class_ranges};

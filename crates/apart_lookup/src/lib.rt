@@ -1,4 +1,6 @@
 // Lookups by halves in sections that are sorted without overlap: pairs, triples and items.
+#![tactic(auto)]
+
 ghost use Rattle.std.specs.Prelude.{◌≡◌};
 ghost use Rattle.lists.specs.Lists.{mem};
 ghost use Rattle.table.specs.Part.{in_pairs, class_among};

@@ -1,4 +1,6 @@
 // Sets of places, a bit for each, 32 in a word; and windows of 10000 codepoints (hexadecimal), of which a set has a place for each.
+#![tactic(auto)]
+
 pub mod ranges;
 
 ghost use Rattle.std.specs.Prelude.{◌≡◌, ◌&&◌, ◌+◌, ◌*◌, ◌<◌, ◌≤◌, length, leb, ltb, eqb};

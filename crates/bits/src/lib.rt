@@ -1,1 +1,2 @@
 // Bits: laws only, in specs/. There is no code here.
+#![tactic(auto)]

@@ -1,4 +1,6 @@
 // What the calls of the payee book answer: specs/Calls.antt defines it, specs/Promise.antt has their promises. There is no code here.
+#![tactic(auto)]
+
 use answers::Refusal;
 use book_slots::Account;
 

@@ -1,5 +1,7 @@
 // The payee book for C and Rust, each call with the promise of the call that it hands on and its answer as a struct of plain numbers. The crate `boundary`
 // gives them their names outside.
+#![tactic(auto)]
+
 ghost use Rattle.std.specs.Prelude.{◌≡◌};
 ghost use Rattle.book_answers.specs.Promise.{book_values};
 ghost use Rattle.book_crossing.specs.BookCrossing.{book_fields, SaveCrosses, FindCrosses, ForgetCrosses, ResetCrosses};

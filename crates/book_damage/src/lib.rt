@@ -1,4 +1,6 @@
 // 41: whether the slots of an area are damaged.
+#![tactic(auto)]
+
 ghost use Rattle.std.specs.Prelude.{suc, ◌+◌, ◌*◌, ◌≡◌, false, length, take};
 ghost use Rattle.lists.specs.Lists.{any};
 ghost use Rattle.book_slots.specs.Book.{slot_size, slot_of, slots_of};

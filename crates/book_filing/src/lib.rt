@@ -1,4 +1,6 @@
 // The form under which a name is filed, with the refusals before it: 40 and 41, those of the name call, 42 and 43.
+#![tactic(auto)]
+
 ghost use Rattle.std.specs.Prelude.{length};
 ghost use Rattle.book_answers.specs.Calls.{form_for};
 ghost use Rattle.book_forms.specs.Forms.{Formed, Files};

@@ -1,4 +1,6 @@
 // What a book's area is, and what a form of some length is: 40 and 41, then 42 and 43. specs/Forms.antt states both.
+#![tactic(auto)]
+
 ghost use Rattle.std.specs.Prelude.{◌≤◌, length, take};
 ghost use Rattle.book_answers.specs.Calls.{fileable};
 ghost use Rattle.book_forms.specs.Forms.{OpeningIs, FormIs};

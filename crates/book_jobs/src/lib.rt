@@ -1,4 +1,6 @@
 // What is done in the slots under a form: the words of the slots alone are lent, without the front words.
+#![tactic(auto)]
+
 ghost use Rattle.std.specs.Prelude.{◌≤◌, ◌*◌, ◌≡◌, length};
 ghost use Rattle.book_slots.specs.Book.{form_room, slot_size, slot_count, slots_of};
 ghost use Rattle.book_answers.specs.Calls.{save_in, find_in, forget_in, no_account};

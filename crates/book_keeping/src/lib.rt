@@ -1,4 +1,6 @@
 // Writing, reading and clearing the slot at a place.
+#![tactic(auto)]
+
 ghost use Rattle.std.specs.Prelude.{◌≤◌, ◌<◌, ◌*◌, ◌≡◌, ◌∷◌, ◌++◌, length, get_or, set, drop};
 ghost use Rattle.lists.specs.Lists.{joined_map};
 ghost use Rattle.lists.specs.Filled.{filled};

@@ -1,4 +1,6 @@
 // The reset of a payee book, the call that takes no name.
+#![tactic(auto)]
+
 ghost use Rattle.book_answers.specs.Promise.{ResetCalls};
 
 use book_answers::BookAnswer;

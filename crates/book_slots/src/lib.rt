@@ -1,4 +1,6 @@
 // The area of a payee book as slots: looking for one. specs/Book.antt states what the area holds, specs/Damage.antt what damage is.
+#![tactic(auto)]
+
 pub mod slots;
 
 // The words of the area: those of the front, which the reset skips, then the slots.

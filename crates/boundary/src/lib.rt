@@ -1,5 +1,7 @@
 // The calls for C and Rust, each with the promise of the call that it hands on. include/wanlopheng.h declares them.
 // A slice crosses as a pointer and a number of elements, an answer as a struct of plain numbers.
+#![tactic(auto)]
+
 pub mod book;
 pub mod emoji;
 pub mod group;

@@ -1,4 +1,6 @@
 // Clearing a buffer, copying into its front, and whether two hold the same. The callers lend a part of theirs where only that is meant.
+#![tactic(auto)]
+
 ghost use Rattle.std.specs.Prelude.{◌≡◌, ◌++◌, ◌≤◌, length, replicate, drop};
 ghost use Rattle.lists.specs.Lists.{same_list};
 ghost use Rattle.buffers.specs.Writes.{Wiped};

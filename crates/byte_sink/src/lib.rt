@@ -1,5 +1,7 @@
 // Bytes put one behind the other into a lent buffer, as far as there is room. What does not fit is known at the end, and does not stop
 // the writer.
+#![tactic(auto)]
+
 ghost use Rattle.std.specs.Prelude.{◌≤◌, [], ◌∷◌};
 ghost use Rattle.numerals.specs.Numeral.{numeral};
 ghost use Rattle.byte_sink.specs.Sinks.{Adds};

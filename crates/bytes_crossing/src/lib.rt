@@ -1,5 +1,7 @@
 // The byte form of the name call for C and Rust, with the promise of the call that it hands on and its answer as a struct of plain numbers. The crate
 // `boundary` gives it its name outside.
+#![tactic(auto)]
+
 ghost use Rattle.bytes_crossing.specs.BytesCrossing.{NameBytesCrosses};
 
 use call_fields::name_bytes_fields;

@@ -1,4 +1,6 @@
 // The answers that a call's own crate declares, as structs of plain numbers.
+#![tactic(auto)]
+
 mod bytes;
 mod emoji;
 mod group;

@@ -1,4 +1,6 @@
 // The sweep over the claims of a batch: groups that hold one of its numbers are joined.
+#![tactic(auto)]
+
 ghost use Rattle.std.specs.Prelude.{◌≡◌, true, ◌&&◌, ◌≤◌, ◌<◌, length};
 ghost use Rattle.sorting.specs.Order.{in_order};
 ghost use Rattle.group_numbers.specs.Batch.{batch, Claims, Swept};

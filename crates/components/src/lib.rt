@@ -1,6 +1,8 @@
 // The components that the members of a whole make of the groups: groups that hold one member are joined. The members are put in order, BATCH at
 // a time, and a pair of a group is looked up among them by halves, so that the steps are in proportion to the members and, for each batch, to the
 // pairs and to the records of the groups' lists, whatever the table.
+#![tactic(auto)]
+
 ghost use Rattle.std.specs.Prelude.{◌≡◌, true, ◌||◌, ◌+◌, ◌≤◌, length};
 ghost use Rattle.lists.specs.Lists.{mem};
 ghost use Rattle.table.specs.Layout.{most_groups};

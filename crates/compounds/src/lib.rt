@@ -1,4 +1,6 @@
 // Refusal 16: the compound sequences of a text, each asked for in the list of the text's group.
+#![tactic(auto)]
+
 ghost use Rattle.std.specs.Prelude.{◌≡◌, ◌<◌, true, not, ◌||◌, length};
 ghost use Rattle.lists.specs.Lists.{all, is_some};
 ghost use Rattle.table.specs.Layout.{sequences, the_table};

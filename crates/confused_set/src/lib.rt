@@ -1,5 +1,7 @@
 // A filter of the confused characters of all wholes: 4,096 bits, one for each remainder of a codepoint. Where its bit is clear, a character is in
 // no confused list, and the wholes need not be walked. It is a local array of the function that asks, and holds no text of a name.
+#![tactic(auto)]
+
 ghost use Rattle.std.specs.Prelude.{◌≡◌, true, length, replicate};
 ghost use Rattle.lists.specs.Lists.{is_some};
 ghost use Rattle.bit_sets.specs.Sets.{Put};

@@ -1,4 +1,6 @@
 // The counter program: a name a line from standard input, against the table file names.tab. 01, "Names at the counter".
+#![tactic(auto)]
+
 ghost use Rattle.std.specs.Prelude.{◌^◌, ◌≤◌, length};
 ghost use Rattle.table_file.specs.File.{most_table};
 ghost use Rattle.taking.specs.Promise.{Ready};

@@ -1,4 +1,6 @@
 // Single replacement, and rounds of it into a lent slice.
+#![tactic(auto)]
+
 ghost use Rattle.std.specs.Prelude.{◌≤◌, ◌<◌, ◌+◌, ◌^◌, ◌≡◌, [], ◌∷◌, length, get_or, take};
 ghost use Rattle.lists.specs.Lists.{same_list};
 ghost use Rattle.sections.specs.Laid.{Laid};

@@ -1,4 +1,6 @@
 // Which emoji stands at the start of a part of a label, as a call of its own. specs/EmojiCall.antt states what it answers.
+#![tactic(auto)]
+
 ghost use Rattle.std.specs.Prelude.{◌≡◌};
 ghost use Rattle.emoji_call.specs.EmojiCall.{emoji_values, emoji_call};
 

@@ -1,4 +1,6 @@
 // The sequence of an emoji record, by the number that the finder named. specs/Record.antt states what is answered.
+#![tactic(auto)]
+
 ghost use Rattle.std.specs.Prelude.{[], get_or};
 ghost use Rattle.sections.specs.Laid.{Laid};
 ghost use Rattle.table.specs.Layout.{the_table};

@@ -1,4 +1,6 @@
 // The end of every call that is lent an answer buffer and a work area. specs/Ending.antt states what it leaves in both.
+#![tactic(auto)]
+
 ghost use Rattle.ending.specs.Finish.{Finishes};
 
 // Keeps the first n words of the answer and clears those behind them; where there are not so many, all are cleared. The work area is

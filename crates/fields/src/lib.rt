@@ -1,4 +1,6 @@
 // The answers of the crate `answers` as structs of plain numbers.
+#![tactic(auto)]
+
 ghost use Rattle.std.specs.Prelude.{◌≡◌};
 ghost use Rattle.answers.specs.Values.{unpack_values, name_values, label_values, broken_rule};
 ghost use Rattle.fields.specs.Fields.{unpack_fields, name_fields, label_fields, label_numbers, kind_numbers, kind_fields, soundness_numbers, soundness_fields};

@@ -1,4 +1,6 @@
 // The versions of a table file. specs/Versions.antt states what a file of each lacks.
+#![tactic(auto)]
+
 ghost use Rattle.file_versions.specs.Versions.{Lacks};
 
 // How many sections a file lacks, by its version.

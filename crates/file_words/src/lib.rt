@@ -1,4 +1,6 @@
 // The words of a table file, by its version and its length. specs/FileWords.antt states what they are.
+#![tactic(auto)]
+
 ghost use Rattle.std.specs.Prelude.{◌≡◌, ◌++◌, ◌≤◌, ◌*◌, length, drop};
 ghost use Rattle.file_words.specs.FileWords.{word, words_of};
 ghost use Rattle.file_words.specs.Promise.{Inspected};

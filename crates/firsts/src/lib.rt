@@ -1,5 +1,6 @@
 // The section of emoji sequences: one walk finds whether it is well formed and sorted by first items, and sets marks; a search starts at a
 // mark.
+#![tactic(auto)]
 
 ghost use Rattle.std.specs.Prelude.{◌+◌, ◌≤◌, ◌≡◌, not, ◌&&◌, length, leb, eqb};
 ghost use Rattle.apart.specs.declared.Order.TheVariants.{Fault};

@@ -1,4 +1,6 @@
 // The full decomposition of a text, by a table that is laid out, at the front of a buffer. specs/Within.antt states when there is none.
+#![tactic(auto)]
+
 ghost use Rattle.std.specs.Prelude.{◌≡◌, length};
 ghost use Rattle.sections.specs.Laid.{Laid};
 ghost use Rattle.table.specs.Layout.{the_table};

@@ -1,4 +1,6 @@
 // Claims at the places of a batch: how far a group, the owner of the claim, holds the numbers of the batch from there on.
+#![tactic(auto)]
+
 ghost use Rattle.std.specs.Prelude.{◌≡◌, true, ◌&&◌, ◌≤◌, ◌<◌, length, leb, eqb};
 ghost use Rattle.table.specs.Spans.{Fits, within};
 ghost use Rattle.table.specs.Layout.{most_groups};

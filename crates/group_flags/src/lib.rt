@@ -1,4 +1,6 @@
 // A flag for each group.
+#![tactic(auto)]
+
 ghost use Rattle.std.specs.Prelude.{◌≡◌, length};
 ghost use Rattle.table.specs.Layout.{most_groups, the_table};
 ghost use Rattle.sections.specs.Known.{GroupsKnown};

@@ -1,4 +1,6 @@
 // The numbers of the groups whose flags are set, put into a list. specs/Places.antt states which.
+#![tactic(auto)]
+
 ghost use Rattle.std.specs.Prelude.{◌≤◌, ◌≡◌, length};
 ghost use Rattle.table.specs.Layout.{most_groups};
 ghost use Rattle.listing.specs.Filling.{Holds};

@@ -1,4 +1,6 @@
 // The numbers of the groups: 0, or that of a component.
+#![tactic(auto)]
+
 ghost use Rattle.std.specs.Prelude.{◌≡◌, true, ◌<◌, get_or};
 ghost use Rattle.table.specs.Layout.{most_groups};
 ghost use Rattle.group_numbers.specs.Batch.{relabelled, Numbers, Numbered, United, Met};

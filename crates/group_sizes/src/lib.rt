@@ -1,4 +1,5 @@
 // The walk over the words of the groups, one behind the other: whether each is well formed, and whether its pairs are sorted.
+#![tactic(auto)]
 
 use apart::{Order, pairs_order};
 use table::lookup::list_size;

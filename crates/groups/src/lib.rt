@@ -1,4 +1,6 @@
 // Refusal 12: the first group that holds every character of a text, and how often the search for it asked.
+#![tactic(auto)]
+
 ghost use Rattle.std.specs.Prelude.{◌≡◌, ◌≤◌, length};
 ghost use Rattle.limits.specs.Limits.{most_input};
 ghost use Rattle.sections.specs.Known.{GroupsKnown};

@@ -1,4 +1,6 @@
 // A search by halves among entries of one length.
+#![tactic(auto)]
+
 ghost use Rattle.std.specs.Prelude.{◌≡◌, ◌≤◌};
 ghost use Rattle.halving.specs.Halving.{Ranked, mask_most, if_most};
 

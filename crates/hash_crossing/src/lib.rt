@@ -1,5 +1,7 @@
 // The name hash for C and Rust, with the promise of the call that it hands on and its answer as a struct of plain numbers. The crate `boundary` gives
 // it its name outside.
+#![tactic(auto)]
+
 ghost use Rattle.hash_crossing.specs.HashCrossing.{NamehashCrosses};
 
 use fields::{WanlophengName, name_fields};

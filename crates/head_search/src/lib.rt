@@ -1,4 +1,5 @@
 // A search in a section of records head, count, items, which starts at a mark.
+#![tactic(auto)]
 
 ghost use Rattle.std.specs.Prelude.{◌+◌, ◌≤◌, length};
 ghost use Rattle.table.specs.Layout.{most_items};

@@ -1,4 +1,5 @@
 // Sections of records head, count, items: one walk finds whether they are well formed and sorted, and sets marks.
+#![tactic(auto)]
 
 ghost use Rattle.std.specs.Prelude.{◌+◌, ◌≤◌, ◌≡◌, length};
 ghost use Rattle.apart.specs.declared.Order.TheVariants.{Fault};

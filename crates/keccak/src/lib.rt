@@ -1,4 +1,6 @@
 // Keccak-256 (02, Item 10): the sponge over Keccak-f[1600], which takes bytes in pieces of any size.
+#![tactic(auto)]
+
 ghost use Rattle.std.specs.Prelude.{◌≡◌};
 ghost use Rattle.keccak_bytes.specs.Sponge.{keccak256};
 

@@ -1,4 +1,6 @@
 // The bytes of Keccak's state: one is xored in, the first 32 are the digest.
+#![tactic(auto)]
+
 ghost use Rattle.std.specs.Prelude.{◌≡◌, ◌<◌};
 ghost use Rattle.keccak_bytes.specs.Sponge.{squeezed};
 ghost use Rattle.keccak_bytes.specs.XorByte.{xor_byte};

@@ -1,1 +1,2 @@
 // Published digests of Keccak-256.
+#![tactic(auto)]

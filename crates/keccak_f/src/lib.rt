@@ -1,5 +1,7 @@
 // Keccak-f[1600] (the Keccak reference; FIPS 202): the steps of a round on the 25 lanes of the state that work on its rows. Lane (x, y) stands
 // at x + 5 y.
+#![tactic(auto)]
+
 ghost use Rattle.std.specs.Prelude.{◌≡◌, ◌+◌, ◌<◌, ◌≤◌};
 ghost use Rattle.std.proofs.lemmas.List.Edits.{sets};
 ghost use Rattle.keccak_f.specs.Permutation.{rotate, parities, effects, theta, chi};

@@ -1,4 +1,6 @@
 // Keccak-f[1600]: the steps of a round that work lane by lane.
+#![tactic(auto)]
+
 use keccak_f::rotate_left;
 
 // How far rho rotates each lane.

@@ -1,4 +1,6 @@
 // Keccak-f[1600], the permutation of the sponge (02, Item 10): the rounds.
+#![tactic(auto)]
+
 use keccak_f::{chi, theta};
 use keccak_lanes::{iota, pi, rho};
 

@@ -1,4 +1,6 @@
 // The sponge: its state goes in and comes back by value.
+#![tactic(auto)]
+
 ghost use Rattle.std.specs.Prelude.{◌≡◌};
 ghost use Rattle.keccak_sponge.specs.State.{fresh, absorbed, digested};
 

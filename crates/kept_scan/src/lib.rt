@@ -1,5 +1,7 @@
 // The scan of a label whose text needs no NFC: text is laid down as it is, and the worked length counted by what it is decomposed to. It is
 // given up at the first codepoint of text that is in the quick-check set or whose class is out of order: the scan that decomposes decides then.
+#![tactic(auto)]
+
 ghost use Rattle.std.specs.Prelude.{◌≤◌, ◌≡◌, true, length};
 ghost use Rattle.limits.specs.Limits.{most_input, least_work};
 ghost use Rattle.sections.specs.Laid.{Laid};

@@ -1,4 +1,6 @@
 // The rules of one label, refusals 8 to 14 and 16, and its kind.
+#![tactic(auto)]
+
 use answers::{Kind, Refusal};
 
 pub mod cells;

@@ -1,4 +1,6 @@
 // The label call: its answer, and each word of both buffers.
+#![tactic(auto)]
+
 ghost use Rattle.std.specs.Prelude.{◌≤◌, length};
 ghost use Rattle.limits.specs.Limits.{most_input, least_work};
 ghost use Rattle.sections.specs.Laid.{Laid};

@@ -1,5 +1,7 @@
 // Laying tokens down in the work area: codepoints in its first MOST_WORKED words, tags beside them in the next MOST_WORKED. Each codepoint is
 // written to its place at once: what is copied stays on the stack.
+#![tactic(auto)]
+
 ghost use Rattle.std.specs.Prelude.{◌≤◌, ◌-◌, ◌≡◌, length};
 ghost use Rattle.limits.specs.Limits.{most_worked, least_work};
 ghost use Rattle.table.specs.Layout.{most_items, the_table};

@@ -1,4 +1,5 @@
 // The layout pass: finds the fourteen sections among the words of a table and sees that each of them is well formed.
+#![tactic(auto)]
 
 use section_places::places;
 use sections::{Layout, Sections};

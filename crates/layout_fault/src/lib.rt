@@ -1,4 +1,6 @@
 // Whether the words of a table have a layout fault, as a number. specs/Fault.antt states it.
+#![tactic(auto)]
+
 ghost use Rattle.std.specs.Prelude.{◌≡◌};
 ghost use Rattle.layout_fault.specs.Fault.{layout_fault};
 

@@ -1,4 +1,5 @@
 // The limits of the calls, a constant for each definition of specs/Limits.antt.
+#![tactic(auto)]
 
 // The most codepoints of an input: refusal 3 is for more.
 pub const MOST_INPUT: usize = 16384;

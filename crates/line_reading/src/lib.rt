@@ -1,4 +1,6 @@
 // Reading a line of the counter program.
+#![tactic(auto)]
+
 mod reading;
 
 pub use reading::{Line, find, read_line};

@@ -1,4 +1,6 @@
 // Writing the lines of the counter program.
+#![tactic(auto)]
+
 mod answering;
 mod writing;
 

@@ -1,5 +1,7 @@
 // The two lists of 02, Item 14, for C and Rust, each call with the promise of the call that it hands on and its answer as a struct of plain numbers. The
 // crate `boundary` gives them their names outside.
+#![tactic(auto)]
+
 ghost use Rattle.std.specs.Prelude.{◌≡◌};
 ghost use Rattle.moved_list.specs.Promise.{moved_values};
 ghost use Rattle.respelled.specs.Promise.{respelled_values};

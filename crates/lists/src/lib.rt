@@ -1,1 +1,2 @@
 // Lists: definitions and laws only, in specs/. There is no code here.
+#![tactic(auto)]

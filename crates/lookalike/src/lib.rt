@@ -1,4 +1,6 @@
 // Refusal 14, the look-alike test: whether a text is confusable.
+#![tactic(auto)]
+
 ghost use Rattle.std.specs.Prelude.{◌≡◌, true, false, not, length, replicate};
 ghost use Rattle.lists.specs.Lists.{any};
 ghost use Rattle.sections.specs.Laid.{Laid};

@@ -1,6 +1,8 @@
 // What the look-alike test remembers: the components of the wholes that it met last, so that they are found once for the characters of a text and
 // for the labels of a name. SLOTS slots, each with the places of a whole's two lists and a number for each group; then the slot that is written
 // next. A slot of zeros is for a whole without members, so that zeros are a memo.
+#![tactic(auto)]
+
 ghost use Rattle.std.specs.Prelude.{◌≡◌, ◌&&◌, ◌≤◌, length, eqb};
 ghost use Rattle.sections.specs.Laid.{Laid};
 ghost use Rattle.table.specs.Spans.{Fits};

@@ -1,4 +1,6 @@
 // The slots of a payee book that a new table would file differently. moved_list/specs/Moved.antt states what the call answers.
+#![tactic(auto)]
+
 ghost use Rattle.std.specs.Prelude.{◌≤◌, ◌*◌, ◌≡◌, false, length};
 ghost use Rattle.limits.specs.Limits.{least_work};
 ghost use Rattle.sections.specs.Laid.{Laid};

@@ -1,4 +1,6 @@
 // The entries of the slots that a new table would file differently, and their words. specs/Moved.antt states what the call `moved` answers.
+#![tactic(auto)]
+
 ghost use Rattle.std.specs.Prelude.{◌≤◌, ◌*◌, ◌≡◌};
 ghost use Rattle.book_slots.specs.Book.{slot_count};
 ghost use Rattle.refiled.specs.Changes.{change_is};

@@ -1,4 +1,6 @@
 // The byte form of the name call. specs/NameBytes.antt states what it answers.
+#![tactic(auto)]
+
 ghost use Rattle.std.specs.Prelude.{◌≡◌, ◌+◌, ◌<◌, length};
 ghost use Rattle.limits.specs.Limits.{most_input};
 ghost use Rattle.name_bytes.specs.NameBytes.{NameBytesCalls};

@@ -1,5 +1,7 @@
 // The name call and the label call for C and Rust, each with the promise of the call that it hands on and its answer as a struct of plain numbers. The crate
 // `boundary` gives them their names outside.
+#![tactic(auto)]
+
 ghost use Rattle.name_crossing.specs.NameCrossing.{NameCrosses, LabelCrosses};
 
 use fields::{WanlophengLabel, WanlophengName, label_fields, name_fields};

@@ -1,4 +1,6 @@
 // The hash of the labels of a text, from the right: EIP-137, "namehash". specs/Node.antt states it.
+#![tactic(auto)]
+
 ghost use Rattle.std.specs.Prelude.{◌≡◌, true, ◌++◌, replicate};
 ghost use Rattle.scalar.specs.Scalar.{is_scalar};
 ghost use Rattle.utf8_scheme.specs.Scheme.{octets};

@@ -1,4 +1,6 @@
 // The name hash of EIP-137 (02, Item 10). specs/Namehash.antt states it, and what the call answers.
+#![tactic(auto)]
+
 ghost use Rattle.namehash.specs.Promise.{NamehashCalls};
 
 use answers::{NameAnswer, Refusal};

@@ -1,1 +1,2 @@
 // Theorems on the name hash.
+#![tactic(auto)]

@@ -1,4 +1,6 @@
 // The tokens in the work area, decomposed, are put into normal form: each text is ordered and composed, and what follows moves down.
+#![tactic(auto)]
+
 ghost use Rattle.std.specs.Prelude.{◌≤◌, ◌<◌, ◌+◌, ◌≡◌, length, take, drop};
 ghost use Rattle.limits.specs.Limits.{most_worked, least_work};
 ghost use Rattle.sections.specs.Laid.{Laid};

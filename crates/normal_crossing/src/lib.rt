@@ -1,5 +1,7 @@
 // NFD and NFC of a text for C and Rust, each with the promise of the call that it hands on and its answer as a struct of plain numbers. The crate
 // `boundary` gives them their names outside.
+#![tactic(auto)]
+
 ghost use Rattle.std.specs.Prelude.{◌≡◌};
 ghost use Rattle.full_decomposition.specs.Within.{form_values};
 ghost use Rattle.normal_forms.specs.Forms.{nfd_call, nfc_call};

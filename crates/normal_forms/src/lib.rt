@@ -1,4 +1,6 @@
 // NFD and NFC of a text, by a table. specs/Forms.antt states what they answer.
+#![tactic(auto)]
+
 ghost use Rattle.std.specs.Prelude.{◌≡◌, length};
 ghost use Rattle.text.specs.Ordering.{nfd};
 ghost use Rattle.text.specs.Composition.{nfc};

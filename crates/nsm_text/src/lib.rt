@@ -1,4 +1,6 @@
 // Refusal 13: the runs of nonspacing marks (NSM) in the full decomposition of a text, which is read once and held nowhere.
+#![tactic(auto)]
+
 ghost use Rattle.std.specs.Prelude.{◌≡◌, replicate};
 ghost use Rattle.sections.specs.Laid.{Laid};
 ghost use Rattle.table.specs.Layout.{the_table};

@@ -1,5 +1,7 @@
 // Writing numbers in decimal and in upper-case hexadecimal. specs/Numeral.antt states what is written. The bytes stand at the front of
 // what is lent, and the answer is how many there are.
+#![tactic(auto)]
+
 ghost use Rattle.std.specs.Prelude.{◌≡◌, ◌<◌};
 ghost use Rattle.buffers.specs.Writes.{Writes};
 ghost use Rattle.numerals.specs.Numeral.{digit_byte, numeral, NumeralRoom};

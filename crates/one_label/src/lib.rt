@@ -1,4 +1,6 @@
 // One label, refusals 5 to 14 and 16.
+#![tactic(auto)]
+
 ghost use Rattle.std.specs.Prelude.{◌+◌, ◌≤◌, length};
 ghost use Rattle.limits.specs.Limits.{least_work, most_input, most_worked};
 ghost use Rattle.sections.specs.Laid.{Laid};

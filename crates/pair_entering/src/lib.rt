@@ -1,4 +1,6 @@
 // Every record of a section put into the index of the decompositions of two items.
+#![tactic(auto)]
+
 ghost use Rattle.std.specs.Prelude.{◌≡◌, true, ◌≤◌, length, replicate};
 ghost use Rattle.lists.specs.Lists.{is_some};
 ghost use Rattle.table.specs.Layout.{most_parts, headed};

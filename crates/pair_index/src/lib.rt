@@ -1,5 +1,7 @@
 // One record of an index of the decompositions of two items: a bit for each second item, and a slot for two items, which says where the records
 // stand.
+#![tactic(auto)]
+
 use bit_sets::put;
 
 // The words of the set that are bits.

@@ -1,4 +1,5 @@
 // Whether a codepoint passes rule 8, and whether those of a run and the syllables do.
+#![tactic(auto)]
 
 ghost use Rattle.std.specs.Prelude.{◌≡◌, ◌≤◌, ◌<◌, ◌+◌, ◌-◌, length};
 ghost use Rattle.lists.specs.Lists.{all};

@@ -1,4 +1,5 @@
 // Rule 8, decomposition by decomposition: whether the head of each passes, and its second item.
+#![tactic(auto)]
 
 ghost use Rattle.lists.specs.Lists.{all};
 ghost use Rattle.sections.specs.Laid.{Laid};

@@ -1,4 +1,5 @@
 // What the walks over sections of records share: places from which a search may start, by value; the test of a count; how a section stands.
+#![tactic(auto)]
 
 ghost use Rattle.std.specs.Prelude.{◌≡◌, false, ◌&&◌, leb};
 ghost use Rattle.apart.specs.Order.{is_fault, is_sorted};

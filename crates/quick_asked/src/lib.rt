@@ -1,5 +1,7 @@
 // Whether a call leaves text that needs no NFC as it is: rules 6 to 8 are looked for where the input is long enough to bear the look, and no
 // longer than the worked length may be, since text over that is given up at the limit and scanned again.
+#![tactic(auto)]
+
 ghost use Rattle.std.specs.Prelude.{◌≡◌, true, ◌⊎◌};
 ghost use Rattle.bit_sets.specs.Sets.{has};
 ghost use Rattle.sections.specs.Laid.{Laid};

@@ -1,5 +1,7 @@
 // Rules 6 to 8 found to hold in a few steps a word, or not found. 02, Item 11: "The fast path is taken only where the set isn't empty and that
 // pass found rules 6 to 8 to hold".
+#![tactic(auto)]
+
 ghost use Rattle.std.specs.Prelude.{◌≡◌, true, ◌≤◌};
 ghost use Rattle.sections.specs.Laid.{Laid};
 ghost use Rattle.table.specs.Layout.{the_table};

@@ -1,4 +1,6 @@
 // Walks over the decompositions: their heads, how deep they stand, and the index of them.
+#![tactic(auto)]
+
 ghost use Rattle.std.specs.Prelude.{◌≡◌, true, ◌+◌, ◌≤◌, length, replicate};
 ghost use Rattle.table.specs.Part.{heads_in};
 ghost use Rattle.sound_parts.specs.Parts.{Holds, as_headed};

@@ -1,4 +1,5 @@
 // What rules 7 and 8 ask of each decomposition.
+#![tactic(auto)]
 
 use quick_filters::filters::{may_hold, note_runs};
 use quick_filters::slots::{SLOTS, find_slot};

@@ -1,4 +1,5 @@
 // What rules 7 and 8 ask of the second item of a composition pair.
+#![tactic(auto)]
 
 use quick_filters::filters::may_hold;
 use sections::Sections;

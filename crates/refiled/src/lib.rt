@@ -1,4 +1,6 @@
 // How a table files a name that is filed already: as it is, otherwise, or not at all. specs/Refiled.antt states it; `refiling` judges the name.
+#![tactic(auto)]
+
 ghost use Rattle.std.specs.Prelude.{◌≡◌};
 ghost use Rattle.refiled.specs.Changes.{change_by, change_is};
 

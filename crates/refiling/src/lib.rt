@@ -1,5 +1,7 @@
 // How a table files a name that is filed already: as it is, otherwise, or not at all. refiled/specs/Refiled.antt states it. The answer of each label is
 // compared with the label where it stands in the work area, so that no room is needed for a whole form, and 15 cannot arise.
+#![tactic(auto)]
+
 ghost use Rattle.std.specs.Prelude.{◌≤◌, ◌≡◌, true, length};
 ghost use Rattle.limits.specs.Limits.{least_work, most_input};
 ghost use Rattle.sections.specs.Laid.{Laid};

@@ -1,4 +1,6 @@
 // The line for one line of input. specs/Lines.antt states what it is. 01, "Names at the counter".
+#![tactic(auto)]
+
 ghost use Rattle.std.specs.Prelude.{◌≤◌, length};
 ghost use Rattle.replying.specs.Lines.{reply_room};
 ghost use Rattle.replying.specs.Promise.{Replies};

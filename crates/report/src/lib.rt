@@ -1,4 +1,6 @@
 // The report of what was typed (02, Item 9). `report_text` states its bytes, specs/Calls.antt what the call answers.
+#![tactic(auto)]
+
 ghost use Rattle.report.specs.Promise.{ReportCalls};
 
 use answers::{NameAnswer, Refusal};

@@ -1,5 +1,7 @@
 // The report for C and Rust, with the promise of the call that it hands on and its answer as a struct of plain numbers. The crate `boundary` gives it
 // its name outside.
+#![tactic(auto)]
+
 ghost use Rattle.std.specs.Prelude.{◌≡◌};
 ghost use Rattle.report.specs.Promise.{report_values};
 ghost use Rattle.report_crossing.specs.ReportCrossing.{report_fields, ReportCrosses};

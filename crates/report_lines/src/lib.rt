@@ -1,4 +1,6 @@
 // One line of the report: the token's word, its place, and its codepoints.
+#![tactic(auto)]
+
 ghost use Rattle.std.specs.Prelude.{◌≡◌};
 ghost use Rattle.sections.specs.Laid.{Laid};
 ghost use Rattle.table.specs.Layout.{the_table};

@@ -1,4 +1,6 @@
 // The lines of an accepted name, label by label and token by token.
+#![tactic(auto)]
+
 ghost use Rattle.std.specs.Prelude.{◌≤◌, length};
 ghost use Rattle.lists.specs.Laws.{Every};
 ghost use Rattle.limits.specs.Limits.{most_input, least_work};

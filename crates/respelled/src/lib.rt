@@ -1,4 +1,6 @@
 // The groups in which a label could be respelled: those behind refusal 14. specs/Respelled.antt states what the call answers.
+#![tactic(auto)]
+
 ghost use Rattle.std.specs.Prelude.{◌≤◌, ◌≡◌, length};
 ghost use Rattle.limits.specs.Limits.{least_work, most_input};
 ghost use Rattle.table.specs.Layout.{the_table};

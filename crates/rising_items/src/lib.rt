@@ -1,4 +1,6 @@
 // Items: one walk sees whether each is above those before it.
+#![tactic(auto)]
+
 ghost use Rattle.std.specs.Prelude.{◌≡◌, true, ◌↔◌};
 ghost use Rattle.apart.specs.Apart.{Apart};
 

@@ -1,2 +1,4 @@
 // Rule 3 of the soundness check.
+#![tactic(auto)]
+
 pub mod rule3;

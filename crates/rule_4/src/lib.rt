@@ -1,2 +1,4 @@
 // Rule 4 of the soundness check.
+#![tactic(auto)]
+
 pub mod rule4;

@@ -1,2 +1,4 @@
 // Rule 7 of the soundness check.
+#![tactic(auto)]
+
 pub mod rule7;

@@ -1,2 +1,4 @@
 // Rule 8 of the soundness check.
+#![tactic(auto)]
+
 pub mod rule8;

@@ -1,4 +1,6 @@
 // Unicode scalar values.
+#![tactic(auto)]
+
 ghost use Rattle.std.specs.Prelude.{◌≡◌};
 ghost use Rattle.scalar.specs.Scalar.{is_scalar};
 

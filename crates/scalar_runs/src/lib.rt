@@ -1,4 +1,5 @@
 // Rule 1 for pairs, triples and items: every codepoint named is a Unicode scalar value.
+#![tactic(auto)]
 
 ghost use Rattle.std.specs.Prelude.{◌≡◌};
 ghost use Rattle.lists.specs.Lists.{all};

@@ -1,4 +1,6 @@
 // The scan of a label into tokens, laid down in the work area.
+#![tactic(auto)]
+
 ghost use Rattle.std.specs.Prelude.{◌≤◌, length};
 ghost use Rattle.limits.specs.Limits.{most_input, least_work};
 ghost use Rattle.sections.specs.Laid.{Laid};

@@ -1,4 +1,6 @@
 // The screen form of a name (02, Item 1). forms/specs/Forms.antt states the form, specs/Screen.antt what the call answers.
+#![tactic(auto)]
+
 ghost use Rattle.std.specs.Prelude.{◌≤◌, length};
 ghost use Rattle.limits.specs.Limits.{most_input, least_work};
 ghost use Rattle.sections.specs.Laid.{Laid};

@@ -1,5 +1,7 @@
 // The screen form for C and Rust, with the promise of the call that it hands on and its answer as a struct of plain numbers. The crate `boundary` gives it
 // its name outside.
+#![tactic(auto)]
+
 ghost use Rattle.screen_crossing.specs.ScreenCrossing.{ScreenCrosses};
 
 use fields::{WanlophengName, name_fields};

@@ -1,5 +1,7 @@
 // The screen form of one label (02, Item 1), token by token: the label is walked again, since the work area shows no token's end any more.
 // forms/specs/Forms.antt states what is written, specs/Showing.antt what is answered.
+#![tactic(auto)]
+
 ghost use Rattle.std.specs.Prelude.{◌+◌, ◌*◌, ◌≤◌, length};
 ghost use Rattle.limits.specs.Limits.{most_input, most_worked, least_work};
 ghost use Rattle.sections.specs.Laid.{Laid};

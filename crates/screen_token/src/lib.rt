@@ -1,4 +1,6 @@
 // The screen form of one token (02, Item 1). forms/specs/Forms.antt states what is written, specs/Shows.antt what each function answers.
+#![tactic(auto)]
+
 ghost use Rattle.std.specs.Prelude.{◌≡◌, ◌≤◌, length};
 ghost use Rattle.limits.specs.Limits.{most_worked, least_work};
 ghost use Rattle.sections.specs.Laid.{Laid};

@@ -1,4 +1,5 @@
 // The second items of composition pairs, Hangul included, and whether the quick-check set holds those of the table.
+#![tactic(auto)]
 
 ghost use Rattle.std.specs.Prelude.{◌≡◌};
 ghost use Rattle.lists.specs.Lists.{all, any};

@@ -1,4 +1,5 @@
 // The places of the fourteen sections among the words of a table.
+#![tactic(auto)]
 
 ghost use Rattle.std.specs.Prelude.{◌≡◌};
 ghost use Rattle.sections.specs.Known.{none_sorted, no_starts};

@@ -1,4 +1,6 @@
 // The places of the sections among the words of a table, and lookups by them.
+#![tactic(auto)]
+
 pub mod lookup;
 
 use place_marks::Marks;

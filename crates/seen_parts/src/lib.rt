@@ -1,4 +1,5 @@
 // What is seen of one section of a table, by its place: whether it is well formed and sorted, and where a search in it may start.
+#![tactic(auto)]
 
 ghost use Rattle.std.specs.Prelude.{◌≤◌, ◌≡◌};
 ghost use Rattle.lists.specs.Lists.{is_some};

@@ -1,4 +1,5 @@
 // What is seen of all sections of a table, and what the layout pass hands on of it.
+#![tactic(auto)]
 
 ghost use Rattle.std.specs.Prelude.{◌≡◌};
 ghost use Rattle.seen_sections.specs.Found.{all_fit, sorted_of, starts_of, found_of};

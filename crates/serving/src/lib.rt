@@ -1,4 +1,6 @@
 // What the counter program writes once the input has ended, by the lines that are left. 01, "Names at the counter".
+#![tactic(auto)]
+
 ghost use Rattle.buffers.specs.Writes.{Writes};
 ghost use Rattle.lines.specs.Splitting.{lines_of, output};
 ghost use Rattle.replying.specs.Lines.{reply_line};

@@ -1,1 +1,2 @@
 // Closed tables for the rules of the soundness check.
+#![tactic(auto)]

@@ -1,4 +1,6 @@
 // The soundness check of a name table: the rules, asked in their order.
+#![tactic(auto)]
+
 ghost use Rattle.std.specs.Prelude.{◌≡◌, true};
 ghost use Rattle.answers.specs.Values.{broken_rule};
 ghost use Rattle.sections.specs.Laid.{Laid};

@@ -1,4 +1,6 @@
 // Refusals 8 to 11: how a label is spelled.
+#![tactic(auto)]
+
 ghost use Rattle.std.specs.Prelude.{◌≡◌, ◌≤◌, length};
 ghost use Rattle.limits.specs.Limits.{least_work, most_worked};
 ghost use Rattle.sections.specs.Laid.{Laid};

@@ -1,4 +1,6 @@
 // The name table: lookups over the words of one section.
+#![tactic(auto)]
+
 pub mod lookup;
 
 // A section or a part of one: the words from `from` up to, not including, `to`.

@@ -1,4 +1,6 @@
 // The table's words from the bytes of its file. specs/File.antt states what they are.
+#![tactic(auto)]
+
 ghost use Rattle.std.specs.Prelude.{◌≤◌, length};
 ghost use Rattle.table_file.specs.File.{most_table};
 ghost use Rattle.table_file.specs.Promise.{ReadsTable};

@@ -1,5 +1,7 @@
 // The counter program's work on a piece of input: each line that ends in it is answered, and what stands behind the last is held. 01,
 // "Names at the counter".
+#![tactic(auto)]
+
 ghost use Rattle.std.specs.Prelude.{◌^◌, ◌≤◌, length};
 ghost use Rattle.taking.specs.Promise.{most_piece, Ready, Serves, Takes};
 

@@ -1,4 +1,6 @@
 // Where the first token of the rest of a label ends, found from the left. Nothing is stored for a token. specs/Ends.antt states what is answered.
+#![tactic(auto)]
+
 ghost use Rattle.std.specs.Prelude.{◌≤◌, length};
 ghost use Rattle.sections.specs.Laid.{Laid};
 ghost use Rattle.table.specs.Layout.{the_table};

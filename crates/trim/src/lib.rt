@@ -1,4 +1,6 @@
 // Trimmed input, without a copy (02, Item 4): the part of the caller's slice without the blanks at its two ends.
+#![tactic(auto)]
+
 ghost use Rattle.std.specs.Prelude.{◌≡◌, length};
 ghost use Rattle.trim.specs.Trim.{is_blank, start_of, off_back, remaining, Remains};
 

@@ -1,4 +1,6 @@
 // Unpacking a table file to words. specs/Unpack.antt states what it answers.
+#![tactic(auto)]
+
 ghost use Rattle.unpack.specs.Promise.{Unpacks};
 
 use answers::Unpacked;

@@ -1,6 +1,8 @@
 // Composition pairs among the decomposition records. Which records are no composition pairs is found once in a call: `unpaired` is lent by the
 // call and has a bit for each record that was found to be none; behind them one that says that rule 8 was found to hold, and an index of the
 // records.
+#![tactic(auto)]
+
 pub mod index;
 
 use bit_sets::has;

@@ -1,5 +1,7 @@
 // UTF-8 (RFC 3629): a reader from bytes to codepoints and a writer back. The crate utf8_scheme states the scheme, specs/Calls.antt what the
 // calls answer. Neither has a limit on its input.
+#![tactic(auto)]
+
 mod reading;
 mod writing;
 

@@ -1,5 +1,7 @@
 // The sequence that starts the bytes: a lead octet splits into its length mark and its payload bits, a tail octet into the mark 10 and six
 // payload bits. specs/Decoding.antt has what is promised.
+#![tactic(auto)]
+
 ghost use Rattle.std.specs.Prelude.{◌≡◌, ◌+◌, ◌*◌, ◌<◌, ◌≤◌, length, get_or};
 ghost use Rattle.utf8_decode.specs.Decoding.{Tail, DecodedIs};
 

@@ -1,5 +1,7 @@
 // The octets of a scalar value, put behind others: a length mark and payload bits make a lead octet, the mark 10 and six payload bits a tail
 // octet. specs/Storing.antt has what is promised.
+#![tactic(auto)]
+
 ghost use Rattle.std.specs.Prelude.{◌≡◌, true, ◌+◌, ◌<◌, ◌^◌};
 ghost use Rattle.scalar.specs.Scalar.{is_scalar};
 ghost use Rattle.utf8_scheme.specs.Scheme.{tail};

@@ -1,1 +1,2 @@
 // UTF-8 (RFC 3629): the scheme, that reading is its only inverse, and how reading goes on. Specs alone; there is no code here.
+#![tactic(auto)]

@@ -1,4 +1,5 @@
 // Walks over the words of one section of a table: wholes, one behind the other, and the single record of the exclusions.
+#![tactic(auto)]
 
 ghost use Rattle.std.specs.Prelude.{◌≡◌};
 ghost use Rattle.lists.specs.Lists.{is_some};

@@ -1,0 +1,7 @@
+use Prim.Native.Nat.{◌-◌}
+use mathlib.Core.Path.{sym, ◌∙◌}
+use Rattle.table.proofs.Fours.{pairs_skip}
+use Rattle.table.proofs.lookup.skip_pairs.Goals as goal
+
+pub loop-i-preserved : goal.loop-i-preserved
+loop-i-preserved c = pairs_skip _ _ c.loop-i.i c.loop-i.invariant c.loop-i-test.true (sym c.if-in_four.false ∙ c.in_four.ensures)
