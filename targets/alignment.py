@@ -8,7 +8,7 @@ import re
 NAME = r'@(?!llvm\.)(?:"[^"]+"|[\w.]+)'
 QUOTED = '@"'  # such a name stands in a definition and in calls and nowhere else: no other line of a known shape can have it (retarget.py)
 MOST = 16
-DEFINED = re.compile(rf"define(?P<internal> internal)?[^@]* (?P<name>{NAME})\((?P<taken>.*)\) #0 \{{")
+DEFINED = re.compile(rf"define(?P<internal> internal)?[^@]* (?P<name>{NAME})\((?P<taken>.*)\) #\d+ \{{")
 MADE = re.compile(r"  (%\w+) = alloca .*, align (\d+)")
 STEP = re.compile(r"  (%\w+) = getelementptr(?: inbounds)?(?: nuw)? i8, ptr (\S+), i64 (\S+)")
 CHOICE = re.compile(r"  (%\w+) = select i1 \S+, ptr (\S+), ptr (\S+)")

@@ -1,7 +1,5 @@
 """Archives for other machines, from the modules that were kept of the proved ones (tools/staticlib)."""
 
-import os
-import platform
 import re
 import shutil
 import struct
@@ -15,11 +13,15 @@ from retarget import TRIPLE, retarget
 ROOT = Path(__file__).resolve().parent.parent
 HERE = ROOT / "targets"
 
-# As the toolchain tells its clang, for every machine; and what tools/staticlib adds: functions with large local arrays keep their own frames.
-CLANG = ("-ffunction-sections -fdata-sections -mllvm -trap-unreachable -mllvm -no-trap-after-noreturn --no-default-config"
-         " -fintegrated-cc1 -Werror -mllvm -inline-max-stacksize=2048").split()
-# What it adds for x86-64 alone. The first keeps the stack of NFD small, and leaves more single words after refusal 13: elsewhere it was not tried. With
-# the second a copy of a sponge, with bytes of a label, stays on the stack of WebAssembly.
+# As the toolchain tells its clang, for every machine (what it says of faults of clang's too); and what tools/staticlib adds: functions with large
+# local arrays keep their own frames.
+CLANG = ("-mllvm -no-trap-after-noreturn -ffunction-sections -fdata-sections -mllvm -trap-unreachable -mllvm -no-x86-call-frame-opt"
+         " -mllvm -disable-machine-licm -mllvm -disable-postra-machine-licm -mllvm -sink-common-insts=false --no-default-config"
+         " -no-canonical-prefixes -fintegrated-cc1 -fno-crash-diagnostics -Werror -mllvm -inline-max-stacksize=2048").split()
+# What the toolchain tells it for AArch64 alone.
+AARCH64 = "-mllvm -aarch64-load-store-renaming=false".split()
+# What tools/staticlib adds for x86-64 alone. The first keeps the stack of NFD small, and leaves more single words after refusal 13: elsewhere it was not
+# tried. With the second a copy of a sponge, with bytes of a label, stays on the stack of WebAssembly.
 X86 = "-mllvm -recursive-inline-max-stacksize=256 -mllvm -inline-threshold=130".split()
 C = ["-std=c11", "-ffreestanding", "-nostdinc", "-Wall", "-Wextra", f"-I{HERE / 'include'}", f"-I{ROOT / 'include'}"]
 
@@ -49,10 +51,9 @@ def toolchain():
     rt = shutil.which("rt")
     if rt is None:
         raise Failed("the Rattle toolchain (rt) is needed and is not on the PATH")
-    home = Path(os.environ.get("RATTLE_HOME") or Path(rt).resolve().parent.parent)
-    found = home / "on" / platform.machine() / "toolchain/bin"
+    found = Path(rt).resolve().parent.parent / "toolchain/bin"
     if not (found / "clang").exists():
-        raise Failed(f"{home} has no clang for this machine")
+        raise Failed(f"{found} has no clang")
     return found
 
 
@@ -190,10 +191,18 @@ def sections(path):
     return tuple(map(sum, zip((0, 0), *map(elf_sizes, objects(path)))))
 
 
+def own_words(machine):
+    """What the compiler is told beside CLANG, where a machine has words of its own."""
+    return X86 if machine.name.startswith("x86_64") else AARCH64 if machine.name.startswith("aarch64") else []
+
+
 def is_kept(name, room):
-    """Whether the module that is kept of an archive is the one that it was compiled from: compiled again as rt does, it gives the same object."""
-    kept = ROOT / "target/staticlib"
-    clang(f"--target={TRIPLE}", "-march=x86-64", *CLANG, *X86, "-fPIC", "-O3", "-c", "-x", "ir", kept / f"{name}.bc", "-o", room / "again.o")
+    """Whether the module that is kept of an archive is the one that it was compiled from: compiled again by the same words, it gives the same object."""
+    kept, again = ROOT / "target/staticlib", {"module.bc": f"{name}.bc", "module.o": room / "again.o"}
+    words = (kept / f"{name}.words").read_text(encoding="utf-8").splitlines()
+    if [word for word in words if word.endswith((".bc", ".o"))] != list(again):
+        raise Failed(f"{name}.words has other files than {', '.join(again)}")
+    run([toolchain() / "clang", *[again.get(word, word) for word in words if not word.startswith("--sysroot=")]], cwd=kept)
     return [(room / "again.o").read_bytes()] == list(objects(kept / f"lib{name}.a"))
 
 
@@ -210,7 +219,7 @@ def build(machine, modules, to):
             changed, calls = retarget(text, header, layout, triple, machine.probes, machine.bits)
             (room / f"{name}.ll").write_text(changed, encoding="utf-8")
             (room / f"{name}_calls.c").write_text(header.shim(calls), encoding="utf-8")
-            words = [*machine.clang, *CLANG, *(X86 if machine.name.startswith("x86_64") else []), machine.level, "-fstack-usage"]
+            words = [*machine.clang, *CLANG, *own_words(machine), machine.level, "-fstack-usage"]
             clang(*words, "-c", "-x", "ir", room / f"{name}.ll", "-o", room / f"{name}.o")
             compile_c(machine, room / f"{name}_calls.c", room / f"{name}_calls.o", "-O2", "-fstack-usage")
             members += [room / f"{name}.o", room / f"{name}_calls.o"]

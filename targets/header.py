@@ -97,7 +97,7 @@ class Header:
         answer = self.answer_type(call)
         return f"{answer or 'ptr'} @{call.name}({', '.join(types if answer else ['ptr'] + types)})"
 
-    def door(self, call):
+    def door(self, call, attributes):
         """The function that is added to the module: it calls the export and writes the answer through its first parameter."""
         types = [self.parameter_type(p) for p in call.parameters]
         given = [f"{t.split(' ')[0]} noundef %a{i}" for i, t in enumerate(types)]
@@ -108,7 +108,7 @@ class Header:
         else:
             align = 4 if answer == "i32" else 8
             body = [f"  %r = call {answer} @{call.name}({', '.join(handed)})", f"  store {answer} %r, ptr %answer, align {align}"]
-        head = f"define hidden void @{door_name(call)}({', '.join(['ptr noundef %answer'] + given)}) #0 {{"
+        head = f"define hidden void @{door_name(call)}({', '.join(['ptr noundef %answer'] + given)}) {attributes} {{"
         return "\n".join([head, "start:", *body, "  ret void", "}"])
 
     # The target's side: C.

@@ -11,7 +11,8 @@ from header import Unknown
 
 LAYOUT = "e-m:e-p270:32:32-p271:32:32-p272:64:64-i64:64-i128:128-f80:128-n8:16:32:64-S128"
 TRIPLE = "x86_64-unknown-linux-gnu"
-ATTRIBUTES = 'attributes #0 = { nounwind "probe-stack"="inline-asm" "target-cpu"="x86-64" }'
+PROBES = ' "probe-stack"="inline-asm" "stack-probe-size"="3072"'
+ATTRIBUTES = f'nounwind{PROBES} "target-cpu"="x86-64"'
 
 INT = r"i(?:1|8|16|32|64)"
 ONE = rf"(?:{INT}|ptr)"  # what a variable holds
@@ -21,7 +22,8 @@ NAME = r'@(?!llvm\.)(?:"[^"]+"|[\w.]+)'
 HINTS = r"(?: (?:noundef|zeroext|signext|nonnull|returned|immarg))*"
 COPY = r"(?: byval\(\[\d+ x i8\]\) align \d+)?"
 META = r"(?:, !(?:noundef|range) !\d+)*"
-ANSWER = rf"(?:void|{ONE}|\{{ i64, i64 \}})"
+PAIR = rf"\{{ {ONE}, {ONE} \}}"  # what a function answers in two registers
+ANSWER = rf"(?:void|{ONE}|{PAIR})"
 GIVEN = rf"\((?:{ONE}{HINTS}{COPY}{HINTS} {WORD}(?:, )?)*\)"
 TAKEN = rf"\((?:{ONE}{HINTS}{COPY}{HINTS} %\w+(?:, )?)*\)"
 
@@ -32,13 +34,14 @@ SHAPES = [
     rf'target datalayout = "{re.escape(LAYOUT)}"',
     rf'target triple = "{TRIPLE}"',
     rf"{NAME} = (?:private|internal)(?: unnamed_addr)? constant {MANY} (?:c\"[^\"]*\"|\[[-\d i,]*\]|zeroinitializer), align \d+",
-    rf"define(?: internal)?{HINTS} {ANSWER} {NAME}{TAKEN} #0 \{{",
+    rf"define(?: internal)?{HINTS} {ANSWER} {NAME}{TAKEN} #\d+ \{{",
     r"declare void @llvm\.memmove\.p0\.p0\.i64\(ptr writeonly captures\(none\), ptr readonly captures\(none\), i64, i1 immarg\) #\d+",
     r"declare void @llvm\.memset\.p0\.i64\(ptr writeonly captures\(none\), i8, i64, i1 immarg\) #\d+|declare void @llvm\.trap\(\) #\d+",
     r"\}",
     r"[\w.]+:(?: +; (?:preds = .*|No predecessors!))?",
     rf"  %\w+ = alloca (?:{ONE}|{MANY}), align \d+",
-    rf"  %\w+ = load (?:{ONE}|\{{ i64, i64 \}}), ptr {WORD}, align \d+{META}",
+    rf"  %\w+ = load (?:{ONE}|{PAIR}), ptr {WORD}, align \d+{META}",
+    rf"  %\w+ = extractvalue {PAIR} %\w+, [01]",
     rf"  store {ONE} {WORD}, ptr {WORD}, align \d+",
     rf"  %\w+ = getelementptr(?: inbounds)?(?: nuw)? i8, ptr {WORD}, i64 {WORD}",
     rf"  (?:%\w+ = )?call{HINTS} {ANSWER} {NAME}{GIVEN}(?: #\d+)?",
@@ -46,18 +49,19 @@ SHAPES = [
     rf"  call void @llvm\.memset\.p0\.i64\(ptr {WORD}, i8 {WORD}, i64 \d+, i1 false\)|  call void @llvm\.trap\(\)",
     rf"  %\w+ = (?:add|sub|mul|shl)(?: nuw)?(?: nsw)? {INT} {WORD}, {WORD}",
     rf"  %\w+ = (?:udiv|urem|lshr|and|or|xor)(?: exact| disjoint)? {INT} {WORD}, {WORD}",
-    rf"  %\w+ = icmp \w+ {INT} {WORD}, {WORD}",
+    rf"  %\w+ = icmp \w+ {INT} {WORD}, {WORD}|  %\w+ = icmp eq ptr %\w+, null",
     rf"  %\w+ = (?:zext|trunc)(?: nuw| nneg)* {INT} {WORD} to {INT}",
     rf"  %\w+ = select i1 {WORD}, {ONE} {WORD}, {ONE} {WORD}",
     r"  br label %[\w.]+|  br i1 %\w+, label %[\w.]+, label %[\w.]+",
     rf"  switch {INT} %\w+, label %[\w.]+ \[|    {INT} -?\d+, label %[\w.]+|  \]",
-    rf"  ret (?:void|{ONE} {WORD}|\{{ i64, i64 \}} %\w+)|  unreachable",
-    re.escape(ATTRIBUTES),
-    r"attributes #[1-9] = \{(?: (?:nocallback|nofree|nounwind|willreturn|cold|noreturn|memory\((?:argmem|inaccessiblemem): \w+\)))* \}",
+    rf"  ret (?:void|{ONE} {WORD}|{PAIR} %\w+)|  unreachable",
+    rf"attributes #\d+ = \{{ (?:(?:inlinehint|alwaysinline|noinline) )?{re.escape(ATTRIBUTES)} \}}",
+    r"attributes #\d+ = \{(?: (?:nocallback|nofree|nounwind|willreturn|cold|noreturn|memory\((?:argmem|inaccessiblemem): \w+\)))* \}",
     r'!llvm\.ident = !\{!0\}|!\d+ = !\{[^"{}]*\}|!0 = !\{!"rattle logic=[0-9a-f]+"\}',
 ]
 STEP = re.compile(rf"  (?P<to>%\w+) = getelementptr(?: inbounds)?(?: nuw)? i8, ptr (?P<from>{WORD}), i64 (?P<step>{WORD})")
-REACH = re.compile(rf"  (?:%\w+ = load (?P<kind>{ONE}|\{{ i64, i64 \}}), ptr |store (?P<stored>{ONE}) {WORD}, ptr )(?P<at>{WORD}),")
+REACH = re.compile(rf"  (?:%\w+ = load (?P<kind>{ONE}), ptr |store (?P<stored>{ONE}) {WORD}, ptr )(?P<at>{WORD}),")
+PAIRED = re.compile(rf"  (?P<to>%\w+) = load \{{ (?P<first>{ONE}), (?P<second>{ONE}) \}}, ptr (?P<at>{WORD}), align (?P<align>\d+){META}")
 SHAPE = re.compile("|".join(f"(?:{shape})" for shape in SHAPES))
 
 
@@ -66,9 +70,39 @@ def check(text):
     for number, line in enumerate(text.splitlines(), 1):
         if not SHAPE.fullmatch(line):
             raise Unknown(f"line {number} of the module does not carry over: {line[:200]}")
-    for due in (f'target datalayout = "{LAYOUT}"', f'target triple = "{TRIPLE}"', ATTRIBUTES):
+    for due in (f'target datalayout = "{LAYOUT}"', f'target triple = "{TRIPLE}"'):
         if text.count(due) != 1:
             raise Unknown(f"the module has no {due}")
+    known = set(re.findall(rf"^attributes (#\d+) = \{{ .*{re.escape(ATTRIBUTES)} \}}$", text, re.M))
+    for number in set(re.findall(r"^define .* (#\d+) \{$", text, re.M)) - known:
+        raise Unknown(f"functions with the attributes {number} are not for {ATTRIBUTES}")
+
+
+def size_of(kind):
+    """Bytes of a number or a pointer in the module; its alignment is the same."""
+    return 8 if kind == "ptr" else max(1, int(kind[1:]) // 8)
+
+
+def part(match):
+    """The lines that read a pair part by part."""
+    first, second = match["first"], match["second"]
+    step = -(-size_of(first) // size_of(second)) * size_of(second)
+    to, pair, align = match["to"], f"{{ {first}, {second} }}", int(match["align"])
+    return [f"  {to}_0 = load {first}, ptr {match['at']}, align {align}",
+            f"  {to}_at = getelementptr i8, ptr {match['at']}, i64 {step}",
+            f"  {to}_1 = load {second}, ptr {to}_at, align {min(align, step & -step)}",
+            f"  {to}_half = insertvalue {pair} poison, {first} {to}_0, 0",
+            f"  {to} = insertvalue {pair} {to}_half, {second} {to}_1, 1"]
+
+
+def parted(text):
+    """The module with each pair that is read from memory read part by part, with the offset of the second as x86-64 has it. Where a pointer has four
+    bytes, a pair that has one would else be read from other places than it was written to."""
+    lines = []
+    for line in text.splitlines():
+        match = PAIRED.fullmatch(line)
+        lines += part(match) if match else [line]
+    return "\n".join(lines) + "\n"
 
 
 def check_slots(text):
@@ -88,8 +122,7 @@ def check_slots(text):
             if kind == "ptr":
                 pointers.setdefault(base, set()).add(offset)
             else:
-                bits = 128 if kind.startswith("{") else int(kind[1:])
-                numbers.setdefault(base, set()).add((offset, offset + max(1, bits // 8)))
+                numbers.setdefault(base, set()).add((offset, offset + size_of(kind)))
         elif line == "}":
             for base, offsets in pointers.items():
                 mixed = [o for o in offsets if any(start < o + 8 and o < end for start, end in numbers.get(base, ()))]
@@ -101,7 +134,7 @@ def exports(text):
     """Each export with its types, in the form of Header.signature."""
     found = {}
     for line in text.splitlines():
-        match = re.fullmatch(rf"define({HINTS}) (?P<answer>{ANSWER}) @(?P<name>\w+)\((?P<taken>.*)\) #0 \{{", line)
+        match = re.fullmatch(rf"define({HINTS}) (?P<answer>{ANSWER}) @(?P<name>\w+)\((?P<taken>.*)\) #\d+ \{{", line)
         if match:
             taken = re.sub(r" (?:noundef|zeroext|signext|nonnull)\b", "", match["taken"])
             types = re.sub(r" %\w+(?=,|$)", "", taken)
@@ -113,6 +146,7 @@ def retarget(text, header, layout, triple, probes, bits):
     """The module for a machine whose pointers have so many bits, and the calls that it has. `probes`: its back end knows how to touch each page
     of a large frame in turn."""
     check(text)
+    text = parted(text)
     check_slots(text)
     here = exports(text)
     calls = [call for call in header.calls if call.name in here]
@@ -124,9 +158,10 @@ def retarget(text, header, layout, triple, probes, bits):
     text = align(text)
     text = text.replace(f'target datalayout = "{LAYOUT}"', f'target datalayout = "{layout}"')
     text = text.replace(f'target triple = "{TRIPLE}"', f'target triple = "{triple}"')
-    text = text.replace(ATTRIBUTES, "attributes #0 = { nounwind" + (' "probe-stack"="inline-asm"' if probes else "") + " }")
+    attributes = f"nounwind{PROBES if probes else ''}"
+    text = text.replace(ATTRIBUTES, attributes)
     if bits == 32:  # lengths of copies, which are written out
         text = re.sub(r"(@llvm\.mem(?:move\.p0\.p0|set\.p0)\.)i64(\(.*), i64( \d+)?, i1", r"\1i32\2, i32\3, i1", text)
     for call in calls:
         text = re.sub(rf"^define (?=[^\n]*@{call.name}\()", "define internal ", text, flags=re.M)
-    return text + "\n" + "\n\n".join(header.door(call) for call in calls) + "\n", calls
+    return text + "\n" + "\n\n".join(header.door(call, attributes) for call in calls) + "\n", calls

@@ -1,5 +1,5 @@
-# Functions of ./normalise, ./run, ./install and tools/targets, to be sourced with $root and $me (the command's name) set: they prove and build what has
-# changed. With WANLOPHENG_BUILT=1 in the environment everything is taken as it is built, and nothing is proved.
+# Functions of ./normalise, ./run, ./install, ./test and tools/targets, to be sourced with $root and $me (the command's name) set: they prove and
+# build what has changed. With WANLOPHENG_BUILT=1 in the environment everything is taken as it is built, and nothing is proved.
 
 # need TOOL WHAT: the tool has to be there
 need() {
@@ -7,6 +7,11 @@ need() {
         echo "$me: $2 ($1) is needed and is not on the PATH" >&2
         exit 3
     fi
+}
+
+# listed: the crates of crates.txt, one a line
+listed() {
+    sed -nE 's/^([A-Za-z_0-9]+).*/\1/p' "$root/crates.txt"
 }
 
 # reached NAME ..: these crates and all below them, one a line
@@ -20,74 +25,110 @@ reached() {
             for (i = 1; i <= n; i++) visit(list[i])
         }
         { sub(/#.*/, "") }
-        split($0, part, ":") == 2 { below[part[1]] = part[2] }
+        split($0, part, ":") == 2 { split(part[1], head, " "); below[head[1]] = part[2] }
         END { n = split(wanted, list, " "); for (i = 1; i <= n; i++) visit(list[i]) }' "$root/crates.txt"
 }
 
-# below NAME: the crates that it stands on itself, in this repository
-below() {
+# sum_of NAME ..: a checksum of all that a proof of these crates rests on: the kit, and the lines of crates.txt and the files of theirs and of all
+# below them
+sum_of() {
+    local name part folders=()
+    for name in $(reached "$@"); do
+        for part in src specs proofs; do
+            [ ! -d "$root/crates/$name/$part" ] || folders+=("crates/$name/$part")
+        done
+    done
+    (
+        cd "$root"
+        rt version
+        reached "$@" | awk 'NR == FNR { wanted[$1]; next } { split($0, head, /[ :]/) } head[1] in wanted' - crates.txt
+        [ ! -f HANDLES ] || cat HANDLES
+        find tools/staticlib "${folders[@]}" -type f -print0 | LC_ALL=C sort -z | xargs -0 sha256sum
+    ) | sha256sum
+}
+
+# noted FILE NOTE SUM: whether the file is there, was made when the sum was noted and not since, and the sum is still that one
+noted() {
+    [ -f "$1" ] && [ -f "$2" ] && [ ! "$1" -nt "$2" ] && [ "$(cat "$2")" = "$3" ]
+}
+
+# note NOTE SUM
+note() {
+    mkdir -p "${1%/*}"
+    echo "$2" >"$1"
+}
+
+# passed_ci: whether rt ci has passed all crates as they stand, as ./test noted
+passed_ci() {
+    # shellcheck disable=SC2046
+    [ -f "$root/target/ci.sum" ] && [ "$(cat "$root/target/ci.sum")" = "$(sum_of $(listed))" ]
+}
+
+# left_by_ci NAME: whether the libraries below this crate are those that rt ci left, and none was built since (rt check puts a stamp beside its own)
+left_by_ci() {
     local name
-    for name in $(sed -n "s/^$1: *//p" "$root/crates.txt"); do
-        [ ! -d "$root/crates/$name/src" ] || echo "$name"
+    for name in $(reached "$1"); do
+        [ "$name" = "$1" ] && continue
+        [ -f "$root/crates/$name/out/rlib/$name.rlib/format" ] && [ ! -f "$root/crates/$name/out/rlib/stamp" ] || return 1
     done
 }
 
-# progress COUNT: shows on one line how many crates of COUNT are proved, from what rt writes to standard input, and nothing where none had to
-# be proved
+# progress: shows on one line how many crates are proved, from what rt writes to standard input, and nothing where none had to be proved
 progress() {
-    local line done=0 proved=0 began=$SECONDS
+    local line proved=0 now='' began=$SECONDS
     while IFS= read -r line; do
         case $line in
-        'rt: '*' proved (unchanged'*) done=$((done + 1)) ;;
-        'rt: '*' proved ('*) done=$((done + 1)) proved=$((proved + 1)) ;;
+        'rt: chose --jobs '*) now="now ${line##* }, " ;;
+        'logic=proved '*) proved=$((proved + 1)) ;;
         *) continue ;;
         esac
-        [ "$proved" -eq 0 ] || [ ! -t 2 ] ||
-            printf '\r%s: %d of %d crates proved, %d:%02d ' "$me" "$done" "$1" $(((SECONDS - began) / 60)) $(((SECONDS - began) % 60)) >&2
+        [ ! -t 2 ] || printf '\r\033[K%s: %d crates proved, %s%d:%02d ' "$me" "$proved" "$now" $(((SECONDS - began) / 60)) $(((SECONDS - began) % 60)) >&2
     done
-    [ "$proved" -eq 0 ] || [ ! -t 2 ] || echo >&2
+    [ -z "$now" ] || [ ! -t 2 ] || echo >&2
 }
 
 # told_first: says once, where a proof is due, that it takes its time
 told=
 told_first() {
-    [ -n "$told" ] || echo "$me: proving and building what has changed; the first time takes some ten minutes" >&2
+    [ -n "$told" ] || echo "$me: proving and building what has changed; the first time takes long, since every crate below is proved (docs/TIMES.md)" >&2
     told=1
 }
 
-# quietly COUNT COMMAND ..: runs rt, shows its progress, and all that it wrote where it fails
+# quietly FOLDER COMMAND ..: runs a command that proves in a folder, shows its progress, and all that it wrote where it fails
 quietly() {
-    local count=$1 log=$root/target/log/$me.out
+    local folder=$1 log=$root/target/log/$me.out
     shift
     mkdir -p "$root/target/log"
-    if ! (cd "$root" && "$@" 2>&1) | tee "$log" | progress "$count"; then
+    if ! (cd "$folder" && "$@" </dev/null 2>&1) | tee "$log" | progress; then
         cat "$log" >&2
         echo "$me: not proved" >&2
         exit 3
     fi
 }
 
-# unproved NAME ..: whether one of these or of those below has no stamp, so that a long proof is due
-unproved() {
-    local name
-    for name in $(reached "$@"); do
-        [ -f "$root/target/stamp/$name" ] || return 0
-    done
-    return 1
+# run_once NAME: `rt run` in the crate's folder, which proves, builds and runs the program; here on nothing, and whatever it ends with
+run_once() {
+    rt run || true
+    [ -x "out/$1" ]
 }
 
-# build_program NAME: proves and builds target/bin/NAME where something of it has changed
+# build_program NAME: proves and builds crates/NAME/out/NAME where something of it has changed
 build_program() {
+    local crate=$root/crates/$1 note=$root/target/built/$1.sum sum
+    local program=$crate/out/$1
     if [ -n "${WANLOPHENG_BUILT:-}" ]; then
-        [ -x "$root/target/bin/$1" ] && return
-        echo "$me: target/bin/$1 is missing, and WANLOPHENG_BUILT is set" >&2
+        [ -x "$program" ] && return
+        echo "$me: crates/$1/out/$1 is missing, and WANLOPHENG_BUILT is set" >&2
         exit 3
     fi
     need rt "the Rattle toolchain"
-    # A crate that has not changed is skipped, and its program with it.
-    [ -x "$root/target/bin/$1" ] || rm -f "$root/target/stamp/$1"
-    ! unproved "$1" || told_first
-    quietly "$(reached "$1" | wc -l)" rt check "$1"
+    sum=$(sum_of "$1")
+    ! noted "$program" "$note" "$sum" || return 0
+    ! { [ -x "$program" ] && [ ! "$program" -nt "$root/target/ci.sum" ] && passed_ci; } || return 0
+    told_first
+    rm -f "$program"
+    quietly "$crate" run_once "$1"
+    note "$note" "$sum"
 }
 
 # archives: the archives of the library, one a line
@@ -95,28 +136,24 @@ archives() {
     sed '/^#/d' "$root/archives.txt"
 }
 
-# build_archive NAME: proves and writes target/staticlib/libNAME.a, and NAME.bc beside it, the module that it was compiled from, where
-# something of it has changed: a crate below it was proved since the archive was written, or its own files are newer
+# build_archive NAME: proves and writes target/staticlib/libNAME.a, and NAME.bc beside it, the module that it was compiled from, where something of
+# it has changed. Right after ./test nothing below it is proved again.
 build_archive() {
-    local archive=$root/target/staticlib/lib$1.a module=$root/target/staticlib/$1.bc crate=$root/crates/$1 name rests_on
+    local archive=$root/target/staticlib/lib$1.a module=$root/target/staticlib/$1.bc note=$root/target/built/lib$1.sum sum over=()
     if [ -n "${WANLOPHENG_BUILT:-}" ]; then
         [ -f "$archive" ] && return
         echo "$me: target/staticlib/lib$1.a is missing, and WANLOPHENG_BUILT is set" >&2
         exit 3
     fi
     need rt "the Rattle toolchain"
-    # shellcheck disable=SC2046
-    ! unproved $(below "$1") || told_first
-    # shellcheck disable=SC2046
-    quietly "$(reached $(below "$1") | wc -l)" rt check $(below "$1")
-    rests_on=("$root/crates.txt" "$crate/src" "$crate/specs" "$crate/proofs")
-    for name in $(below "$1"); do
-        rests_on+=("$root/target/stamp/$name")
-    done
-    if [ ! -f "$archive" ] || [ ! "$module" -nt "$archive" ] || [ -n "$(find "${rests_on[@]}" -newer "$archive" -print -quit)" ]; then
-        told_first
-        quietly 1 tools/staticlib "$1"
+    sum=$(sum_of "$1")
+    if noted "$archive" "$note" "$sum" && noted "$module" "$note" "$sum" && [ "$module" -nt "$archive" ]; then
+        return
     fi
+    told_first
+    ! { left_by_ci "$1" && passed_ci; } || over=(--over-ci)
+    quietly "$root" tools/staticlib ${over[@]+"${over[@]}"} "$1"
+    note "$note" "$sum"
 }
 
 # build_archives: all archives of the library

@@ -1,5 +1,5 @@
 #!/usr/bin/env python3
-"""Tests of tools/landing, tools/edits, tools/pointers, of what tools/targets does to a module and of how the page is made. Last line: 'N passed, M failed'."""
+"""Tests of tools/landing, tools/edit-fit, tools/pointers, of what tools/targets does to a module and of how the page is made. Last line: 'N passed, M failed'."""
 
 import contextlib
 import importlib.machinery
@@ -25,7 +25,7 @@ def tool(name):
 
 sys.dont_write_bytecode = True
 landing = tool("landing")
-edits = tool("edits")
+edit_fit = tool("edit-fit")
 pointers = tool("pointers")
 sys.path[:0] = [str(HERE.parent / "targets"), str(HERE.parent / "web/desk")]
 import build  # noqa: E402
@@ -187,8 +187,8 @@ class Landing(unittest.TestCase):
         self.assertEqual(found, {**STAYED, "promises": (0, 1, 1, 0, 3), "code": (0, 1, 1, 0, 3)})
 
     def test_times(self):
-        log = "1:02, 1 of 2 crates  rt: low proved (48 s)\nrt: must-fail low/a: refused, as it must be (first at x:3:4; 7 s)\n"
-        self.assertEqual(landing.times_of(log), ({"low": 48}, [7], None))
+        log = "1:02, 1 of 2 crates  rt: low proved\n1:03, 2 of 2 crates  rt: high is kept: an earlier run\n1:04  rt: must-fail low/a.edit: refused, as it must be\n"
+        self.assertEqual(landing.times_of(log), (["low"], 1, None))
         self.assertEqual(landing.times_of(log + "test: 20:05 in all\n")[2], 1205)
 
     def test_two_commits_and_two_logs(self):
@@ -203,8 +203,8 @@ class Landing(unittest.TestCase):
                 git("add", ".")
                 git("commit", "-q", "-m", text)
             before, after = Path(room, "before"), Path(room, "after")
-            before.write_text("rt: low proved (48 s)\n")
-            after.write_text("rt: low proved (50 s)\nrt: new proved (1 s)\ntest: 1:10 in all\n")
+            before.write_text("rt: low proved\n")
+            after.write_text("rt: low proved\nrt: new proved\ntest: 1:10 in all\n")
             out, here = io.StringIO(), os.getcwd()
             os.chdir(room)
             try:
@@ -216,8 +216,7 @@ class Landing(unittest.TestCase):
         self.assertIn("- moved: `low`: `limit`", lines)
         self.assertIn("- stayed: `low`: `Held`, `double`", lines)
         self.assertIn("| the whole gate | – | 70 s |", lines)
-        self.assertIn("| `low` | 48 s | 50 s |", lines)
-        self.assertIn("| `new` | – | 1 s |", lines)
+        self.assertIn("| crates proved in that run | 1 | 2 |", lines)
 
     def test_bad_usage(self):
         with contextlib.redirect_stderr(io.StringIO()):
@@ -225,53 +224,58 @@ class Landing(unittest.TestCase):
 
 
 class Edits(unittest.TestCase):
-    def verdict(self, *errors):
-        return edits.worthless("\n".join(f"proofs/f/Proof.antt:3:4: error: {e}" for e in errors) + "\nlogic=not-proved\n")
+    def setUp(self):
+        room = tempfile.TemporaryDirectory()
+        self.addCleanup(room.cleanup)
+        self.root = Path(room.name)
+        for path, text in FILES.items():
+            file = self.root / path
+            file.parent.mkdir(parents=True, exist_ok=True)
+            file.write_text(text, encoding="utf-8")
 
-    def test_facts_count(self):
-        for text in (
-            "`loop-again`: computed as far as they go, the two types differ only where one has `1` (expected) and the other has `0` (found)",
-            "`returns-2`: as printed, the two types first differ where one has `_<_` (expected), at the start, and the other has `_≤_`",
-            "`shared-slice-read-dst`: `search`: no proof of `InSlice`",
-            "`copy-words-requires`: `omega`: the goal does not follow from what it read",
+    def faults(self, *lines):
+        return list(edit_fit.faults("\n".join(lines) + "\n", self.root / "crates/low"))
+
+    def test_what_fits(self):
+        first = ("# Half is a third.", "file: src/lib.rt", "old: n / 2", "new: n / 3")
+        self.assertEqual(self.faults(*first), [])
+        self.assertEqual(self.faults(*first, "old: n / 3", "new: n / 4"), [], "where the first pair was applied")
+        self.assertEqual(self.faults(*first, "file: specs/Low.antt", "old: limit = 8", "new: limit = 9"), [])
+
+    def test_what_does_not(self):
+        for lines, why in (
+            (("file: src/lib.rt", "old: n * 2", "new: n"), "0 times in src/lib.rt: n * 2; most like it is line 16:     n / 2"),
+            (("file: src/lib.rt", "old: usize", "new: u32"), "4 times in src/lib.rt: usize"),
+            (("file: src/lib.rt", "old: n / 2", "new: n / 3", "old: n / 2", "new: n"), "0 times in src/lib.rt: n / 2; most like it is line 16:     n / 3"),
+            (("file: src/lib.rt", "old: n / 2", "new: n / 2"), "it changes nothing"),
+            (("file: src/other.rt", "old: n", "new: m"), "there is no src/other.rt"),
+            (("file: must-fail/x", "old: n", "new: m"), "must-fail/x is not below src/, specs/ or proofs/"),
+            (("file: src/lib.rt", "old: n / 2"), "it has no 'old:' and 'new:' pair"),
+            (("file: src/lib.rt", "new: n"), "a 'new:' line stands before any 'file:' or 'old:' line"),
         ):
-            self.assertIsNone(self.verdict(text, "`f-spec`: `returns` was not admitted (..), so this cannot be checked"), text)
+            self.assertIn(why, self.faults(*lines))
 
-    def test_unfit_proof_files_do_not(self):
-        for text in (
-            "`cast-t3`: `tie.Need-cast-t3`: module `Tie` has no `Need-cast-t3` that can be named from here",
-            "`returns-3`: record `Rattle·file_words·proofs.proofs.inspect.Lts.Then3` has no field `if2`",
-            "`returns-3`: record `Rattle·file_words·proofs.proofs.inspect.Lts.Then3`\n  has no field `if2`",
-            "`Inv-loop`: this pattern needs a function (or path) type to bind, but the signature at this point is `Type 0`",
-            "`Inv-loop`: computed as far as they go, the two types are `ℕ → Type 0`",
-            "`μ-loop`: expected type `ℕ`, but this has type `List ℕ`",
-            "`f-spec`: computed as far as they go, the two types first differ where one has `_*_` (expected)",
-            "`returns`: expected type `Prim.Native.Nat.ℕ`, but this has type `mathlib.Core.List.List Prim.Native.Nat.ℕ`",
-        ):
-            self.assertIsNotNone(self.verdict(text), text)
-            self.assertIsNotNone(self.verdict("`returns`: the two types differ", text), text)
-
-    def test_an_index_that_the_proof_cites(self):
-        with tempfile.TemporaryDirectory() as room:
-            proof = Path(room, "Proof.antt")
-            proof.write_text("cast-n c = omega (arith, c .shared-slice-known2 .given 1)\n", encoding="utf-8")
-            cast = f"{proof}:1:12: error: `cast-n`: `omega`: the goal does not follow from what it read"
-            fact = f"{proof}:9:12: error: `returns-2`: the two types first differ where one has `1`"
-            self.assertIsNotNone(edits.worthless(cast))
-            self.assertIsNone(edits.worthless(f"{cast}\n{fact}"))
-
-    def test_a_folder(self):
-        with tempfile.TemporaryDirectory() as room:
-            for name, text in (("good", "`returns`: the two types differ"), ("bad", "`a`: record `R` has no field `if2`")):
-                log = Path(room, "low", name, ".log")
-                log.parent.mkdir(parents=True)
-                log.write_text(f"x:1:1: error: {text}\n", encoding="utf-8")
-            out = io.StringIO()
-            with contextlib.redirect_stdout(out):
-                self.assertEqual(edits.main([room]), 1)
-        lines = out.getvalue().splitlines()
-        self.assertTrue(lines[0].startswith("low/bad: worthless, "), lines)
-        self.assertEqual(lines[1:], ["2 edits, 1 worthless"])
+    def test_a_repository(self):
+        for name, new in (("good", "n <= LIMIT + 1"), ("strange", "within(n)")):
+            edit = self.root / f"crates/low/must-fail/{name}.edit"
+            edit.parent.mkdir(exist_ok=True)
+            edit.write_text(f"file: src/lib.rt\nold: n <= LIMIT\nnew: {new}\n", encoding="utf-8")
+        (self.root / "crates/low/must-fail/bad.edit").write_text("file: src/lib.rt\nold: n < LIMIT\nnew: n\n", encoding="utf-8")
+        out = io.StringIO()
+        with contextlib.redirect_stdout(out):
+            self.assertEqual(edit_fit.main(["--all"], self.root), 1)
+        self.assertEqual([line.partition("; ")[0] for line in out.getvalue().splitlines()], [
+            "crates/low/must-fail/bad.edit: 0 times in src/lib.rt: n < LIMIT",
+            "crates/low/must-fail/good.edit: fits",
+            "crates/low/must-fail/strange.edit: fits",
+            "3 edits, 1 do not fit",
+        ])
+        (self.root / "crates/low/must-fail/strange.edit").write_text("file: src/lib.rt\nold: n <= LIMIT\nnew: holdsAll(n)\n", encoding="utf-8")
+        out = io.StringIO()
+        with contextlib.redirect_stdout(out), contextlib.redirect_stderr(io.StringIO()):
+            self.assertEqual(edit_fit.main(["low"], self.root), 1)
+            self.assertEqual(edit_fit.main(["lower"], self.root), 2)
+        self.assertIn("crates/low/must-fail/strange.edit: note: its new text has words that no crate has: holdsAll", out.getvalue())
 
 
 class Pointers(unittest.TestCase):
@@ -326,6 +330,7 @@ define {{ i64, i64 }} @wanlopheng_trim(ptr noundef %a0, i64 noundef %a1) #0 {{
 start:
   %r0 = alloca [16 x i8], align 8
   call void @"low::copy"(ptr %a0, ptr %r0)
+  %r3 = icmp eq ptr %a0, null
   %r9 = load {{ i64, i64 }}, ptr %r0, align 8
   ret {{ i64, i64 }} %r9
 }}
@@ -337,7 +342,7 @@ start:
 
 declare void @llvm.memmove.p0.p0.i64(ptr writeonly captures(none), ptr readonly captures(none), i64, i1 immarg) #1
 
-{retarget.ATTRIBUTES}
+attributes #0 = {{ {retarget.ATTRIBUTES} }}
 attributes #1 = {{ nocallback nofree nounwind willreturn memory(argmem: readwrite) }}
 
 !llvm.ident = !{{!0}}
@@ -357,7 +362,7 @@ class Targets(unittest.TestCase):
     def test_only_these_lines_are_changed(self):
         text, calls = self.changed()
         self.assertEqual([c.name for c in calls], ["wanlopheng_trim", "wanlopheng_fill"])
-        before, after = MODULE.splitlines(), text.splitlines()
+        before, after = retarget.parted(MODULE).splitlines(), text.splitlines()
         moved = [(a, b) for a, b in zip(before, after) if a != b]
         self.assertEqual([b for _, b in moved], [
             'target datalayout = "e-p:32:32"',
@@ -377,8 +382,36 @@ class Targets(unittest.TestCase):
             "call ptr @wanlopheng_fill(ptr %answer, ptr byval([32 x i8]) align 8 %a0, i32 %a1)",
             "ret void",
         ])
-        self.assertIn('"probe-stack"="inline-asm"', self.changed(probes=True)[0])
+        self.assertIn('attributes #0 = { nounwind "probe-stack"="inline-asm" "stack-probe-size"="3072" }\n', self.changed(probes=True)[0])
+        inlined = MODULE.replace("ptr noundef %a1) #0 {", "ptr noundef %a1) #2 {") + f"attributes #2 = {{ inlinehint {retarget.ATTRIBUTES} }}\n"
+        self.assertIn("attributes #2 = { inlinehint nounwind }\n", self.changed(inlined)[0])
         self.assertIn("i64 16, i1 false", self.changed(bits=64)[0])
+
+    def test_a_pair_is_read_part_by_part(self):
+        """Each where the module for x86-64 has it, whatever a pointer's size on the machine; and no other line is another."""
+        def read(first, second, align=8):
+            line = f"  %r9 = load {{ {first}, {second} }}, ptr %r0, align {align}, !noundef !1"
+            return retarget.parted(f"a\n{line}\nb\n").splitlines()
+
+        self.assertEqual(read("i8", "ptr"), [
+            "a",
+            "  %r9_0 = load i8, ptr %r0, align 8",
+            "  %r9_at = getelementptr i8, ptr %r0, i64 8",
+            "  %r9_1 = load ptr, ptr %r9_at, align 8",
+            "  %r9_half = insertvalue { i8, ptr } poison, i8 %r9_0, 0",
+            "  %r9 = insertvalue { i8, ptr } %r9_half, ptr %r9_1, 1",
+            "b",
+        ])
+        for first, second, step in (("ptr", "ptr", 8), ("ptr", "i8", 8), ("i8", "i8", 1), ("i1", "i16", 2), ("i32", "i8", 4), ("i16", "i32", 4), ("i64", "i64", 8)):
+            self.assertIn(f"  %r9_at = getelementptr i8, ptr %r0, i64 {step}", read(first, second))
+        self.assertIn("  %r9_1 = load i8, ptr %r9_at, align 1", read("i8", "i8", 4))
+        self.assertIn("  %r9_1 = load i64, ptr %r9_at, align 4", read("i64", "i64", 4))
+        # so a place that has a pointer and a number is found, also where a pair has it
+        line = "  %r9 = load { i64, i64 }, ptr %r0, align 8\n"
+        for pair in ("{ i64, ptr }", "{ ptr, i64 }"):
+            other = line.replace("{ i64, i64 }", pair).replace("%r9", "%r8")
+            with self.assertRaises(header.Unknown, msg=pair):
+                self.changed(MODULE.replace(line, line + other))
 
     def test_alignments_are_what_every_call_keeps(self):
         def taken(*calls):
@@ -406,6 +439,8 @@ class Targets(unittest.TestCase):
             "  %r3 = load i128, ptr %a0, align 16\n",
             "  %r3 = load double, ptr %a0, align 8\n",
             "  %r3 = alloca { ptr, i64 }, align 8\n",
+            "  %r3 = load { i64, i128 }, ptr %a0, align 16\n",
+            "  %r3 = icmp ult ptr %a0, %a1\n",
             "  %r3 = getelementptr { ptr, i64 }, ptr %a0, i64 1\n",
             "  call void @llvm.memmove.p0.p0.i64(ptr %r0, ptr %a0, i64 %r2, i1 false)\n",
             "  %r3 = call i64 @llvm.ctpop.i64(i64 %r2)\n",
@@ -421,6 +456,7 @@ class Targets(unittest.TestCase):
             (retarget.LAYOUT, retarget.LAYOUT.replace("i64:64", "i64:32")),
             (retarget.TRIPLE, "x86_64-pc-windows-msvc"),
             ('"target-cpu"="x86-64"', '"target-cpu"="x86-64-v3"'),
+            ("ptr noundef %a1) #0 {", "ptr noundef %a1) #1 {"),
             ('source_filename = "rattle"', '@table = internal constant [1 x ptr] [ptr @wanlopheng_trim], align 8'),
             ("@wanlopheng_trim(ptr noundef %a0, i64 noundef %a1)", "@wanlopheng_trim(ptr noundef %a0, i32 noundef %a1)"),
             ("define noundef ptr @wanlopheng_fill", "define noundef ptr @wanlopheng_more"),

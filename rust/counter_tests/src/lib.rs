@@ -115,8 +115,8 @@ impl Drop for Folder {
 
 /// What the proved program writes in a folder, its input coming in pieces.
 pub fn run_in(folder: &Path, pieces: &[&[u8]], pause: Option<Duration>) -> String {
-    let program = Path::new(env!("CARGO_MANIFEST_DIR")).join("../../target/bin/counter");
-    assert!(program.exists(), "target/bin/counter is missing: run `rt check counter` first");
+    let program = Path::new(env!("CARGO_MANIFEST_DIR")).join("../../crates/counter/out/counter");
+    assert!(program.exists(), "crates/counter/out/counter is missing: run `./run` or `./test` first");
     let mut child =
         Command::new(program).current_dir(folder).stdin(Stdio::piped()).stdout(Stdio::piped()).spawn().unwrap();
     let mut input = child.stdin.take().unwrap();

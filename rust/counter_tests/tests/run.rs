@@ -85,7 +85,7 @@ fn a_fault_is_found_exactly_where_a_line_is_unreadable() {
 fn run_lines(folder: &Path) -> (Option<i32>, String, String) {
     let mut command = Command::new(env!("CARGO"));
     command.current_dir(root().join("rust")).args(["run", "-q", "--release", "--offline", "-p", "desk"]);
-    command.args(["--bin", "run_lines", "--"]).arg(root().join("target/bin/counter")).arg(folder);
+    command.args(["--bin", "run_lines", "--"]).arg(root().join("crates/counter/out/counter")).arg(folder);
     let ran = ran(&mut command, b"61\n");
     let text = |bytes: &[u8]| String::from_utf8_lossy(bytes).into_owned();
     (ran.status.code(), text(&ran.stdout), text(&ran.stderr))

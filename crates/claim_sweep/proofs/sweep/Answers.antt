@@ -20,7 +20,7 @@ pub unite-requires : goal.unite-requires
 unite-requires c =
     let p = c.loop-q in
     let m = c.requires.claims in
-    (p.invariant.numbers, ((p.invariant.few, m.few p.q), (p.invariant.owned (omega arith), p.invariant.kept.held _ (m.owned p.q (ltb-true _ _ c.if-next-gt0.true-raw)))))
+    record { numbers = p.invariant.numbers; m_lt_most_groups = (p.invariant.few, m.few p.q); nonzero = (p.invariant.owned (omega arith), p.invariant.kept.held _ (m.owned p.q (ltb-true _ _ c.if-next-gt0.true-raw))) }
 
 pub loop-q-preserved : goal.loop-q-preserved
 loop-q-preserved c =
@@ -28,7 +28,7 @@ loop-q-preserved c =
     let a = c.requires in
     sweep_on _ _ _ _ _ _ _ p.q a.xs_value a.claims p.invariant (omega arith) _
     ((elim c.if-xs-q.branch [
-      | then-xs-q+then-next-gt0 w ↦ rw w.k-is (turn_met _ _ _ _ _ _ _ p.q a.xs_value a.claims p.invariant (omega arith) w.if-xs-q.true (ltb-true _ _ w.if-next-gt0.true) _ w.unite.ensures)
+      | then-xs-q+then-next-gt0 w ↦ rw w.k-is (turn_met _ _ _ _ _ _ _ p.q a.xs_value a.claims p.invariant (omega arith) w.if-xs-q.true (ltb-true _ _ w.if-next-gt0.true-raw) _ w.unite.ensures)
       | else-xs-q w ↦ rw w.k-is (turn_none _ _ _ _ _ _ _ p.q a.xs_value a.claims p.invariant
           ((elim w.else-xs-q.branch [ else-xs-q-via-then-xs-q+else-next-gt0 u ↦ inr (ltb-false _ _ u.if-next-gt0.false-raw) | else-xs-q-via-else-xs-q u ↦ inl u.if-xs-q.false ])))
     ])) _ _

@@ -20,7 +20,7 @@ take_pairs_of-requires c =
     let p = c.loop-at in
     let a = c.requires in
     let h = c.loop-at-test.true in
-    (pairs_fit _ p.n p.at _ p.invariant h _ c.group_at-group.ensures, (a.xs_value, ((a.xs_len_bound, group_few _ p.n p.at _ p.invariant h), p.invariant.so.takes.claims)))
+    record { fits = pairs_fit _ p.n p.at _ p.invariant h _ c.group_at-group.ensures; xs_value = a.xs_value; xs_len_bound = (a.xs_len_bound, group_few _ p.n p.at _ p.invariant h); claims = p.invariant.so.takes.claims }
 
 pub overflow_add-n : goal.overflow_add-n
 overflow_add-n c =

@@ -25,7 +25,4 @@ pub returns : goal.returns
 returns c =
     let p = c.requires in
     let z = c.count_below-at.ensures in
-    let h = c.if-xs-at.false in (
-      take_hit _ _ _ _ _ _ p.xs_value p.claims z h c.if-b-next.false p.xs_len_bound.1 (omega (arith, p.xs_len_bound.0)) _ c.claim.ensures,
-      between _ _ c.count_below-at.result _ p.xs_value z (λ h. refl),
-    )
+    let h = c.if-xs-at.false in record { takes = take_hit _ _ _ _ _ _ p.xs_value p.claims z h c.if-b-next.false p.xs_len_bound.1 (omega (arith, p.xs_len_bound.0)) _ c.claim.ensures; between = between _ _ c.count_below-at.result _ p.xs_value z (λ h. refl) }

@@ -18,7 +18,7 @@ loop-i-preserved-then-in_gap c =
 pub take_pair-high-requires : goal.take_pair-high-requires
 take_pair-high-requires c =
     let p = c.requires in
-    (p.xs_value, (p.xs_len_bound, c.loop-i.invariant.0.takes.claims))
+    record { xs_value = p.xs_value; xs_len_bound = p.xs_len_bound; claims = c.loop-i.invariant.0.takes.claims }
 
 pub loop-i-preserved : goal.loop-i-preserved
 loop-i-preserved c =

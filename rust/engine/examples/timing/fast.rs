@@ -221,7 +221,7 @@ pub fn run(programs: &[(String, String)]) {
     over("real-looking names, names.tab", &real[..20_000], &small.words);
     left_as_they_are(&full.words);
     let root = Path::new(env!("CARGO_MANIFEST_DIR")).join("../..");
-    lines(&root.join("target/bin/counter"), &root.join("crates/counter/data"), &real);
+    lines(&root.join("crates/counter/out/counter"), &root.join("crates/counter/data"), &real);
     for (program, folder) in programs {
         lines(Path::new(program), Path::new(folder), &real);
     }

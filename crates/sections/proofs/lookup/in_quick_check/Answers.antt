@@ -1,0 +1,11 @@
+-- `sections::lookup::in_quick_check` meets its contract: a section's words spell the table's entries.
+use mathlib.Core.Path.{◌∙◌}
+use Rattle.sections.proofs.SectionLaws.{laid-fits, laid_reads}
+use Rattle.table.proofs.Lookups.{pairs-ranges}
+use Rattle.sections.proofs.lookup.in_quick_check.Goals as goal
+
+pub in_section-requires : goal.in_section-requires
+in_section-requires c = ((laid-fits _ _ c.requires).quick, c.requires.known.quick)
+
+pub returns : goal.returns
+returns c = c.in_section.ensures ∙ pairs-ranges _ _ _ (laid_reads _ _ c.requires).quick

@@ -1,0 +1,11 @@
+-- `sections::lookup::is_ignored` meets its contract: a section's words spell the table's entries.
+use mathlib.Core.Path.{◌∙◌}
+use Rattle.sections.proofs.SectionLaws.{laid-fits, laid_reads}
+use Rattle.table.proofs.Lookups.{pairs-ranges}
+use Rattle.sections.proofs.lookup.is_ignored.Goals as goal
+
+pub in_section-requires : goal.in_section-requires
+in_section-requires c = ((laid-fits _ _ c.requires).ignored, c.requires.known.ignored)
+
+pub returns : goal.returns
+returns c = c.in_section.ensures ∙ pairs-ranges _ _ _ (laid_reads _ _ c.requires).ignored

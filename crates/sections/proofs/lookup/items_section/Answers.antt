@@ -1,0 +1,28 @@
+-- `sections::lookup::items_section` meets its contract: what is found in a part of the words is found in the words.
+use native.Mathlib.Omega.{arith}
+use Rattle.table.proofs.Searches.{items_at, items_nothing}
+use Rattle.sections.proofs.lookup.items_section.Goals as goal
+
+pub overflow_add-result : goal.overflow_add-result
+overflow_add-result c =
+    let d = c in
+    let f = d.requires.0 in
+    let r = items_at _ _ f _ _ _ _ d.in-At.is d.items_by-found.ensures in
+    omega (arith, r.fit.0, r.fit.1)
+
+pub overflow_add-result-in-At : goal.overflow_add-result-in-At
+overflow_add-result-in-At c =
+    let d = c in
+    let f = d.requires.0 in
+    omega (arith, (items_at _ _ f _ _ _ _ d.in-At.is d.items_by-found.ensures).fit.1)
+
+pub returns-in-At : goal.returns-in-At
+returns-in-At c =
+    let d = c in
+    let f = d.requires.0 in
+    items_at _ _ f _ _ _ _ d.in-At.is d.items_by-found.ensures
+
+pub returns-in-Nothing : goal.returns-in-Nothing
+returns-in-Nothing c =
+    let d = c in
+    items_nothing _ _ d.requires.0 _ _ _ c.in-Nothing.is d.items_by-found.ensures
