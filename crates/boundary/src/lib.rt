@@ -2,14 +2,14 @@
 // A slice crosses as a pointer and a number of elements, an answer as a struct of plain numbers.
 #![tactic(auto)]
 
-pub mod book;
+pub mod book_calls;
 pub mod emoji;
 pub mod group;
 pub mod hash;
-pub mod listing;
+pub mod listing_calls;
 pub mod normal;
-pub mod report;
-pub mod screen;
+pub mod report_calls;
+pub mod screen_calls;
 pub mod trimming;
 pub mod utf8_calls;
 

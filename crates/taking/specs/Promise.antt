@@ -41,6 +41,6 @@ StepIs piece before after from Stopped = Unit {0}
 pub record Takes (piece before after : List ℕ) (from : State) (r : Step) : Type 0 where
   pub is : StepIs piece before after from r
 
--- the most bytes of a piece, which is read into io's buffer
+-- the most bytes of a piece
 abbrev pub most_piece : ℕ
 most_piece = 4096

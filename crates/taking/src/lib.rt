@@ -5,9 +5,9 @@
 ghost use Rattle.std.specs.Prelude.{◌^◌, ◌≤◌, length};
 ghost use Rattle.taking.specs.Promise.{most_piece, Ready, Serves, Takes};
 
-use libc::STDOUT_FILENO;
 use lines::Taken;
 use replying::{REPLY_ROOM, write_reply};
+use std::io::Write;
 
 // Between two pieces of input: so many bytes of a line are held, and so many names are done.
 #[derive(Clone, Copy)]
@@ -24,27 +24,33 @@ pub enum Step {
 }
 
 // Where a line is too long or there is no table, `bad` is the last that is written.
-pub fn bad() {
+pub fn bad<W: Write>(out: &mut W) {
     let mut text = [0u8; 4];
     let n = line_writing::write_bad(&mut text);
-    io::write_all(STDOUT_FILENO, &text[..n]);
+    let _ = out.write_all(&text[..n]);
 }
 
 // Writes the line for a line of input, and answers whether to go on: it was readable, and its line is written.
-fn serve(table: &[u32], line: &[u8]) -> bool
+fn serve<W: Write>(out: &mut W, table: &[u32], line: &[u8]) -> bool
     ensures { Serves line.now result }
 {
     let mut text = [0u8; REPLY_ROOM];
     let reply = write_reply(table, line, &mut text);
     let n = reply.length;
-    if !io::write_all(STDOUT_FILENO, &text[..n]) {
+    if out.write_all(&text[..n]).is_err() {
         return false;
     }
     reply.readable
 }
 
 // Serves the lines that end in a piece of input, and holds what stands behind the last of them.
-pub fn take_piece(table: &[u32], piece: &[u8], line: &mut [u8], state: State) -> Step
+pub fn take_piece<W: Write>(
+    out: &mut W,
+    table: &[u32],
+    piece: &[u8],
+    line: &mut [u8],
+    state: State,
+) -> Step
     requires ready { Ready line.old state (2 ^ 63) }
     requires piece_len_bound { length piece.now ≤ most_piece }
     ensures { Takes piece.now line.old line.new state result }
@@ -56,7 +62,7 @@ pub fn take_piece(table: &[u32], piece: &[u8], line: &mut [u8], state: State) ->
         let taken = lines::take_line(&piece[at..], line, held);
         match taken {
             Taken::Line { length, used } => {
-                if !serve(table, &line[..length]) {
+                if !serve(out, table, &line[..length]) {
                     return Step::Stopped;
                 }
                 names += 1;
@@ -68,7 +74,7 @@ pub fn take_piece(table: &[u32], piece: &[u8], line: &mut [u8], state: State) ->
                 at = piece.len();
             }
             Taken::TooLong => {
-                bad();
+                bad(out);
                 return Step::Stopped;
             }
         }

@@ -1,0 +1,14 @@
+-- `laying::put_emoji` meets its contract: the stripped sequence is written to its place, and tagged with 0.
+use native.Mathlib.Omega.{arith}
+use lib.ListN.{length-take}
+use Rattle.laying.proofs.Stripping.{emoji_over, emoji_put}
+use Rattle.laying.proofs.put_emoji.Goals as goal
+
+pub returns-then-n-gt-MOST_WORKED : goal.returns-then-n-gt-MOST_WORKED
+returns-then-n-gt-MOST_WORKED c = emoji_over _ _ _ _ c.if-n-gt-MOST_WORKED.true
+
+pub slice_bounds-strip_into-end-3 : goal.slice_bounds-strip_into-end-3
+slice_bounds-strip_into-end-3 c = simp length-take (omega (arith, c.requires.0))
+
+pub returns : goal.returns
+returns c = emoji_put _ _ _ _ _ _ _ c.requires.0 c.if-n-gt-MOST_WORKED.false c.strip_into-end.ensures c.put_tags.ensures
