@@ -2,19 +2,15 @@
 -- (`x >> k`, `x & (2^k - 1)`) and puts it together (`m << k | p`). What `x << k` keeps of a word of w bits is `x * 2 ^ k % 2 ^ w`. The
 -- laws stand on the kit's lib.Bits and lib.Pow.
 use Rattle.std.specs.Prelude.{ℕ, ◌+◌, ◌-◌, ◌*◌, ◌/◌, ◌%◌, ◌^◌, ◌<◌, ◌≤◌, ◌≡◌}
-use Rattle.std.proofs.Common.{mod-lt, add-zero, ap, ap₂, ◌∙◌}
+use Rattle.std.proofs.Common.{add-zero, ap, ap₂, ◌∙◌}
 use Rattle.std.proofs.Math.Nat.{mul-mod_left}
 use Rattle.std.specs.Int.Bits.{bit_and, bit_or, or_shifted_r}
 use Rattle.std.proofs.lemmas.Nat.{and_mask, or_shifted}
-use lib.Pow.{pow_pos, split, high, low, shl_exact, shl-shr, shr_lt, mod-pow-add}
+use lib.Pow.{high, shl_exact, shl-shr, shr_lt, mod-pow-add}
 
 -- "x & (2^k - 1)" is the low field
 pub masked : (k x : ℕ) → bit_and x (2 ^ k - 1) ≡ x % 2 ^ k
 masked k x = and_mask x k
-
--- .. which has k bits
-pub masked_small : (k x : ℕ) → bit_and x (2 ^ k - 1) < 2 ^ k
-masked_small k x = rw (masked k x) (mod-lt x (pow_pos k))
 
 -- "m | p", where p has k bits and m has none of them
 pub marked : (k m p : ℕ) → p < 2 ^ k → bit_or (m * 2 ^ k) p ≡ m * 2 ^ k + p
@@ -28,19 +24,9 @@ module _ (w j k : ℕ) {m p : ℕ} (room : j + k ≤ w) (few : m < 2 ^ j) (small
   pub shifted_in_last : bit_or p (m * 2 ^ k % 2 ^ w) ≡ m * 2 ^ k + p
   shifted_in_last = ap (λ (x : ℕ). bit_or p x) (shl_exact j k w few room) ∙ or_shifted_r m k p small
 
-  -- the fields are found again
+  -- the high field is found again, as the low one is (proofs/FieldLaws)
   pub high_again : bit_or (m * 2 ^ k % 2 ^ w) p / 2 ^ k ≡ m
   high_again = ap (λ (x : ℕ). x / 2 ^ k) shifted_in ∙ high m k small
-
-  pub low_again : bit_and (bit_or (m * 2 ^ k % 2 ^ w) p) (2 ^ k - 1) ≡ p
-  low_again = masked k (bit_or (m * 2 ^ k % 2 ^ w) p) ∙ ap (λ (x : ℕ). x % 2 ^ k) shifted_in ∙ low m k small
-
--- a number is its two fields
-pub fields : (k x : ℕ) → bit_or (x / 2 ^ k * 2 ^ k) (bit_and x (2 ^ k - 1)) ≡ x
-fields k x =
-    marked k (x / 2 ^ k) (bit_and x (2 ^ k - 1)) (masked_small k x)
-    ∙ ap (λ (p : ℕ). x / 2 ^ k * 2 ^ k + p) (masked k x)
-    ∙ split x k
 
 -- "x << k" in a word of j + k bits keeps the j low bits
 pub shifted_out : (j k x : ℕ) → x * 2 ^ k % 2 ^ (j + k) ≡ x % 2 ^ j * 2 ^ k

@@ -9,7 +9,8 @@ use lib.Seq.{take-suc-set}
 use mathlib.Core.Logic.{◌⊎◌, ⊎_elim}
 use lib.Bits.{bit_and, bit_or}
 use borrow.Author.Tests.{lt-ltb, le-ltb}
-use Rattle.bits.specs.Fields.{masked, masked_small, shifted_in_last}
+use Rattle.bits.specs.Fields.{masked, shifted_in_last}
+use Rattle.bits.proofs.FieldLaws.{masked_small}
 use Rattle.utf8_scheme.specs.Scheme.{tail, octets}
 use Rattle.utf8_encode.specs.Storing.{Stores, Appends}
 

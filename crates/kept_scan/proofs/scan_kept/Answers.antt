@@ -1,0 +1,44 @@
+use Prim.Native.Nat.{◌-◌}
+use native.Mathlib.Omega.{arith}
+use borrow.Author.Tests.{not-false}
+use Rattle.kept_scan.proofs.Stepping.{scan_start, scan_left, scan_given, scan_taken, scan_more, scan_none, scan_stop}
+use Rattle.kept_scan.proofs.scan_kept.Goals as goal
+
+pub loop-at-init : goal.loop-at-init
+loop-at-init c = scan_start _ _ _
+
+pub keep_step-took-requires : goal.keep_step-took-requires
+keep_step-took-requires c =
+    let i = c.loop-at.invariant in
+    record { laid = c.requires.laid; least_work_in_bounds = (omega (arith, c.requires.least_work_in_bounds.0, i.same), scan_left _ _ _ _ _ _ i c.loop-at-test.true) }
+
+pub shape_of-w-then-not-held : goal.shape_of-w-then-not-held
+shape_of-w-then-not-held c = scan_given _ _ _ _ _ _ c.loop-at.invariant c.loop-at-test.true _ _ c.keep_step-took.ensures
+
+pub returns-then-not-held : goal.returns-then-not-held
+returns-then-not-held c = scan_none _ _ _ _ (scan_given _ _ _ _ _ _ c.loop-at.invariant c.loop-at-test.true _ _ c.keep_step-took.ensures)
+
+pub overflow_add-at : goal.overflow_add-at
+overflow_add-at c =
+    omega (arith, (scan_taken _ _ _ _ _ _ c.loop-at.invariant c.loop-at-test.true _ _ c.keep_step-took.ensures (not-false _ c.if-not-held.false)).1, c.requires.least_work_in_bounds.1)
+
+pub loop-at-smaller : goal.loop-at-smaller
+loop-at-smaller c =
+    let k = scan_taken _ _ _ _ _ _ c.loop-at.invariant c.loop-at-test.true _ _ c.keep_step-took.ensures (not-false _ c.if-not-held.false) in
+    omega (arith, k.0, k.1)
+
+pub loop-at-preserved : goal.loop-at-preserved
+loop-at-preserved c =
+    scan_more _ _ _ _ _ _ c.loop-at.invariant c.loop-at-test.true _ _ c.keep_step-took.ensures (not-false _ c.if-not-held.false)
+
+pub shape_of-w-then-worked-gt-MOST_WORKED : goal.shape_of-w-then-worked-gt-MOST_WORKED
+shape_of-w-then-worked-gt-MOST_WORKED c = c.loop-at.invariant.same
+
+pub returns-then-worked-gt-MOST_WORKED : goal.returns-then-worked-gt-MOST_WORKED
+returns-then-worked-gt-MOST_WORKED c = scan_none _ _ _ _ c.loop-at.invariant.same
+
+pub shape_of-w : goal.shape_of-w
+shape_of-w c = c.loop-at.invariant.same
+
+pub returns : goal.returns
+returns c = scan_stop _ _ _ _ _ _ c.loop-at.invariant c.loop-at-test.false c.if-worked-gt-MOST_WORKED.false

@@ -1,0 +1,24 @@
+use Prim.Native.Nat.{◌-◌}
+use mathlib.Core.Path.{sym, ◌∙◌}
+use borrow.Author.Tests.{not-true, not-false}
+use Rattle.table.proofs.Lookups.{walk_start}
+use Rattle.soundness.specs.Scalars.{scalars_between}
+use Rattle.sound_parts.proofs.Walks.{pairs_broken, pairs_on, pairs_done}
+use native.Mathlib.Omega.{arith}
+use Rattle.scalar_runs.proofs.scalar_pairs.Goals as goal
+
+pub loop-i-init : goal.loop-i-init
+loop-i-init c = walk_start _ _
+
+pub returns-then-not-scalars_between : goal.returns-then-not-scalars_between
+returns-then-not-scalars_between c =
+    let l = c.loop-i in
+    pairs_broken _ _ l.i l.invariant (omega arith) (sym c.scalars_between.ensures ∙ not-true _ c.if-not-scalars_between.true-raw)
+
+pub loop-i-preserved : goal.loop-i-preserved
+loop-i-preserved c =
+    let l = c.loop-i in
+    pairs_on _ _ l.i l.invariant (omega arith) (sym c.scalars_between.ensures ∙ not-false _ c.if-not-scalars_between.false-raw)
+
+pub returns : goal.returns
+returns c = pairs_done _ _ c.loop-i.i c.loop-i.invariant c.loop-i-test.false

@@ -1,0 +1,15 @@
+-- `rule8::seconds_held` meets its contract, by the laws of a walk over records.
+use Prim.Native.Nat.{◌-◌}
+use lib.ListN.{length}
+use Rattle.lists.specs.Lists.{all}
+use Rattle.table.specs.Layout.{the_table}
+use Rattle.sound_parts.specs.Parts.{as_headed}
+use Rattle.second_items.specs.Seconds.{second_held_in}
+use Rattle.sound_parts.proofs.Walks.{Through}
+use Rattle.second_items.proofs.seconds_held.Given as goal
+
+abbrev pub invariant-loop-i : goal.invariant-loop-i
+invariant-loop-i l = Through (all (second_held_in (the_table l.words))) as_headed l.part l.i
+
+abbrev pub decreases-loop-i : goal.decreases-loop-i
+decreases-loop-i l = length l.part - l.i

@@ -1,0 +1,90 @@
+-- `sound_rounds::rounds::put_kept` meets its contract.
+use native.Mathlib.Omega.{arith}
+use mathlib.Core.Path.{sym, ◌∙◌}
+use borrow.Author.Tests.{not-true, not-false}
+use Rattle.table.specs.Layout.{the_table}
+use Rattle.sound_choices.proofs.RoundLaws.{kept-none, kept_syllable, kept_head, kept-plain}
+use Rattle.sound_choices.proofs.WalkLaws.{put_list, put_place, put_nothing}
+use Rattle.sound_rounds.proofs.rounds.put_kept.Goals as goal
+
+pub has-requires : goal.has-requires
+has-requires c =
+    let pre' = c.requires in
+    omega (arith, pre'.from_len, pre'.d_bound)
+
+pub returns-then-not-has : goal.returns-then-not-has
+returns-then-not-has c =
+    let args' = c.args in
+    let has' = c.has in
+    let if1' = c.if-not-has in
+    put_nothing _ _ _ (kept-none (the_table args'.words.now) _ _ _ _ (sym has'.ensures ∙ not-true _ if1'.true-raw))
+
+pub overflow_add-base : goal.overflow_add-base
+overflow_add-base c =
+    let pre' = c.requires in
+    omega (arith, pre'.base_bound, pre'.d_bound)
+
+pub overflow_add-base-then-is_syllable : goal.overflow_add-base-then-is_syllable
+overflow_add-base-then-is_syllable c =
+    let pre' = c.requires in
+    omega (arith, pre'.base_bound, pre'.d_bound)
+
+pub put_replaced-requires : goal.put_replaced-requires
+put_replaced-requires c =
+    let pre' = c.requires in
+    record { laid = pre'.laid; set_len = pre'.to_len }
+
+pub shape_of-to-then-is_syllable : goal.shape_of-to-then-is_syllable
+shape_of-to-then-is_syllable c =
+    let put-replaced' = c.put_replaced in
+    put-replaced'.ensures.room
+
+pub returns-then-is_syllable : goal.returns-then-is_syllable
+returns-then-is_syllable c =
+    let args' = c.args in
+    let has' = c.has in
+    let if1' = c.if-not-has in
+    let is-syllable' = c.is_syllable in
+    let if2' = c.if-is_syllable in
+    let put-replaced' = c.put_replaced in
+    put_list _ _ _ _ _ (sym (kept_syllable (the_table args'.words.now) _ _ args'.heads.now _ (sym has'.ensures
+    ∙ not-false _ if1'.false-raw)
+    (sym is-syllable'.ensures ∙ if2'.true))) put-replaced'.ensures
+
+pub has-requires-2 : goal.has-requires-2
+has-requires-2 c =
+    let pre' = c.requires in
+    omega (arith, pre'.heads_len, pre'.d_bound)
+
+pub put-requires : goal.put-requires
+put-requires c =
+    let pre' = c.requires in
+    omega (arith, pre'.to_len, pre'.d_bound)
+
+pub shape_of-to : goal.shape_of-to
+shape_of-to c =
+    let put' = c.put in
+    put'.ensures.room
+
+pub returns-then-not-has-2 : goal.returns-then-not-has-2
+returns-then-not-has-2 c =
+    let args' = c.args in
+    let has' = c.has in
+    let if1' = c.if-not-has in
+    let is-syllable' = c.is_syllable in
+    let if2' = c.if-is_syllable in
+    let has2' = c.has-2 in
+    let if3' = c.if-not-has-2 in
+    let put' = c.put in
+    put_list _ _ _ _ _ (sym (kept-plain (the_table args'.words.now) _ _ _ _ (sym has'.ensures ∙ not-false _ if1'.false-raw)
+    (sym is-syllable'.ensures ∙ if2'.false) (sym has2'.ensures ∙ not-true _ if3'.true-raw))) (put_place _ _ _ _ put'.ensures)
+
+pub returns-else-not-has-2 : goal.returns-else-not-has-2
+returns-else-not-has-2 c =
+    let args' = c.args in
+    let is-syllable' = c.is_syllable in
+    let if2' = c.if-is_syllable in
+    let has2' = c.has-2 in
+    let if3' = c.if-not-has-2 in
+    put_nothing _ _ _ (kept_head (the_table args'.words.now) _ args'.from.now _ _ (sym is-syllable'.ensures ∙ if2'.false)
+    (sym has2'.ensures ∙ not-false _ if3'.false-raw))
