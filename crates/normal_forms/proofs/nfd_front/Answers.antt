@@ -1,0 +1,16 @@
+-- `nfd_front`: a layout fault, or what `decomposed` answers.
+use native.Mathlib.Omega.{arith}
+use Rattle.normal_forms.proofs.Answer.{fault_stands, nfd_stands}
+use Rattle.normal_forms.proofs.nfd_front.Goals as goal
+
+pub decomposed-requires : goal.decomposed-requires
+decomposed-requires c = c.layout-found.ensures.found _ c.in-Found.is
+
+pub returns-in-Fault : goal.returns-in-Fault
+returns-in-Fault c = fault_stands _ _ _ _ _ (c.layout-found.ensures.fault c.in-Fault.is)
+
+pub returns-in-Found : goal.returns-in-Found
+returns-in-Found c =
+    let d = c in
+    let l = d in
+    nfd_stands _ _ _ _ _ _ _ (l.layout-found.ensures.found _ l.in-Found.is) _ (omega arith) d.decomposed.ensures
