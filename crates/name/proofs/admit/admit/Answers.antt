@@ -1,0 +1,40 @@
+-- `admit`: each return is one end of the tests 1 to 4.
+use Rattle.sections.specs.Laid.{Laid}
+use Rattle.name.proofs.Admitting.{admitted-fault, admitted-work, admitted_long, admitted_scalar, admitted-all}
+use Rattle.name.proofs.admit.admit.Goals as goal
+use Rattle.name.proofs.admit.admit.Goals.{In-At, In-Nothing, Then-input-gt-MOST_INPUT, Then-work-lt-LEAST_WORK}
+
+-- the sections are found, once the match has said so
+laid-at-Then-work-lt-LEAST_WORK : (c : Then-work-lt-LEAST_WORK) → Laid c.args.words.now c.in-Found.ix
+laid-at-Then-work-lt-LEAST_WORK c = c.layout.ensures.found _ c.in-Found.is
+
+-- the sections are found, once the match has said so
+laid-at-Then-input-gt-MOST_INPUT : (c : Then-input-gt-MOST_INPUT) → Laid c.args.words.now c.in-Found.ix
+laid-at-Then-input-gt-MOST_INPUT c = c.layout.ensures.found _ c.in-Found.is
+
+-- the sections are found, once the match has said so
+laid-at-In-At : (c : In-At) → Laid c.args.words.now c.in-Found.ix
+laid-at-In-At c = c.layout.ensures.found _ c.in-Found.is
+
+-- the sections are found, once the match has said so
+laid-at-In-Nothing : (c : In-Nothing) → Laid c.args.words.now c.in-Found.ix
+laid-at-In-Nothing c = c.layout.ensures.found _ c.in-Found.is
+
+pub returns-then-work-lt-LEAST_WORK : goal.returns-then-work-lt-LEAST_WORK
+returns-then-work-lt-LEAST_WORK c = admitted-work _ _ _ _ (laid-at-Then-work-lt-LEAST_WORK c) c.if-work-lt-LEAST_WORK.true
+
+pub returns-then-input-gt-MOST_INPUT : goal.returns-then-input-gt-MOST_INPUT
+returns-then-input-gt-MOST_INPUT c = admitted_long _ _ _ _ (laid-at-Then-input-gt-MOST_INPUT c) c.if-work-lt-LEAST_WORK.false c.if-input-gt-MOST_INPUT.true
+
+pub returns-in-Fault : goal.returns-in-Fault
+returns-in-Fault c = admitted-fault _ _ _ (c.layout.ensures.fault c.in-Fault.is)
+
+pub returns-in-At : goal.returns-in-At
+returns-in-At c =
+    let s = c in
+    admitted_scalar _ _ _ _ (laid-at-In-At s) s.if-work-lt-LEAST_WORK.false s.if-input-gt-MOST_INPUT.false _ (rw c.in-At.is at s.first_not_scalar.ensures)
+
+pub returns-in-Nothing : goal.returns-in-Nothing
+returns-in-Nothing c =
+    let s = c in
+    admitted-all _ _ _ _ (laid-at-In-Nothing s) s.if-work-lt-LEAST_WORK.false s.if-input-gt-MOST_INPUT.false (rw c.in-Nothing.is at s.first_not_scalar.ensures)
