@@ -1,4 +1,4 @@
--- `in_order_lem` meets its contract.
+-- `in_order` meets its contract.
 use mathlib.Core.Path.{sym, ◌∙◌}
 use borrow.Author.Tests.{leb-true}
 use Rattle.table.specs.Layout.{the_table}

@@ -1,4 +1,4 @@
--- `second_fits_lem` meets its contract: what is kept fits.
+-- `second_fits` meets its contract: what is kept fits.
 use mathlib.Core.Path.{sym, ◌∙◌}
 use borrow.Author.Tests.{not-false}
 use Rattle.quick_seconds.proofs.SecondLaws.{second_not, second-kept, second_new}
