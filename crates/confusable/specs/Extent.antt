@@ -1,5 +1,5 @@
 -- Laws of the extent (02, Item 6). Everything else uses two of them: it holds the character, and it holds every member that shares a group with
--- the character. The others say that it is what "until nothing is added" means, for every table.
+-- the character (`extent_shared`, in proofs/ExtentLaws). The others say that it is what "until nothing is added" means, for every table.
 use Prim.Native.Nat.{ℕ, zero, suc, ◌<◌, ◌≤◌}
 use Rattle.std.proofs.Common.{arith, sym, ◌∙◌}
 use Rattle.std.specs.Prelude.{◌≡◌, Bool, ◌&&◌, ◌||◌, cond, length}
@@ -10,8 +10,8 @@ use mathlib.Core.List.Memᴰ
 use mathlib.Core.List.{List, [], ◌∷◌, ◌++◌, append-nil, Memᴰ}
 use Rattle.std.proofs.Math.Logic.{⊎_elim}
 use Rattle.lists.specs.Lists.{any, count_with, mem}
-use Rattle.lists.specs.Laws.{both_left, both_right, keep_member, member_of, mem_of}
-use Rattle.lists.specs.Members.{any_passing, passing_any, keep_keeps}
+use Rattle.lists.specs.Laws.{both_left, both_right, keep_member, mem_of}
+use Rattle.lists.specs.Members.{any_passing}
 use Rattle.lists.specs.Tests.{mem_both, untrue}
 use Rattle.table.specs.Table.{Table, Whole}
 use Rattle.confusable.specs.Confusable.{members, share_group, added, rounds, extent}
@@ -119,18 +119,6 @@ module _ (t : Table) (w : Whole) where
     unfolding extent missing
     extent_closed = closed (length (members w)) (c ∷ []) (count_length (λ m. not (mem m (c ∷ []))) (members w))
 
-    -- a member that shares a group with one already in is in
-    pub extent_more : (x m : ℕ) → Memᴰ x (extent t w c) → Memᴰ m (members w) → share_group t x m ≡ true → Memᴰ m (extent t w c)
-    unfolding added
-    extent_more x m i h e = go (mem m (extent t w c)) refl
-      where
-        go : (b : Bool) → mem m (extent t w c) ≡ b → Memᴰ m (extent t w c)
-        go true f = member_of m (extent t w c) f
-        go false f =
-            let one : any (λ x. share_group t x m) (extent t w c) ≡ true = passing_any (λ x. share_group t x m) i e in
-            let here = keep_keeps (λ m. not (mem m (extent t w c)) && any (λ x. share_group t x m) (extent t w c)) h (rw (f, one)) in
-            absurd (Memᴰ.not-nil (rw extent_closed at here))
-
     -- nothing else is in: what holds of the character, and of each member that shares a group with one of which it holds, holds of all
     pub extent_least : (P : ℕ → Type 0) → P c → ((x m : ℕ) → P x → Memᴰ m (members w) → share_group t x m ≡ true → P m)
         → (m : ℕ) → Memᴰ m (extent t w c) → P m
@@ -141,7 +129,3 @@ module _ (t : Table) (w : Whole) where
     pub extent_self : Memᴰ c (extent t w c)
     unfolding extent
     extent_self = stays (length (members w)) (c ∷ []) (Memᴰ.head refl)
-
-    -- E2: it holds every member that shares a group with the character
-    pub extent_shared : (m : ℕ) → Memᴰ m (members w) → share_group t c m ≡ true → Memᴰ m (extent t w c)
-    extent_shared m h e = extent_more c m extent_self h e

@@ -1,12 +1,12 @@
--- Laws of the forms, on every table: the normal form is the name call's answer, and a label's form goes on token by token.
+-- Laws of the forms, on every table: the normal form is the name call's answer (`name_normal`, in proofs/FormLaws), and a label's
+-- form goes on token by token.
 use Rattle.std.specs.Prelude.{ℕ, suc, ◌+◌, ◌≡◌, refl, drop}
-use Rattle.std.proofs.Common.{sym, ◌∙◌}
+use Rattle.std.proofs.Common.{◌∙◌}
 use Rattle.std.proofs.Math.Path.{ap}
 use mathlib.Core.List.{List, [], ◌∷◌, ◌++◌, map}
 use Rattle.std.proofs.Math.Option.{Option, none, some}
 use Rattle.std.proofs.Math.ListN.{length}
-use Rattle.lists.specs.Lists.{join_with, joined_map}
-use Rattle.answers.specs.Verdict.{accepted}
+use Rattle.lists.specs.Lists.{joined_map}
 use Rattle.answers.specs.declared.Kind.{Kind}
 use Rattle.table.specs.Table.{Table}
 use Rattle.tokens.specs.Scan as scan
@@ -14,11 +14,7 @@ use Rattle.tokens.specs.Scan.{Step, steps}
 use Rattle.tokens.specs.Tokens.{Token, codepoints, tokens_of, normal_token, normal, joined_tokens}
 use Rattle.places.specs.Places.{Source, emoji, text, Placed, token_of, bare, placed_from, placed}
 use Rattle.places.specs.Parts.{IsFirst, bare-placed}
-use Rattle.name.specs.Label.{Label, stop, answer, label_verdict}
-use Rattle.name.specs.Name.{labels_verdict, name_answer}
-use Rattle.joining.specs.Places.{label_accepts}
-use Rattle.joining.specs.Labels.{cons_accepts}
-use Rattle.forms.specs.Forms.{sources_of, typed, label_form, name_form, normal_form}
+use Rattle.forms.specs.Forms.{sources_of, normal_form}
 
 -- what a token was does not hang on where the label starts
 abbrev sources : List Placed → List Source
@@ -61,31 +57,7 @@ sources_tokens t l = go (placed t 0 l) ∙ bare-placed t 0 l
     go [] = refl
     go (x ∷ xs) = ap (λ (ts : List Token). token_of x.source ∷ ts) (go xs)
 
-normal_tokens : (t : Table) (k : Kind) (xs : List Source) → joined_map (normal_form t k) xs ≡ joined_tokens (normal t (map token_of xs))
+pub normal_tokens : (t : Table) (k : Kind) (xs : List Source) → joined_map (normal_form t k) xs ≡ joined_tokens (normal t (map token_of xs))
 unfolding normal_form joined_tokens normal
 normal_tokens t k [] = refl
 normal_tokens t k (x ∷ xs) = ap (λ (s : List ℕ). codepoints (normal_token t (token_of x)) ++ s) (normal_tokens t k xs)
-
-module _ (t : Table) where
-  -- the normal form of a label is its answer
-  label-normal : (s d p : ℕ) (l : List ℕ) (x : Label) → label_verdict t s d p l ≡ accepted x
-      → label_form (normal_form t) (record { sources = sources_of t l; kind = x.kind }) ≡ answer x
-  unfolding label_form
-  label-normal s d p l x e =
-      let own : x.tokens ≡ normal t (tokens_of (steps t l)) = ap (λ (y : Label). y.tokens) (label_accepts t s d p l x e).accepts.label in
-      normal_tokens t x.kind (sources_of t l) ∙ ap (λ (ts : List Token). joined_tokens (normal t ts)) (sources_tokens t l) ∙ ap joined_tokens (sym own)
-
-  labels_normal : (on s d p : ℕ) (ls : List (List ℕ)) (xs : List Label) → labels_verdict on t s d p ls ≡ accepted xs
-      → map (label_form (normal_form t)) (typed t xs ls) ≡ map answer xs
-  unfolding labels_verdict typed
-  labels_normal on s d p [] xs e = let none_left : xs ≡ [] = cc in rw none_left
-  labels_normal on s d p (l ∷ ls) xs e =
-      let c = cons_accepts on t s d p l ls xs e in
-      rw (c.both, label-normal s d p l c.first c.first_accepted)
-      (ap (λ (rs : List (List ℕ)). answer c.first ∷ rs) (labels_normal on (s + length l + 1) (d + c.first.worked + 1) (suc p) ls c.rest c.rest_accepted))
-
-  -- The normal form of an accepted name is the name call's answer.
-  pub name_normal : (on s d p : ℕ) (ls : List (List ℕ)) (xs : List Label) → labels_verdict on t s d p ls ≡ accepted xs
-      → name_form (normal_form t) (typed t xs ls) ≡ name_answer xs
-  unfolding name_form name_answer
-  name_normal on s d p ls xs e = ap (join_with stop) (labels_normal on s d p ls xs e)

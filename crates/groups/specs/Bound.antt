@@ -1,10 +1,8 @@
 -- No search asks more often than there are groups times places of the text.
-use Rattle.std.specs.Prelude.{ℕ, ◌+◌, ◌*◌, ◌≤◌, Bool, true, false, not, cond, List, [], ◌∷◌, map, length}
-use Rattle.std.proofs.Common.{mul-le-mul, arith}
-use Rattle.limits.specs.Limits.{most_input}
+use Rattle.std.specs.Prelude.{ℕ, ◌*◌, ◌≤◌, Bool, true, false, not, cond, List, [], ◌∷◌, map, length}
+use Rattle.std.proofs.Common.{arith}
 use Rattle.lists.specs.Lists.{total}
 use Rattle.table.specs.Table.{Group}
-use Rattle.table.specs.Layout.{most_groups}
 use Rattle.table.specs.Lookup.{holds}
 use Rattle.groups.specs.Groups.{holds_all, up_to, asked_in, asked}
 
@@ -29,7 +27,3 @@ asked_fewer (g ∷ gs) s = go (holds_all s g) (asked_fewer gs s)
     go : (b : Bool) → asked gs s ≤ length gs * length s → total (map (asked_in s) (g ∷ cond b [] (up_to (holds_all s) gs))) ≤ length (g ∷ gs) * length s
     go true h = omega (arith, asked_in_fewer s g)
     go false h = omega (arith, asked_in_fewer s g)
-
--- of a table's groups and a text within the input limit
-pub asked_bound : (gs : List Group) (s : List ℕ) → length gs ≤ most_groups → length s ≤ most_input → asked gs s ≤ most_groups * most_input
-asked_bound gs s few short = omega (arith, asked_fewer gs s, mul-le-mul few short)

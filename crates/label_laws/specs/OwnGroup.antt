@@ -8,7 +8,7 @@ use Rattle.table.specs.Table.{Table, Group}
 use Rattle.table.specs.Lookup.{holds}
 use Rattle.groups.specs.Groups.{holds_all}
 use Rattle.confusable.specs.Confusable.{is_confused, respells}
-use Rattle.confusable.specs.Holders.{not_respelled}
+use Rattle.confusable.proofs.HolderLaws.{not_respelled}
 
 -- The own group: where the text has a confused character, a group that holds all of it does not respell it.
 pub own_group : (t : Table) (g : Group) (s : List ℕ) → Memᴰ g t.groups → holds_all s g ≡ true → any (is_confused t) s ≡ true → all (respells t g) s ≡ false

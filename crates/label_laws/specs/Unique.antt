@@ -12,7 +12,7 @@ use Rattle.table.specs.Table.{Table, Group, Whole}
 use Rattle.table.specs.Lookup.{holds, whole_of}
 use Rattle.groups.specs.Groups.{Numbered, holds_all, group_of, group_from}
 use Rattle.confusable.specs.Confusable.{is_confused, outside, respells, confusable}
-use Rattle.confusable.specs.Holders.{not_respelled}
+use Rattle.confusable.proofs.HolderLaws.{not_respelled}
 use Rattle.label_laws.specs.OwnGroup.{own_group}
 
 -- the different characters of a text: "each unique character in the label"

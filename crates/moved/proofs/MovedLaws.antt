@@ -37,7 +37,8 @@ use Rattle.book_forms.specs.declared.Opening.TheVariants as opening
 use Rattle.refiled.specs.Refiled.{changed}
 use Rattle.listing.specs.Listing.{listed_long}
 use Rattle.listing.specs.Filling.{Holds, Filling, fill_start, fill_end, fill_more}
-use Rattle.listing.specs.Listed.{judged-listed, judged_refused, list-kept, list_over}
+use Rattle.listing.specs.Listed.{judged-listed, judged_refused}
+use Rattle.listing.proofs.ListedLaws.{list-kept, list_over}
 use Rattle.moved_list.specs.declared.MovedAnswer.{MovedAnswer}
 use Rattle.moved_list.specs.declared.MovedAnswer.TheVariants.{Listed, OtherSize, Damaged, Refused, NoRoom}
 use Rattle.moved_list.specs.Moved.{Entry, in_list, slot_change, moved_from, moved_before33, moved_listing, moved_call}

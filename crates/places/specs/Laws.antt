@@ -80,18 +80,6 @@ covers_some (text r) start at end (scan.text (c ∷ s) ∷ ss) h w e =
 covers_some (emoji f) start at end (scan.text (c ∷ s) ∷ ss) h w e =
     (refl, h, covers_some (text (c ∷ s)) at (suc at) end ss (omega arith) w.1 (omega (arith, e)))
 
-pub covers_none : (start at end : ℕ) (ss : List Step) → start ≤ at → Every (λ s. 1 ≤ width s) ss → at + widths ss ≡ end → 1 ≤ length (tokens_of ss)
-    → Covers start end (placed_from none start at ss)
-unfolding placed_from tokens_of
-covers_none start at end [] h w e k = absurd (omega arith)
-covers_none start at end (scan.ignored ∷ ss) h w e k = covers_none start (suc at) end ss (omega arith) w.1 (omega (arith, e)) k
-covers_none start at end (scan.disallowed ∷ ss) h w e k = covers_none start (suc at) end ss (omega arith) w.1 (omega (arith, e)) k
-covers_none start at end (scan.text [] ∷ ss) h w e k = covers_none start (suc at) end ss (omega arith) w.1 (omega (arith, e)) k
-covers_none start at end (scan.emoji f ∷ ss) h w e k =
-    covers_some (emoji f) start (at + f.taken.length) end ss (omega (arith, w.0)) w.1 (omega (arith, e))
-covers_none start at end (scan.text (c ∷ s) ∷ ss) h w e k =
-    covers_some (text (c ∷ s)) start (suc at) end ss (omega arith) w.1 (omega (arith, e))
-
 -- a step that gives a token, and so starts one behind an emoji
 pub some-before : (c : ℕ) (s : List ℕ) (ts : List Token) → 1 ≤ length (before (c ∷ s) ts)
 some-before c s [] = omega arith

@@ -4,11 +4,10 @@ use Prim.Native.Nat.{ℕ, suc, ◌+◌, ◌-◌, ◌≤◌, ◌<◌}
 use native.Mathlib.Omega.{arith}
 use Rattle.std.specs.Prelude.{◌≡◌, refl}
 use Rattle.std.proofs.Math.Path.{sym, ap}
-use Rattle.std.proofs.Common.{◌∙◌, add-one, length-take-le, drop-drop}
-use mathlib.Core.List.{List, [], ◌∷◌, ◌++◌, map, tail-eq_of_cons-eq, head-eq_of_cons-eq}
+use Rattle.std.proofs.Common.{◌∙◌, add-one, length-take-le}
+use mathlib.Core.List.{List, [], ◌∷◌, ◌++◌, map}
 use Rattle.std.proofs.Math.Option.{Option, none, some}
 use Rattle.std.proofs.Math.ListN.{length, take, drop, length-drop, take-append-drop}
-use Rattle.std.proofs.lemmas.List.{length-map}
 use Rattle.lists.specs.Laws.{Every}
 use Rattle.table.specs.Table.{Table}
 use Rattle.tokens.specs.Scan as scan
@@ -16,7 +15,7 @@ use Rattle.tokens.specs.Scan.{Step, width, steps}
 use Rattle.tokens.specs.Tokens.{Token, tokens_of}
 use Rattle.places.specs.Places.{Source, emoji, text, Placed, token_of, bare, placed_from, placed}
 use Rattle.places.specs.Cutting.{widths, steps_front, steps-behind, steps-whole, steps-some}
-use Rattle.places.specs.Laws.{bare_from, Covers, covers_none, some-before}
+use Rattle.places.specs.Laws.{bare_from, some-before}
 
 -- the token x whose input has n codepoints from `start` on
 abbrev pub at : Source → ℕ → ℕ → Placed
@@ -36,7 +35,7 @@ pub record FirstOf (o : Option Source) (ss : List Step) : Type 0 where
 -- one step more in front, which takes k and is added to the token
 module _ (o o' : Option Source) (s : Step) (ss : List Step) (f : FirstOf o' ss) (k : ℕ) (w : width s ≡ k)
     (goes : (start n : ℕ) (rs : List Step) → placed_from o start n (s ∷ rs) ≡ placed_from o' start (n + k) rs) where
-  first_more : FirstOf o (s ∷ ss)
+  pub first_more : FirstOf o (s ∷ ss)
   first_more =
       let same : (n : ℕ) → n + k + widths f.own ≡ n + widths (s ∷ f.own) = λ n. omega (arith, w) in
       record {
@@ -67,11 +66,11 @@ first_ends x ss opens m =
     }
 
 -- a codepoint that gives nothing
-nothing_more : (o : Option Source) (s : Step) (ss : List Step) → FirstOf o ss → width s ≡ 1
+pub nothing_more : (o : Option Source) (s : Step) (ss : List Step) → FirstOf o ss → width s ≡ 1
     → ((start n : ℕ) (rs : List Step) → placed_from o start n (s ∷ rs) ≡ placed_from o start (suc n) rs) → FirstOf o (s ∷ ss)
 nothing_more o s ss f w e = first_more o o s ss f 1 w (λ start n rs. e start n rs ∙ rw (add-one n))
 
-first_some : (x : Source) (ss : List Step) → FirstOf (some x) ss
+pub first_some : (x : Source) (ss : List Step) → FirstOf (some x) ss
 unfolding placed_from tokens_of
 first_some x [] = first_ends x [] (λ start n. refl) (λ h. absurd (omega arith))
 first_some x (scan.ignored ∷ ss) = nothing_more (some x) scan.ignored ss (first_some x ss) refl (λ start n rs. refl)
@@ -82,17 +81,6 @@ first_some (text r) (scan.text (c ∷ s) ∷ ss) =
     first_more (some (text r)) (some (text (r ++ c ∷ s))) (scan.text (c ∷ s)) ss (first_some (text (r ++ c ∷ s)) ss) 1 refl (λ start n rs. rw (add-one n))
 first_some (emoji f) (scan.text (c ∷ s) ∷ ss) =
     first_ends (emoji f) (scan.text (c ∷ s) ∷ ss) (λ start n. refl) (λ h. some-before c s (tokens_of ss))
-
-pub first_of : (ss : List Step) → 1 ≤ length (tokens_of ss) → FirstOf none ss
-unfolding placed_from tokens_of
-first_of [] h = absurd (omega arith)
-first_of (scan.ignored ∷ ss) h = nothing_more none scan.ignored ss (first_of ss h) refl (λ start n rs. refl)
-first_of (scan.disallowed ∷ ss) h = nothing_more none scan.disallowed ss (first_of ss h) refl (λ start n rs. refl)
-first_of (scan.text [] ∷ ss) h = nothing_more none (scan.text []) ss (first_of ss h) refl (λ start n rs. refl)
-first_of (scan.emoji f ∷ ss) h =
-    first_more none (some (emoji f)) (scan.emoji f) ss (first_some (emoji f) ss) f.taken.length refl (λ start n rs. refl)
-first_of (scan.text (c ∷ s) ∷ ss) h =
-    first_more none (some (text (c ∷ s))) (scan.text (c ∷ s)) ss (first_some (text (c ∷ s)) ss) 1 refl (λ start n rs. rw (add-one n))
 
 -- The first token of a label is x, and its input is the first n codepoints: scanned alone they give exactly that token, and behind them
 -- the scan goes on as if they had not been there, with a token if there is anything.
@@ -140,58 +128,14 @@ module _ (t : Table) where
     pub taken : ℕ
     pub is : IsFirst t l source taken
 
-  pub first_token : (l : List ℕ) → 1 ≤ length (tokens_of (steps t l)) → First l
-  first_token l h =
-      let f = first_of (steps t l) h in
-      record { source = f.source; taken = widths f.own; is = is_first l f }
-
   -- a placed token without its place is the token of 01
   pub bare-placed : (start : ℕ) (l : List ℕ) → map bare (placed t start l) ≡ tokens_of (steps t l)
   unfolding placed
   bare-placed start l = bare_from none start start (steps t l) tt
 
-  -- "the places in each label cover it without gaps or overlap"
-  pub placed_covers : (start : ℕ) (l : List ℕ) → 1 ≤ length (tokens_of (steps t l)) → Covers start (start + length l) (placed t start l)
-  unfolding placed
-  placed_covers start l h =
-      covers_none start start (start + length l) (steps t l) (omega arith) (steps-some t (steps t l) l refl)
-      (omega (arith, steps-whole t (steps t l) l refl)) h
-
   -- Scanning a token's own part of the input alone gives exactly that token.
   abbrev pub Alone : ℕ → List ℕ → Placed → Type 0
   Alone start l x = placed t x.start (take (x.end - x.start) (drop (x.start - start) l)) ≡ x ∷ []
-
-  module _ (start : ℕ) (l : List ℕ) where
-    alone_from : (xs : List Placed) (d : ℕ) → placed t (start + d) (drop d l) ≡ xs → Every (Alone start l) xs
-    alone_from [] d e = tt
-    alone_from (x ∷ xs) d e = (own, alone_from xs (d + k.taken) rest)
-      where
-        some_tokens : 1 ≤ length (tokens_of (steps t (drop d l)))
-        some_tokens =
-            let n : suc (length xs) ≡ length (tokens_of (steps t (drop d l))) =
-            sym (length-map (x ∷ xs) bare) ∙ ap (λ (ys : List Placed). length (map bare ys)) (sym e) ∙ ap length (bare-placed (start + d) (drop d l)) in
-            omega arith
-
-        k : First (drop d l)
-        k = first_token (drop d l) some_tokens
-
-        head : x ∷ xs ≡ at k.source (start + d) k.taken ∷ placed t (start + d + k.taken) (drop k.taken (drop d l))
-        head = sym e ∙ k.is.first (start + d)
-
-        rest : placed t (start + (d + k.taken)) (drop (d + k.taken) l) ≡ xs
-        rest =
-            let sum : start + (d + k.taken) ≡ start + d + k.taken = omega arith in
-            rw (sum, ← drop-drop k.taken d l) (sym (tail-eq_of_cons-eq head))
-
-        own : Alone start l x
-        own =
-            let same : x ≡ at k.source (start + d) k.taken = head-eq_of_cons-eq head in
-            let long : start + d + k.taken - (start + d) ≡ k.taken = omega arith in
-            let offset : start + d - start ≡ d = omega arith in
-            rw (same, long, offset) (k.is.alone (start + d))
-
-    pub each_alone : Every (Alone start l) (placed t start l)
-    each_alone = let zero : start + 0 ≡ start = omega arith in alone_from (placed t start l) 0 (rw zero)
 
   -- the tokens of today, the first and the others; and that of its own part
   module _ (l : List ℕ) (x : Source) (n : ℕ) (f : IsFirst t l x n) where

@@ -13,7 +13,7 @@ use Rattle.table.specs.Table.{Table}
 use Rattle.table.specs.Layout.{the_table}
 use Rattle.places.specs.Places.{Placed, placed}
 use Rattle.places.specs.Laws.{Covers}
-use Rattle.places.specs.Parts.{placed_covers}
+use Rattle.places.proofs.PartLaws.{placed_covers}
 use Rattle.token_walk.specs.Walk.{Walkable}
 use Rattle.name.specs.Label.{Label}
 use Rattle.name.specs.Name.{labels_of, name_before15}

@@ -42,7 +42,8 @@ use Rattle.name.specs.declared.admit.Admission.{Admission}
 use Rattle.name.specs.declared.admit.Admission.TheVariants as admission
 use Rattle.group_list.specs.Places.{places_of, is_set}
 use Rattle.listing.specs.Filling.{Holds}
-use Rattle.listing.specs.Listed.{judged-listed, judged_refused, list-kept, list_over}
+use Rattle.listing.specs.Listed.{judged-listed, judged_refused}
+use Rattle.listing.proofs.ListedLaws.{list-kept, list_over}
 use Rattle.respelled.specs.declared.RespelledAnswer.{RespelledAnswer}
 use Rattle.respelled.specs.declared.RespelledAnswer.TheVariants.{Listed, Refused, NoRoom}
 use Rattle.respelled.specs.Respelled.{respelled_in, tested_text, groups_for, before14, respelled_before33, group_listing, respelled_call}

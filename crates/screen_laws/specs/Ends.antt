@@ -17,7 +17,7 @@ use Rattle.name.specs.Label.{Label}
 use Rattle.name.specs.Name.{labels_of, labels_verdict, name_answer, name_answering, name_before15, name_verdict, name_result, name_call}
 use Rattle.joining.specs.Joining.{name_accepts}
 use Rattle.forms.specs.Forms.{typed, Form, name_form, form_answering, normal_form, screen_form}
-use Rattle.forms.specs.Laws.{name_normal}
+use Rattle.forms.proofs.FormLaws.{name_normal}
 use Rattle.screen.specs.Screen.{screen_before15, screen_verdict, screen_call}
 use Rattle.screen_laws.specs.Restored.{fits_exactly, the_table_lem, twice}
 

@@ -1,5 +1,5 @@
 // One walk over the tokens of a label: each token with its place, and its codepoints in the work area. Nothing is stored for a token: a
-// token's own part of the input, scanned alone, gives exactly that token (places/specs/Parts.antt). The report (02, Item 9) is made so.
+// token's own part of the input, scanned alone, gives exactly that token (places/proofs/PartLaws.antt). The report (02, Item 9) is made so.
 #![tactic(auto)]
 
 ghost use Rattle.std.specs.Prelude.{◌≤◌, length};
