@@ -1,0 +1,18 @@
+-- `name`: the two ends of the call.
+use borrow.Author.Tests.{not-true, not-false}
+use Rattle.name.proofs.Answering.{name_kept, name_over}
+use Rattle.name_call.proofs.name.Goals as goal
+
+pub returns-then-not-finish : goal.returns-then-not-finish
+returns-then-not-finish c =
+    let end = c in
+    let length = end in
+    let judged = length in
+    name_over _ _ _ _ _ _ _ _ _ _ _ end.finish.ensures _ judged.judge_name-judged.ensures length.name_length-length.ensures (not-true _ c.if-not-finish.true-raw)
+
+pub returns : goal.returns
+returns c =
+    let end = c in
+    let length = end in
+    let judged = length in
+    name_kept _ _ _ _ _ _ _ _ _ _ _ end.finish.ensures _ judged.judge_name-judged.ensures length.name_length-length.ensures (not-false _ c.if-not-finish.false-raw)
