@@ -17,7 +17,8 @@ use Rattle.book_map.specs.Map.{Entry, Changed, Job, save, find, forget, Call, by
 use Rattle.book_map.specs.Entries.{Distinct}
 use Rattle.book_map.specs.SameMap.{Same}
 use Rattle.book_map.specs.SlotEntries.{Good, distinct-once, empty_entries, empty_goods}
-use Rattle.book_map.specs.Jobs.{Slots, Agree, book_job, Eight, agree_job}
+use Rattle.book_map.specs.Jobs.{Slots, Agree, book_job, Eight}
+use Rattle.book_map.proofs.JobLaws.{agree_job}
 
 -- the area has the right size, and its slots hold the map
 pub record Holds (area : List ℕ) (m : List Entry) : Type 0 where

@@ -1,21 +1,20 @@
--- Each job in the slots is that job in the map.
-use Rattle.std.specs.Prelude.{ℕ, ◌+◌, ◌<◌, ◌≤◌, ◌≡◌, true, false, List, [], ◌∷◌, ◌++◌, get_or, set}
+-- Each job in the slots is that job in the map (`agree_job`, in proofs/JobLaws).
+use Rattle.std.specs.Prelude.{ℕ, ◌<◌, ◌≤◌, ◌≡◌, true, false, List, [], ◌∷◌, ◌++◌, get_or, set}
 use Rattle.std.proofs.Common.{arith, ap, ◌∙◌, length-append}
 use Rattle.std.proofs.Math.Path.{refl, sym}
 use Rattle.std.proofs.Math.Option.{Option, none, some}
 use Rattle.std.proofs.Math.ListN.{length}
 use Rattle.std.proofs.lemmas.List.{set_at, get_or_at}
-use borrow.Author.Tests.{lt-ltb, le-ltb}
 use Rattle.lists.specs.Lists.{place_with}
 use Rattle.lists.specs.Laws.{Every, every_append, every_front, every_back, same-list, joined_append}
 use Rattle.lists.specs.Tests.{never, not_so}
 use Rattle.answers.specs.Verdict.{Verdict, accepted, refused}
-use Rattle.book_slots.specs.Book.{slot_count, form_room, account_size, Slot, slot_for, empty_slot, is_free, name_of, has_name, spot_for}
+use Rattle.book_slots.specs.Book.{slot_count, form_room, account_size, Slot, empty_slot, is_free, name_of, has_name}
 use Rattle.book_answers.specs.Calls.{Kept, save_in, find_in, forget_in}
-use Rattle.book_map.specs.Map.{Entry, lookup, without, leading, most_entries, Changed, map_save, map_find, map_forget, Job, save, find, forget, map_job}
+use Rattle.book_map.specs.Map.{Entry, lookup, without, most_entries, Changed, map_find, map_forget, Job, save, find, forget}
 use Rattle.book_map.specs.Entries.{between}
-use Rattle.book_map.specs.SlotEntries.{entry_of, entries_of, Good, filed_name, free_name, no_name, Split, split_at, none_any, all_filed, few_entries, filled_good, filled_entry, empty_good, empty_entry}
-use Rattle.book_map.specs.SameMap.{Same, same-lookup, same_forgotten, same-changed, same-added}
+use Rattle.book_map.specs.SlotEntries.{entry_of, entries_of, Good, filed_name, free_name, no_name, Split, split_at, none_any, few_entries, empty_good, empty_entry}
+use Rattle.book_map.specs.SameMap.{Same, same-lookup, same_forgotten}
 
 -- the slots hold a map
 pub record Slots (slots : List Slot) (m : List Entry) : Type 0 where
@@ -25,13 +24,13 @@ pub record Slots (slots : List Slot) (m : List Entry) : Type 0 where
 
 -- one slot in its place, and another in the same place
 module _ (front back : List Slot) where
-  entries_split : (s : Slot) (e : List Entry) → entry_of s ≡ e → entries_of (front ++ s ∷ back) ≡ entries_of front ++ (e ++ entries_of back)
+  pub entries_split : (s : Slot) (e : List Entry) → entry_of s ≡ e → entries_of (front ++ s ∷ back) ≡ entries_of front ++ (e ++ entries_of back)
   entries_split s e h = joined_append entry_of front (s ∷ back) ∙ rw h
 
-  goods_split : (s t : Slot) → Every Good (front ++ s ∷ back) → Good t → Every Good (front ++ t ∷ back)
+  pub goods_split : (s t : Slot) → Every Good (front ++ s ∷ back) → Good t → Every Good (front ++ t ∷ back)
   goods_split s t g h = every_append Good front (t ∷ back) (every_front Good front (s ∷ back) g) (h, (every_back Good front (s ∷ back) g).1)
 
-  long_split : (s t : Slot) → length (front ++ t ∷ back) ≡ length (front ++ s ∷ back)
+  pub long_split : (s t : Slot) → length (front ++ t ∷ back) ≡ length (front ++ s ∷ back)
   long_split s t = rw (length-append, length-append)
 
 -- a slot that has a name holds its entry
@@ -65,7 +64,7 @@ Eight find = Unit {0}
 Eight forget = Unit {0}
 
 module _ (f : List ℕ) (h : 1 ≤ length f) (k : length f ≤ form_room) (slots : List Slot) (m : List Entry) (s : Slots slots m) where
-  absent : place_with (has_name f) 0 slots ≡ none → lookup f m ≡ none
+  pub absent : place_with (has_name f) 0 slots ≡ none → lookup f m ≡ none
   absent e = sym (s.same.leads f) ∙ no_name f slots s.good h (none_any (has_name f) 0 slots e)
 
   -- the slot that has the name, and what the map is with another slot in its place
@@ -76,7 +75,7 @@ module _ (f : List ℕ) (h : 1 ≤ length f) (k : length f ≤ form_room) (slots
     here_good : Good t.here
     here_good = (every_back Good t.front (t.here ∷ t.back) goods).0
 
-    entries : Same (between f t.here.account (entries_of t.front) (entries_of t.back)) m
+    pub entries : Same (between f t.here.account (entries_of t.front) (entries_of t.back)) m
     entries =
         rw (ap entries_of t.is
         ∙ entries_split t.front t.back t.here (record { form = f; account = t.here.account } ∷ [])
@@ -93,7 +92,7 @@ module _ (f : List ℕ) (h : 1 ≤ length f) (k : length f ≤ form_room) (slots
       placed : set slots i x ≡ t.front ++ x ∷ t.back
       placed = ap (λ (l : List Slot). set l i x) t.is ∙ set_at t.front t.here t.back x i t.long
 
-      put_slots : (n : List Entry) → Same (entries_of (t.front ++ x ∷ t.back)) n → Slots (set slots i x) n
+      pub put_slots : (n : List Entry) → Same (entries_of (t.front ++ x ∷ t.back)) n → Slots (set slots i x) n
       put_slots n q =
           rw placed
           (record {
@@ -108,18 +107,12 @@ module _ (f : List ℕ) (h : 1 ≤ length f) (k : length f ≤ form_room) (slots
         (rw (entries_split t.front t.back empty_slot [] empty_entry)
         (same_forgotten f t.here.account (entries_of t.front) (entries_of t.back) m entries))
 
-    pub slots-changed : (account : List ℕ) → length account ≡ account_size → Slots (set slots i (slot_for f account)) (leading f account m)
-    slots-changed account l =
-        put_slots (slot_for f account) (filled_good f account h k l) (leading f account m)
-        (rw (entries_split t.front t.back (slot_for f account) (record { form = f; account = account } ∷ []) (filled_entry f account h k))
-        (same-changed f t.here.account (entries_of t.front) (entries_of t.back) m entries account))
-
   -- a slot that is free, and what the map is with the form in it
   module _ (i : ℕ) (t : Split is_free slots i) (e : lookup f m ≡ none) where
-    all_good : Every Good (t.front ++ t.here ∷ t.back)
+    pub all_good : Every Good (t.front ++ t.here ∷ t.back)
     all_good = rw t.is at s.good
 
-    rest : Same (entries_of t.front ++ entries_of t.back) m
+    pub rest : Same (entries_of t.front ++ entries_of t.back) m
     rest =
         rw (ap entries_of t.is ∙ entries_split t.front t.back t.here [] (rw t.passes refl))
         at s.same
@@ -137,22 +130,8 @@ module _ (f : List ℕ) (h : 1 ≤ length f) (k : length f ≤ form_room) (slots
           length-append t.front (t.here ∷ t.back),
         )
 
-    pub slots-added : (account : List ℕ) → length account ≡ account_size → Slots (set slots i (slot_for f account)) (leading f account m)
-    slots-added account l =
-        let x : Slot = slot_for f account in
-        let placed : set slots i x ≡ t.front ++ x ∷ t.back =
-        ap (λ (r : List Slot). set r i x) t.is ∙ set_at t.front t.here t.back x i t.long in
-        rw placed
-        (record {
-          all = long_split t.front t.back t.here x ∙ ap length (sym t.is) ∙ s.all;
-          good = goods_split t.front t.back t.here x all_good (filled_good f account h k l);
-          same =
-              rw (entries_split t.front t.back x (record { form = f; account = account } ∷ []) (filled_entry f account h k))
-              (same-added f account (entries_of t.front) (entries_of t.back) m rest e);
-        })
-
   -- find, forget, save
-  agree_find : Agree (find_in f slots) (map_find f m)
+  pub agree_find : Agree (find_in f slots) (map_find f m)
   unfolding find_in map_find
   agree_find = go (place_with (has_name f) 0 slots) refl
     where
@@ -162,7 +141,7 @@ module _ (f : List ℕ) (h : 1 ≤ length f) (k : length f ≤ form_room) (slots
           let t = split_at (has_name f) i slots e in
           rw (e, there i t) (ap (λ (x : Slot). x.account) (its_slot i t empty_slot), s)
 
-  agree_forget : Agree (forget_in f slots) (map_forget f m)
+  pub agree_forget : Agree (forget_in f slots) (map_forget f m)
   unfolding forget_in map_forget
   agree_forget = go (place_with (has_name f) 0 slots) refl
     where
@@ -171,26 +150,3 @@ module _ (f : List ℕ) (h : 1 ≤ length f) (k : length f ≤ form_room) (slots
       go (some i) e =
           let t = split_at (has_name f) i slots e in
           rw (e, there i t) (refl, slots_forgotten i t)
-
-  agree_save : (account : List ℕ) → length account ≡ account_size → Agree (save_in account f slots) (map_save account f m)
-  unfolding save_in spot_for map_save
-  agree_save account l = go (place_with (has_name f) 0 slots) refl
-    where
-      new : place_with (has_name f) 0 slots ≡ none → (o : Option ℕ) → place_with is_free 0 slots ≡ o → Agree (save_in account f slots) (map_save account f m)
-      new e none z =
-          let full : length m ≡ most_entries = sym s.same.count ∙ all_filed slots (none_any is_free 0 slots z) ∙ s.all in
-          rw (e, z, absent e, le-ltb (length m) most_entries (omega arith)) (refl, refl)
-      new e (some i) z =
-          let t = split_at is_free i slots z in
-          rw (e, z, absent e, lt-ltb (length m) most_entries (not_full i t (absent e))) (refl, slots-added i t (absent e) account l)
-
-      go : (o : Option ℕ) → place_with (has_name f) 0 slots ≡ o → Agree (save_in account f slots) (map_save account f m)
-      go none e = new e (place_with is_free 0 slots) refl
-      go (some i) e =
-          let t = split_at (has_name f) i slots e in
-          rw (e, there i t) (refl, slots-changed i t account l)
-
-  pub agree_job : (j : Job) → Eight j → Agree (book_job j f slots) (map_job j f m)
-  agree_job (save account) l = agree_save account l
-  agree_job find l = agree_find
-  agree_job forget l = agree_forget

@@ -1,2 +1,3 @@
-// The map that the payee book is compared with, and its laws (specs/): what saving, finding and forgetting does to the slots, it does to the map.
+// The map that the payee book is compared with, and its laws (specs/, proofs/): what saving, finding and forgetting does to the slots, it does to
+// the map.
 #![tactic(auto)]

@@ -1,34 +1,31 @@
 -- 02, Item 14, with demand 3: for a sound table and a book reached from a zeroed area by Item 7's calls with it, any settings and rooms, nothing is
--- listed for the same table.
-use Rattle.std.specs.Prelude.{ℕ, suc, ◌≤◌, Bool, length, take, eqb, ltb}
+-- listed for the same table (`nothing-listed`, in proofs/SameTableLaws).
+use Rattle.std.specs.Prelude.{ℕ, suc, ◌≤◌, Bool, length, ltb}
 use Rattle.std.proofs.Common.{arith, sym, ◌∙◌}
-use Rattle.std.proofs.Math.Path.{◌≡◌, refl, ap}
+use Rattle.std.proofs.Math.Path.{◌≡◌, refl}
 use Rattle.std.proofs.Math.Bool.{true, false, not, cond}
 use mathlib.Core.List.Memᴰ
 use mathlib.Core.List.{List, [], ◌∷◌, ◌++◌, Memᴰ}
 use Rattle.std.proofs.Math.Option.{Option, none, some}
-use borrow.Author.Tests.{eqb-true, le-ltb}
-use Rattle.lists.specs.Lists.{keep, on_some, same_list, joined_map}
+use Rattle.lists.specs.Lists.{keep, on_some, same_list}
 use Rattle.lists.specs.Laws.{Every, every_of_all, same-list}
-use Rattle.lists.specs.Filled.{filled, take-filled}
+use Rattle.lists.specs.Filled.{take-filled}
 use Rattle.limits.specs.Limits.{least_work}
-use Rattle.answers.specs.Verdict.{Verdict, accepted, refused, next}
+use Rattle.answers.specs.Verdict.{Verdict, accepted, refused}
 use Rattle.ending.specs.Numbers.{next_accepted}
 use Rattle.soundness.specs.Soundness.{soundness_of}
-use Rattle.soundness.specs.Answer.{none_sound}
-use Rattle.name.specs.Label.{Label, admitted}
-use Rattle.name.specs.Name.{NameResult, name_answer, name_answering, name_before15, name_verdict, name_result, name_call}
+use Rattle.name.specs.Label.{Label}
+use Rattle.name.specs.Name.{name_answer, name_before15, name_verdict, name_result, name_call}
 use Rattle.idempotence.specs.Idempotence.{again}
-use Rattle.meaning.specs.Numbers.{name_zero}
 use Rattle.meaning.specs.Restricted.{accepted_off}
-use Rattle.book_slots.specs.Book.{front_size, Slot, slots_in, is_free, name_of}
-use Rattle.book_answers.specs.Calls.{no_account, form_of, fileable, form_for}
-use Rattle.book_map.specs.Map.{Entry, Changed, lookup, without, leading, Job, save, find, forget, Call, by, reset, map_job, map_save, map_find, map_forget, map_result, map_call, book_call}
+use Rattle.book_slots.specs.Book.{front_size, Slot, is_free, name_of}
+use Rattle.book_answers.specs.Calls.{no_account, form_of, fileable}
+use Rattle.book_map.specs.Map.{Entry, Changed, lookup, without, leading, Job, save, find, forget, Call, map_job, map_save, map_find, map_forget, map_result, book_call}
 use Rattle.book_map.specs.SlotEntries.{entries_of}
-use Rattle.book_laws.specs.MapTheorem.{Holds, holds_opened, EightWords, step, zeroed, zeroed-holds}
-use Rattle.refiled.specs.Refiled.{form_by, change_of, changed}
+use Rattle.book_laws.specs.MapTheorem.{Holds, EightWords, zeroed}
+use Rattle.refiled.specs.Refiled.{form_by, changed}
 use Rattle.refiling.proofs.Joins.{same_self}
-use Rattle.moved_list.specs.Moved.{slot_change, moved_from, moved_before33}
+use Rattle.moved_list.specs.Moved.{slot_change, moved_from}
 
 module _ (words : List ℕ) (sound : soundness_of words ≡ none) where
   -- a form that the table files as it is, with any work area that is large enough
@@ -38,7 +35,7 @@ module _ (words : List ℕ) (sound : soundness_of words ≡ none) where
 
   -- the form of an accepted name is settled
   module _ (setting : ℕ) (name : List ℕ) (room work : ℕ) where
-    in_front : (ls : List Label) → name_verdict setting words name room work ≡ accepted ls → form_of (name_call setting words name room work) ≡ accepted (name_answer ls)
+    pub in_front : (ls : List Label) → name_verdict setting words name room work ≡ accepted ls → form_of (name_call setting words name room work) ≡ accepted (name_answer ls)
     unfolding name_call name_result
     in_front ls e = rw (e, take-filled room (name_answer ls))
 
@@ -52,7 +49,7 @@ module _ (words : List ℕ) (sound : soundness_of words ≡ none) where
         go xs true f = absurd (let z : ◌≡◌ {A = ℕ} 0 1 = cc in omega arith)
         go xs false f = f
 
-    answer-settled : (ls : List Label) → name_verdict setting words name room work ≡ accepted ls → fileable (name_answer ls) ≡ accepted (name_answer ls)
+    pub answer-settled : (ls : List Label) → name_verdict setting words name room work ≡ accepted ls → fileable (name_answer ls) ≡ accepted (name_answer ls)
         → Settled (name_answer ls)
     unfolding Settled changed form_by
     answer-settled ls e f work' enough =
@@ -61,7 +58,7 @@ module _ (words : List ℕ) (sound : soundness_of words ≡ none) where
         rw (before_15 (name_answer ls) ls (length (name_answer ls)) work' second.accepts, f, same_self (name_answer ls))
 
     -- what can be filed is filed as it is
-    fileable_is : (f form : List ℕ) → fileable f ≡ accepted form → f ≡ form
+    pub fileable_is : (f form : List ℕ) → fileable f ≡ accepted form → f ≡ form
     fileable_is [] form e = absurd (let z : ◌≡◌ {A = ℕ} 0 1 = cc in omega arith)
     fileable_is (c ∷ f) form e = go (ltb 255 (length (c ∷ f))) e
       where
@@ -69,24 +66,8 @@ module _ (words : List ℕ) (sound : soundness_of words ≡ none) where
         go true k = absurd (let z : ◌≡◌ {A = ℕ} 0 1 = cc in omega arith)
         go false k = cc
 
-    pub form_settled : (form : List ℕ) → form_for setting words name room work ≡ accepted form → Settled form
-    unfolding form_for
-    form_settled form e = go (eqb (name_call setting words name room work).values.number 0) refl e
-      where
-        filed : (ls : List Label) → name_verdict setting words name room work ≡ accepted ls → fileable (name_answer ls) ≡ accepted form → Settled form
-        filed ls v f =
-            let z : name_answer ls ≡ form = fileable_is (name_answer ls) form f in
-            rw (← z) (answer-settled ls v (f ∙ ap accepted (sym z)))
-
-        go : (b : Bool) → eqb (name_call setting words name room work).values.number 0 ≡ b
-            → next (form_of (name_call setting words name room work)) fileable ≡ accepted form → Settled form
-        go true q k =
-            let z = (name_zero setting words name work room).0 (eqb-true (name_call setting words name room work).values.number 0 q) in
-            filed z.item z.is (rw (in_front z.item z.is) at k)
-        go false q k = absurd (let z : ◌≡◌ {A = ℕ} 0 1 = cc (rw q at k) in omega arith)
-
   -- every form of the map is settled
-  unfoldable AllSettled : List Entry → Type 0
+  unfoldable pub AllSettled : List Entry → Type 0
   AllSettled m = Every (λ e. Settled e.form) m
 
   without-settled : (form : List ℕ) (m : List Entry) → AllSettled m → AllSettled (without form m)
@@ -100,11 +81,11 @@ module _ (words : List ℕ) (sound : soundness_of words ≡ none) where
       go false k = k
 
   -- what a verdict leaves of the map
-  left_settled : (m : List Entry) → AllSettled m → (v : Verdict Changed) → ((c : Changed) → v ≡ accepted c → AllSettled c.map) → AllSettled (map_result m v).map
+  pub left_settled : (m : List Entry) → AllSettled m → (v : Verdict Changed) → ((c : Changed) → v ≡ accepted c → AllSettled c.map) → AllSettled (map_result m v).map
   left_settled m h (accepted c) f = f c refl
   left_settled m h (refused n p) f = h
 
-  job_settled : (form : List ℕ) → Settled form → (m : List Entry) → AllSettled m → (j : Job) (c : Changed) → map_job j form m ≡ accepted c → AllSettled c.map
+  pub job_settled : (form : List ℕ) → Settled form → (m : List Entry) → AllSettled m → (j : Job) (c : Changed) → map_job j form m ≡ accepted c → AllSettled c.map
   unfolding AllSettled map_save map_find map_forget leading
   job_settled form s m h (save account) c e = go (lookup form m) e
     where
@@ -131,37 +112,15 @@ module _ (words : List ℕ) (sound : soundness_of words ≡ none) where
       go (some x) f = let z : record { map = without form m; account = no_account } ≡ c = cc in rw (← z) (without-settled form m h)
       go none f = absurd (let z : ◌≡◌ {A = ℕ} 0 1 = cc in omega arith)
 
-  -- a call leaves settled forms
-  call_settled : (setting : ℕ) (c : Call) (m : List Entry) → AllSettled m → AllSettled (map_call setting words c m).map
-  unfolding map_call AllSettled
-  call_settled setting (by job name room work) m h =
-      left_settled m h (next (form_for setting words name room work) (λ form. map_job job form m)) (go (form_for setting words name room work) refl)
-    where
-      go : (v : Verdict (List ℕ)) → form_for setting words name room work ≡ v → (c : Changed) → next v (λ form. map_job job form m) ≡ accepted c → AllSettled c.map
-      go (accepted form) e c f = job_settled form (form_settled setting name room work form e) m h job c f
-      go (refused n p) e c f = absurd (let z : ◌≡◌ {A = ℕ} 0 1 = cc in omega arith)
-  call_settled setting (reset room work) m h = tt
-
   -- a book reached from a zeroed area by calls with this table, each with a setting and with buffers of its own
   pub data Reached : List ℕ → Type 0 where
     empty : (front : List ℕ) → length front ≡ front_size → Reached (zeroed front)
     called : (setting : ℕ) (c : Call) → EightWords c → (area : List ℕ) → Reached area → Reached (book_call setting words c area).area
 
-  record Kept (area : List ℕ) : Type 0 where
-    map : List Entry
-    holds : Holds area map
-    settled : AllSettled map
-
-  kept : (area : List ℕ) → Reached area → Kept area
-  unfolding AllSettled
-  kept area (empty front h) = record { map = []; holds = zeroed-holds front h; settled = tt }
-  kept area (called setting c eight before r) =
-      let k = kept before r in
-      record {
-        map = (map_call setting words c k.map).map;
-        holds = (step setting words c eight before k.map k.holds).holds;
-        settled = call_settled setting c k.map k.settled;
-      }
+  pub record Kept (area : List ℕ) : Type 0 where
+    pub map : List Entry
+    pub holds : Holds area map
+    pub settled : AllSettled map
 
   -- a filed slot's form is one of the map's
   found-settled : (m : List Entry) → AllSettled m → (form account : List ℕ) → lookup form m ≡ some account → Settled form
@@ -175,7 +134,7 @@ module _ (words : List ℕ) (sound : soundness_of words ≡ none) where
       go false q f k = f k
 
   -- slots whose forms are settled stay
-  slots_stay : (work : ℕ) → least_work ≤ work → (i : ℕ) (slots : List Slot) → Every (λ e. Settled e.form) (entries_of slots) → moved_from words work i slots ≡ []
+  pub slots_stay : (work : ℕ) → least_work ≤ work → (i : ℕ) (slots : List Slot) → Every (λ e. Settled e.form) (entries_of slots) → moved_from words work i slots ≡ []
   unfolding moved_from slot_change Settled
   slots_stay work enough i [] h = refl
   slots_stay work enough i (s ∷ slots) h = go (is_free s) refl h (slots_stay work enough (suc i) slots)
@@ -201,22 +160,7 @@ module _ (words : List ℕ) (sound : soundness_of words ≡ none) where
       go true r = (x.account, refl)
       go false r = r
 
-  entries_settled : (es m : List Entry) → ((k : List ℕ) → lookup k es ≡ lookup k m) → AllSettled m → Every (λ e. Settled e.form) es
+  pub entries_settled : (es m : List Entry) → ((k : List ℕ) → lookup k es ≡ lookup k m) → AllSettled m → Every (λ e. Settled e.form) es
   entries_settled es m leads h =
       every_of_all (λ e. Settled e.form) es
       (λ e k. let r = there e es k in found-settled m h e.form r.0 (sym (leads e.form) ∙ r.1))
-
-  -- nothing is listed for the same table
-  module _ (area : List ℕ) (r : Reached area) (work : ℕ) (enough : least_work ≤ work) where
-    pub nothing_moves : moved_from words work 0 (slots_in area) ≡ []
-    nothing_moves =
-        let k = kept area r in
-        slots_stay work enough 0 (slots_in area)
-        (entries_settled (entries_of (slots_in area)) k.map k.holds.slots.same.leads k.settled)
-
-    pub nothing-listed : moved_before33 words area work ≡ accepted []
-    unfolding moved_before33 admitted
-    nothing-listed =
-        let k = kept area r in
-        let t = none_sound words sound in
-        rw (holds_opened area k.map k.holds, t.parsed, le-ltb work least_work enough, nothing_moves) refl

@@ -1,25 +1,21 @@
 -- The name call and the screen call are one call with two forms, on every table; by a sound table an answer buffer of twice as many words as the
--- worked length may reach holds every screen form.
-use Rattle.std.specs.Prelude.{ℕ, ◌*◌, ◌≤◌, ◌≡◌, Bool, cond, length, ltb}
-use Rattle.std.proofs.Common.{arith, le-ltb}
+-- worked length may reach holds every screen form (`screen_whole`, in proofs/EndLaws).
+use Rattle.std.specs.Prelude.{ℕ, ◌≡◌, Bool, cond, length, ltb}
 use Rattle.std.proofs.Math.Path.{refl}
 use Rattle.std.proofs.Math.Bool.{true, false}
 use mathlib.Core.List.{List}
-use Rattle.std.proofs.Math.Option.{none}
-use Rattle.limits.specs.Limits.{most_worked}
 use Rattle.answers.specs.Verdict.{Verdict, accepted, refused, next}
 use Rattle.answers.specs.Values.{NameValues}
 use Rattle.ending.specs.Ending.{Result, then15, result_of}
 use Rattle.table.specs.Table.{Table}
 use Rattle.table.specs.Layout.{the_table}
-use Rattle.soundness.specs.Soundness.{soundness_of}
 use Rattle.name.specs.Label.{Label}
 use Rattle.name.specs.Name.{labels_of, labels_verdict, name_answer, name_answering, name_before15, name_verdict, name_result, name_call}
 use Rattle.joining.specs.Joining.{name_accepts}
 use Rattle.forms.specs.Forms.{typed, Form, name_form, form_answering, normal_form, screen_form}
 use Rattle.forms.proofs.FormLaws.{name_normal}
 use Rattle.screen.specs.Screen.{screen_before15, screen_verdict, screen_call}
-use Rattle.screen_laws.specs.Restored.{fits_exactly, the_table_lem, twice}
+use Rattle.screen_laws.specs.Restored.{fits_exactly, the_table_lem}
 
 -- A call that answers with a form: an accepted name's labels, 15 on the form that is made of them, and the end that all calls share.
 unfoldable pub form_call : (Table → Form) → ℕ → List ℕ → List ℕ → ℕ → ℕ → Result NameValues
@@ -59,17 +55,3 @@ module _ (setting : ℕ) (words name : List ℕ) (room work : ℕ) where
       go (accepted ls) e =
           let q = name_normal (the_table words) setting 0 0 0 (labels_of name) ls (own ls e) in
           rw q (fits ls (ltb room (length (name_answer ls))) q)
-
--- By a sound table, with room for twice the worked limit, 15 changes nothing.
-pub screen_whole : (greek on : ℕ) (words name : List ℕ) (room work : ℕ) → soundness_of words ≡ none → 2 * most_worked ≤ room
-    → screen_verdict greek on words name room work ≡ screen_before15 on words name work
-unfolding screen_verdict screen_before15
-screen_whole greek on words name room work sound enough = go (name_before15 on words name work) refl
-  where
-    go : (v : Verdict (List Label)) → name_before15 on words name work ≡ v
-        → then15 (form_answering (screen_form (the_table words) greek) name) room (next v (λ xs. accepted (typed (the_table words) xs (labels_of name))))
-        ≡ next v (λ xs. accepted (typed (the_table words) xs (labels_of name)))
-    go (refused n p) e = refl
-    go (accepted ls) e =
-        let h = twice greek on words name work ls sound e in
-        rw (le-ltb room (length (name_form (screen_form (the_table words) greek) (typed (the_table words) ls (labels_of name)))) (omega (arith, h, enough)))

@@ -1,5 +1,5 @@
--- Closed screen forms by the small table, a closed instance of the theorem, and for each of its hypotheses a table that breaks just that one. Assumes
--- nothing.
+-- Closed screen forms by the small table, a closed instance of the theorem (`small_restored`, in proofs/InstanceLaws), and for each of its hypotheses
+-- a table that breaks just that one. Assumes nothing.
 use Rattle.std.specs.Prelude.{ℕ, ◌≡◌, refl, Bool, true, false, List, [], ◌∷◌, map}
 use Rattle.std.proofs.Math.Option.{Option, none, some}
 use Rattle.lists.specs.Lists.{any, joined, mem}
@@ -14,9 +14,7 @@ use Rattle.name.specs.Name.{name_answer, name_before15}
 use Rattle.forms.specs.Forms.{Typed, name_form, screen_form}
 use Rattle.screen.specs.Screen.{screen_before15, screen_verdict}
 use Rattle.cases.specs.SmallTable.{section, small_table}
-use Rattle.cases.specs.Starred.{small_table_sound}
 use Rattle.screen_laws.specs.Rendered.{Restores}
-use Rattle.screen_laws.specs.Restored.{Restored, screen_restores}
 
 -- the screen form and the normal form of a name, with room for any
 unfoldable pub screen_of : List ℕ → ℕ → List ℕ → Verdict (List ℕ)
@@ -53,12 +51,12 @@ unfolding screen_of small_table shows
 small_shows = refl
 
 -- The theorem on one of them.
-small_restores : Restores (the_table small_table)
+pub small_restores : Restores (the_table small_table)
 unfolding the_table items_of small_table
 small_restores = record { maps = refl; not_valid = refl; in_no_sequence = refl }
 
 -- 3BE and a bare heart, in the Greek group, which the call is not told of
-abbrev small_labels : List Typed
+abbrev pub small_labels : List Typed
 small_labels =
     record {
       sources = text (0x3BE ∷ []) ∷ emoji (record { number = 2; taken = record { length = 1; selectors = 0 }; stripped = 0x2764 ∷ [] }) ∷ [];
@@ -66,18 +64,13 @@ small_labels =
     }
     ∷ []
 
-small_accepted : screen_verdict 3 0 small_table (0x3BE ∷ 0x2764 ∷ []) 3 least_work ≡ accepted small_labels
+pub small_accepted : screen_verdict 3 0 small_table (0x3BE ∷ 0x2764 ∷ []) 3 least_work ≡ accepted small_labels
 unfolding screen_verdict small_table
 small_accepted = refl
 
-small_form : name_form (screen_form (the_table small_table) 3) small_labels ≡ 0x39E ∷ 0x2764 ∷ 0xFE0F ∷ []
+pub small_form : name_form (screen_form (the_table small_table) 3) small_labels ≡ 0x39E ∷ 0x2764 ∷ 0xFE0F ∷ []
 unfolding name_form screen_form the_table small_table
 small_form = refl
-
-pub small_restored : Restored 0 small_table (0x3BE ∷ 0x2764 ∷ []) (0x39E ∷ 0x2764 ∷ 0xFE0F ∷ [])
-small_restored =
-    rw (← small_form)
-    (screen_restores 3 0 small_table (0x3BE ∷ 0x2764 ∷ []) 3 least_work small_labels small_table_sound small_restores small_accepted)
 
 -- a table of one group, which is all that is valid
 abbrev tiny : List ℕ → List ℕ → List ℕ → List ℕ

@@ -1,7 +1,8 @@
--- The screen form of an accepted label is a rendering of its tokens, where 39E stands for 3BE; what its codepoints are and how many.
-use Prim.Native.Nat.{ℕ, suc, ◌+◌, ◌*◌, ◌≤◌}
+-- The screen form of an accepted label is a rendering of its tokens, where 39E stands for 3BE (`label_rendered`, in proofs/RenderedLaws); what its
+-- codepoints are and how many (`label_short`, there too).
+use Prim.Native.Nat.{ℕ, suc, ◌*◌, ◌≤◌}
 use native.Mathlib.Omega.{arith}
-use Rattle.std.specs.Prelude.{◌≡◌, Bool, true, not, ◌&&◌, ◌||◌, cond, ◌⊎◌, eqb}
+use Rattle.std.specs.Prelude.{◌≡◌, Bool, true, ◌&&◌, ◌||◌, cond, ◌⊎◌, eqb}
 use Rattle.std.proofs.Math.Path.{refl}
 use Rattle.std.proofs.Common.{sym, ap, ◌∙◌, inl, inr, eqb-true, ne_eqb}
 use Rattle.std.proofs.Math.Bool.{false}
@@ -10,9 +11,8 @@ use mathlib.Core.List.{List, [], ◌∷◌, ◌++◌, map}
 use mathlib.Core.List.{Memᴰ}
 use Rattle.std.proofs.Math.Option.{some}
 use Rattle.std.proofs.Math.ListN.{length, get_or, length-append}
-use Rattle.std.proofs.lemmas.List.{length-map}
 use Rattle.lists.specs.Lists.{any, is_empty, joined_map, mem}
-use Rattle.lists.specs.Laws.{Every, every_append, every_imp, every_of_all, mem_of, decided}
+use Rattle.lists.specs.Laws.{Every, every_append, every_imp, every_of_all, mem_of}
 use Rattle.lists.specs.Members.{passing_any}
 use Rattle.lists.specs.Elements.{every_map}
 use Rattle.answers.specs.Verdict.{accepted}
@@ -21,21 +21,17 @@ use Rattle.table.specs.Lookup.{in_ranges, items_of}
 use Rattle.text.specs.Composition.{nfc}
 use Rattle.scalar.specs.Scalar.{is_scalar}
 use Rattle.finder.specs.Emoji.{selector, strip, Found}
-use Rattle.tokens.specs.Scan.{steps}
-use Rattle.tokens.specs.Tokens as token
-use Rattle.tokens.specs.Tokens.{Token, tokens_of, worked_token, worked, normal_token, normal}
+use Rattle.tokens.specs.Tokens.{normal_token, normal}
 use Rattle.places.specs.Places.{Source, emoji, text, token_of}
 use Rattle.soundness.specs.Sequences.{starts_with, two_selectors}
-use Rattle.text_laws.specs.Laws.{nfc-length}
 use Rattle.name.specs.Label.{Label, stop, label_verdict}
 use Rattle.idempotence.specs.Rules.{Sound, Valid, valid_scalar, emoji_scalar, stop_not_valid}
-use Rattle.idempotence.specs.Sequences.{other_first, strip_cons, no_stop, no_selector-first, no_two_selectors}
-use Rattle.idempotence.specs.Rendering as rendering
-use Rattle.idempotence.specs.Rendering.{InNoSequence, StandsFor, WrittenSo, Proper, whole_way}
-use Rattle.idempotence.specs.Formed.{Formed, RenderedAs, emoji_front, text_front, nothing_rendered}
+use Rattle.idempotence.specs.Sequences.{other_first, no_stop}
+use Rattle.idempotence.specs.Rendering.{InNoSequence, StandsFor, WrittenSo, whole_way}
+use Rattle.idempotence.specs.Formed.{Formed}
 use Rattle.idempotence.specs.Labels.{accepted_formed, accepted_some}
-use Rattle.idempotence.specs.Lengths.{accepted_tokens, accepted_worked}
-use Rattle.forms.specs.Forms.{Typed, sources_of, is_greek, shown, screen_token, screen_form, label_form}
+use Rattle.idempotence.specs.Lengths.{accepted_tokens}
+use Rattle.forms.specs.Forms.{sources_of, is_greek, shown, screen_token, screen_form, label_form}
 use Rattle.forms.specs.Laws.{sources_tokens}
 use Rattle.screen_laws.specs.Named.{Named, SourceNamed, sources_named}
 
@@ -47,7 +43,7 @@ pub record Restores (t : Table) : Type 0 where
   pub in_no_sequence : any (mem 0x39E) t.emoji ≡ false
 
 -- what is shown is the codepoint itself, or 39E for 3BE
-shown-cases : (greek : Bool) (c : ℕ) → (shown greek c ≡ c) ⊎ ((c ≡ 0x3BE) × (shown greek c ≡ 0x39E))
+pub shown-cases : (greek : Bool) (c : ℕ) → (shown greek c ≡ c) ⊎ ((c ≡ 0x3BE) × (shown greek c ≡ 0x39E))
 shown-cases true c = inl refl
 shown-cases false c = go (eqb c 0x3BE) refl
   where
@@ -81,20 +77,14 @@ half (c ∷ d ∷ r) h k = go (eqb d selector) refl (half r) (half (d ∷ r))
 
 module _ (t : Table) (sound : Sound t) where
   -- a record that the finder named, whole
-  named_written : (f : Found) → Named t f → WrittenSo t (get_or t.emoji f.number []) (get_or t.emoji f.number [])
+  pub named_written : (f : Found) → Named t f → WrittenSo t (get_or t.emoji f.number []) (get_or t.emoji f.number [])
   named_written f n =
       let w = whole_way (get_or t.emoji f.number []) in
       record { listed = n.listed; some_item = n.some_item; selectors = w.0; way = w.1 }
 
-  named_half : (f : Found) → Named t f → length (get_or t.emoji f.number []) ≤ 2 * length f.stripped
-  named_half f n =
-      rw n.stripped
-      (half (get_or t.emoji f.number []) (no_selector-first t sound (get_or t.emoji f.number []) n.listed)
-      (no_two_selectors t sound (get_or t.emoji f.number []) n.listed))
-
   -- what is shown for a valid codepoint may stand for it
   module _ (m : Restores t) where
-    stands : StandsFor t 0x3BE 0x39E
+    pub stands : StandsFor t 0x3BE 0x39E
     stands =
         record {
           not_valid = m.not_valid;
@@ -109,26 +99,6 @@ module _ (t : Table) (sound : Sound t) where
             go : (b : Bool) → mem 0x39E seq ≡ b → mem 0x39E seq ≡ false
             go true e = absurd (false≢true (sym m.in_no_sequence ∙ passing_any (mem 0x39E) k e))
             go false e = e
-
-    shown_proper : (greek : Bool) (x : ℕ) → Valid t x → Proper t (rendering.char x (shown greek x))
-    shown_proper greek x v = go (shown-cases greek x)
-      where
-        go : (shown greek x ≡ x) ⊎ ((x ≡ 0x3BE) × (shown greek x ≡ 0x39E)) → ((shown greek x ≡ x) × Valid t x) ⊎ StandsFor t x (shown greek x)
-        go (inl e) = inl (e, v)
-        go (inr e) = inr (rw (e.1, e.0) stands)
-
-    -- the tokens in normal form, rendered as the screen shows them
-    screen_rendered : (greek : Bool) (xs : List Source) → Formed t (Valid t) (normal t (map token_of xs)) → Every (SourceNamed t) xs
-        → RenderedAs t (normal t (map token_of xs)) (joined_map (screen_token t greek) xs)
-    unfolding normal normal_token screen_token
-    screen_rendered greek [] h n = nothing_rendered t
-    screen_rendered greek (emoji f ∷ xs) h n =
-        let seq : List ℕ = get_or t.emoji f.number [] in
-        rw n.0.stripped
-        (emoji_front t (normal t (map token_of xs)) (joined_map (screen_token t greek) xs) (screen_rendered greek xs h.1 n.1) seq seq (named_written f n.0))
-    screen_rendered greek (text s ∷ xs) h n =
-        text_front t (normal t (map token_of xs)) (joined_map (screen_token t greek) xs) (screen_rendered greek xs h.3 n.1) (shown greek) (nfc t s) h.0 h.1
-        (every_imp (nfc t s) (shown_proper greek) h.2)
 
   -- what holds of valid codepoints, of 39E and of those of the sequences holds of the form
   screen_every : (P : ℕ → Type 0) → ((c : ℕ) → Valid t c → P c) → P 0x39E → ((seq : List ℕ) → Memᴰ seq t.emoji → Every P seq) → (greek : Bool) (xs : List Source)
@@ -160,31 +130,21 @@ module _ (t : Table) (sound : Sound t) where
       go [] e = absurd (false≢true (sym e))
       go (c ∷ u) e = omega arith
 
-  -- at most twice the worked length
-  screen_short : (greek : Bool) (xs : List Source) → Every (SourceNamed t) xs → length (joined_map (screen_token t greek) xs) ≤ 2 * worked t (map token_of xs)
-  unfolding worked worked_token screen_token
-  screen_short greek [] n = omega arith
-  screen_short greek (emoji f ∷ xs) n = simp length-append (omega (arith, named_half f n.0, screen_short greek xs n.1))
-  screen_short greek (text s ∷ xs) n = simp (length-append, length-map) (omega (arith, nfc-length t s, screen_short greek xs n.1))
-
   -- An accepted label.
   module _ (s d p : ℕ) (l : List ℕ) (x : Label) (e : label_verdict t s d p l ≡ accepted x) (greek : ℕ) where
     -- its screen form
     abbrev pub form : List ℕ
     form = label_form (screen_form t greek) (record { sources = sources_of t l; kind = x.kind })
 
-    own : form ≡ joined_map (screen_token t (is_greek greek x.kind)) (sources_of t l)
+    pub own : form ≡ joined_map (screen_token t (is_greek greek x.kind)) (sources_of t l)
     unfolding label_form screen_form
     own = refl
 
-    tokens : x.tokens ≡ normal t (map token_of (sources_of t l))
+    pub tokens : x.tokens ≡ normal t (map token_of (sources_of t l))
     tokens = accepted_tokens t s d p l x e ∙ ap (normal t) (sym (sources_tokens t l))
 
-    formed : Formed t (Valid t) (normal t (map token_of (sources_of t l)))
+    pub formed : Formed t (Valid t) (normal t (map token_of (sources_of t l)))
     formed = rw tokens at (accepted_formed t sound s d p l x e)
-
-    pub label_rendered : Restores t → RenderedAs t x.tokens form
-    label_rendered m = rw (own, tokens) (screen_rendered m (is_greek greek x.kind) (sources_of t l) formed (sources_named t l))
 
     pub label_scalars : Every (λ c. is_scalar c ≡ true) form
     label_scalars =
@@ -210,7 +170,3 @@ module _ (t : Table) (sound : Sound t) where
             go : (xs : List Source) → is_empty (normal t (map token_of xs)) ≡ false → is_empty xs ≡ false
             go [] q = q
             go (y ∷ xs) q = refl
-
-    pub label_short : length form ≤ 2 * x.worked
-    label_short =
-        rw (own, accepted_worked t s d p l x e, ← sources_tokens t l) (screen_short (is_greek greek x.kind) (sources_of t l) (sources_named t l))

@@ -1,0 +1,4 @@
+pub mod RenderedLaws
+pub mod RestoredLaws
+pub mod EndLaws
+pub mod InstanceLaws
