@@ -3,11 +3,24 @@
 
 pub mod lookup;
 
+ghost use Rattle.std.specs.Prelude.{◌≡◌};
+ghost use Rattle.table.specs.Spans.{Fits, within};
+
 // A section or a part of one: the words from `from` up to, not including, `to`.
 #[derive(Clone, Copy)]
 pub struct Span {
     pub from: usize,
     pub to: usize,
+}
+
+impl Span {
+    // The words from `from` up to, not including, `to`.
+    pub fn of(self, words: &[u32]) -> &[u32]
+        requires { Fits words.now self }
+        ensures { result.now ≡ within self words.now }
+    {
+        &words[self.from..self.to]
+    }
 }
 
 // Where the items of a record stand among the words of a table.
