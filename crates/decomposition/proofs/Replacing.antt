@@ -10,8 +10,8 @@ use lib.Seq.{take_all, take-suc-set, take-suc, get_or-take, get_or-drop}
 use lib.Dec.{eqb}
 use borrow.Author.Tests.{eq-eqb, ne_eqb}
 use Rattle.table.specs.declared.Span.{Span}
-use Rattle.table.specs.declared.Items.{Items}
-use Rattle.table.specs.declared.Items.TheVariants as items
+use Rattle.std.specs.declared.option.Option as rust
+use Rattle.std.specs.declared.option.Option.TheVariants.{Some, None}
 use Rattle.table.specs.Table.{Table}
 use Rattle.table.specs.Layout.{most_parts}
 use Rattle.table.specs.Lookup.{items_of}
@@ -95,10 +95,10 @@ module _ (t : Table) (ws : List ℕ) (c : ℕ) where
         fits = omega (arith, s.low, s.high);
       }
 
-  module _ (e : is_syllable c ≡ false) (i : Items) (d : ItemsFound ws most_parts (items_of t.decompositions c) i) where
-    pub by_items : (s : Span) → i ≡ items.At s → ReplacedBy t ws c (by.Items s)
+  module _ (e : is_syllable c ≡ false) (i : rust.Option Span) (d : ItemsFound ws most_parts (items_of t.decompositions c) i) where
+    pub by_items : (s : Span) → i ≡ Some s → ReplacedBy t ws c (by.Items s)
     by_items s k =
-        let f : ItemsFound ws most_parts (items_of t.decompositions c) (items.At s) = rw k at d in
+        let f : ItemsFound ws most_parts (items_of t.decompositions c) (Some s) = rw k at d in
         let long : length (within s ws) ≡ s.to - s.from = simp (length-take, length-drop) (omega (arith, f.fit.0, f.fit.1)) in
         record {
           is = or_some c (within s ws) (omega (arith, f.filled)) ∙ single_items t c (within s ws) e (sym f.same);
@@ -106,9 +106,9 @@ module _ (t : Table) (ws : List ℕ) (c : ℕ) where
           fits = record { ordered = f.fit.0; inside = f.fit.1 };
         }
 
-    pub by_itself : i ≡ items.Nothing → ReplacedBy t ws c Itself
+    pub by_itself : i ≡ None → ReplacedBy t ws c Itself
     by_itself k =
-        let f : ItemsFound ws most_parts (items_of t.decompositions c) items.Nothing = rw k at d in
+        let f : ItemsFound ws most_parts (items_of t.decompositions c) None = rw k at d in
         record { is = single_itself t c e (sym f.same); few = omega arith; fits = tt }
 
 -- the one at i, by the case

@@ -10,7 +10,7 @@ ghost use Rattle.text.specs.Decomposition.{single};
 ghost use Rattle.decomposition.specs.Rounds.{most_from, items_by, ByFits, ReplacedBy, PartsAre, Expanded, Appended, Decomposed};
 
 use sections::Sections;
-use table::{Items, Span};
+use table::Span;
 use text::hangul;
 
 // What a single replacement puts in the place of a codepoint: nothing else, the items that stand at a place of the table, or the jamo of a
@@ -38,8 +38,8 @@ pub fn single(words: &[u32], ix: Sections, c: u32) -> Replacement
         return Replacement::Jamo(c - 0xAC00);
     }
     match sections::lookup::decomposition_items(words, ix, c) {
-        Items::At(s) => Replacement::Items(s),
-        Items::Nothing => Replacement::Itself,
+        Some(s) => Replacement::Items(s),
+        None => Replacement::Itself,
     }
 }
 

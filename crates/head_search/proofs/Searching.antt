@@ -12,7 +12,7 @@ use Rattle.table.specs.Table.{Headed}
 use Rattle.table.specs.Layout.{most_items}
 use Rattle.table.specs.Lookup.{items_of}
 use Rattle.table.specs.Part.{heads_in, HeadedHere, ItemsFound}
-use Rattle.table.specs.declared.Items.TheVariants.{At, Nothing}
+use Rattle.std.specs.declared.option.Option.TheVariants.{Some, None}
 use Rattle.table.proofs.Records.{headed_step}
 use Rattle.table.proofs.Searches.{HeadWalk, head_hit, head_stop}
 use Rattle.place_marks.specs.declared.Marks.{Marks}
@@ -61,14 +61,14 @@ module _ (ws : List ℕ) (sorted : Bool) (c at : ℕ) (s : Search ws sorted c at
   as_walk = record { left = s.left; walk = s.walk; same = s.same }
 
   pub search_hit : at < length ws → get_or ws at 0 ≡ c
-      → ItemsFound ws most_items (items_of (heads_in ws) c) (At (record { from = at + 2; to = at + 2 + get_or ws (at + 1) 0 }))
+      → ItemsFound ws most_items (items_of (heads_in ws) c) (Some (record { from = at + 2; to = at + 2 + get_or ws (at + 1) 0 }))
   search_hit h e = head_hit ws c at as_walk h e
 
-  pub search_stop : length ws ≤ at → ItemsFound ws most_items (items_of (heads_in ws) c) Nothing
+  pub search_stop : length ws ≤ at → ItemsFound ws most_items (items_of (heads_in ws) c) None
   search_stop h = head_stop ws c at as_walk h
 
   -- behind a head above c there is none
-  pub search_above : at < length ws → sorted ≡ true → c < get_or ws at 0 → ItemsFound ws most_items (items_of (heads_in ws) c) Nothing
+  pub search_above : at < length ws → sorted ≡ true → c < get_or ws at 0 → ItemsFound ws most_items (items_of (heads_in ws) c) None
   search_above h t i =
       let x = search_here h in
       let up : rising 0 (x.first ∷ x.rest) ≡ true = rw x.split at (s.rise t) in

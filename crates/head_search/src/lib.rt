@@ -9,7 +9,7 @@ ghost use Rattle.heads.specs.Heads.{Stands, FourStand, HeadsKnown};
 ghost use Rattle.head_search.specs.Search.{StartsAt, SearchPassed};
 
 use place_marks::{Four, Marks};
-use table::{Items, Span};
+use table::Span;
 
 // The place of a mark where the head there is not above c, else the place found before.
 fn later(part: &[u32], found: usize, mark: u32, c: u32) -> usize
@@ -58,7 +58,7 @@ fn skip_run(part: &[u32], from: usize, n: usize, stop: usize, sorted: bool, c: u
 
 // Where the items of the first record head, count, items with head c stand in the part. Where the heads ascend, the search starts at a mark,
 // and ends at a head above c.
-pub fn items_by(part: &[u32], sorted: bool, marks: Marks, c: u32) -> Items
+pub fn items_by(part: &[u32], sorted: bool, marks: Marks, c: u32) -> Option<Span>
     requires { HeadsKnown part.now sorted marks }
     ensures { ItemsFound part.now most_items (items_of (heads_in part.now) c) result }
 {
@@ -73,12 +73,12 @@ pub fn items_by(part: &[u32], sorted: bool, marks: Marks, c: u32) -> Items
         let from = i + 2;
         let to = from + n;
         if sorted & (c < head) {
-            return Items::Nothing;
+            return None;
         }
         if head == c {
-            return Items::At(Span { from: from, to: to });
+            return Some(Span { from, to });
         }
         i = skip_run(part, to, n, part.len() - 1 - n, sorted, c);
     }
-    Items::Nothing
+    None
 }

@@ -17,8 +17,9 @@ use Rattle.table.specs.Table.{Table, Headed}
 use Rattle.table.specs.Layout.{most_parts}
 use Rattle.table.specs.Lookup.{in_quick_check, items_of}
 use Rattle.table.specs.Part.{ItemsFound}
-use Rattle.table.specs.declared.Items.{Items}
-use Rattle.table.specs.declared.Items.TheVariants.{Nothing}
+use Rattle.std.specs.declared.option.Option as rust
+use Rattle.std.specs.declared.option.Option.TheVariants.{None}
+use Rattle.table.specs.declared.Span.{Span}
 use Rattle.table.proofs.Searches.{items_missing}
 use Rattle.text.specs.Hangul.{is_syllable, is_jamo}
 use Rattle.quick_local.specs.Local.{is_head, SecondFits}
@@ -31,7 +32,7 @@ use Rattle.quick_seconds.specs.Seconds.{HeadsHeld, Good, HeadAsked, SecondAsked}
 pub held_none : (t : Table) (heads : List ℕ) (c : ℕ) → HeadsHeld t heads → holds heads c ≡ false → is_head t c ≡ false
 held_none t heads c h e = not_so (is_head t c) (λ k. never (holds heads c) (h.each c k) e)
 
-pub no_record : (t : Table) (ws : List ℕ) (c : ℕ) (r : Items) → ItemsFound ws most_parts (items_of t.decompositions c) r → r ≡ Nothing → is_head t c ≡ false
+pub no_record : (t : Table) (ws : List ℕ) (c : ℕ) (r : rust.Option Span) → ItemsFound ws most_parts (items_of t.decompositions c) r → r ≡ None → is_head t c ≡ false
 unfolding items_of
 no_record t ws c r f e = not_so (is_head t c) (λ k. entry (Memᴰ.of_map (λ (x : Headed). x.head) t.decompositions (member_of c (heads t) k)))
   where

@@ -4,7 +4,6 @@
 use quick_filters::filters::may_hold;
 use sections::Sections;
 use sections::lookup::{decomposition_items, in_quick_check};
-use table::Items;
 use text::hangul::{is_jamo, is_syllable};
 
 // So often a codepoint is asked for among the heads that may be one by the filter.
@@ -22,8 +21,8 @@ fn has_no_record(words: &[u32], ix: Sections, c: u32) -> bool
     ensures { result ≡ true → is_head (the_table words.now) c ≡ false }
 {
     match decomposition_items(words, ix, c) {
-        Items::At(_) => false,
-        Items::Nothing => true,
+        Some(_) => false,
+        None => true,
     }
 }
 

@@ -14,8 +14,8 @@ use Rattle.lists.specs.Elements.{list_same}
 use Rattle.lists.specs.Tests.{agree}
 use Rattle.table.specs.declared.Span.{Span}
 use Rattle.sections.specs.declared.Sections.{Sections}
-use Rattle.table.specs.declared.Items.{Items}
-use Rattle.table.specs.declared.Items.TheVariants.{At, Nothing}
+use Rattle.std.specs.declared.option.Option as rust
+use Rattle.std.specs.declared.option.Option.TheVariants.{Some, None}
 use Rattle.table.specs.Table.{Headed, Table}
 use Rattle.table.specs.Layout.{most_items, most_parts, in_front, count_fits, headed, the_table}
 use Rattle.table.specs.Lookup.{items_of}
@@ -94,14 +94,14 @@ module _ (t : Table) (filled : (c : ℕ) → 1 ≤ length (single t c)) where
   unfolding decomposes_fully round
   fully_is c = let s = four_rounds t (c ∷ []) in agree _ _ (stable_fixed s) (fixed_stable s)
 
-module _ (part : List ℕ) (c : ℕ) (r : Items) (i : ItemsFound part most_items (items_of (heads_in part) c) r) where
+module _ (part : List ℕ) (c : ℕ) (r : rust.Option Span) (i : ItemsFound part most_items (items_of (heads_in part) c) r) where
   head_is : is_some (items_of (heads_in part) c) ≡ mem c (heads_of (records_in as_headed part))
   head_is = found_head (heads_in part) c
 
-  pub head_there : (s : Span) → r ≡ At s → true ≡ mem c (heads_of (records_in as_headed part))
+  pub head_there : (s : Span) → r ≡ Some s → true ≡ mem c (heads_of (records_in as_headed part))
   head_there s e = ap is_some (sym (items_there part most_items _ r i s e).same) ∙ head_is
 
-  pub head_missing : r ≡ Nothing → false ≡ mem c (heads_of (records_in as_headed part))
+  pub head_missing : r ≡ None → false ≡ mem c (heads_of (records_in as_headed part))
   head_missing e = ap is_some (sym (items_missing part most_items _ r i e)) ∙ head_is
 
 -- the first head, and the later ones

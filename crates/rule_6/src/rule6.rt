@@ -22,7 +22,7 @@ use sound_choices::choices::find_first;
 use sound_parts::spared::{classes_spare_of, plain_head};
 use sound_rounds::rounds::{choose_rounds, no_syllables, reach};
 use table::lookup::{counted, head_in};
-use table::{Items, Span};
+use table::Span;
 use text::hangul::is_syllable;
 
 const WINDOW: u32 = 0x10000;
@@ -45,8 +45,8 @@ fn has_head(part: &[u32], c: u32) -> bool
     ensures { result ≡ mem c (heads_of (records_in as_headed part.now)) }
 {
     match head_in(part, c) {
-        Items::At(_) => true,
-        Items::Nothing => false,
+        Some(_) => true,
+        None => false,
     }
 }
 

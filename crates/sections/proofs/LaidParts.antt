@@ -5,7 +5,8 @@ use mathlib.Core.Path.{◌≡◌, ◌∙◌}
 use mathlib.Core.List.{List, [], ◌∷◌}
 use mathlib.Core.Option.{some}
 use lib.Dec.{leb}
-use Rattle.table.specs.declared.Items.{Items}
+use Rattle.std.specs.declared.option.Option as rust
+use Rattle.table.specs.declared.Span.{Span}
 use Rattle.table.specs.declared.WholeAt.{WholeAt}
 use Rattle.table.specs.Table.{Range}
 use Rattle.table.specs.Layout.{most_items, most_parts, in_front, ranges, the_table}
@@ -39,12 +40,12 @@ module _ (ws : List ℕ) (ix : Sections) (l : Laid ws ix) where
   pub wholes_part : WholesPart ws ix.wholes
   wholes_part = record { fits = (laid-fits ws ix l).wholes; parses = rw (laid_reads ws ix l).wholes }
 
-  pub mapped-found : (c : ℕ) (r : Items) → ItemsFound ws most_items (items_of (heads_in (within ix.mapped ws)) c) r
+  pub mapped-found : (c : ℕ) (r : rust.Option Span) → ItemsFound ws most_items (items_of (heads_in (within ix.mapped ws)) c) r
       → ItemsFound ws most_items (items_of (the_table ws).mapped c) r
   unfolding records_in
   mapped-found c r i = rw (laid_reads ws ix l).mapped at i
 
-  pub decomposition_found : (c : ℕ) (r : Items) → ItemsFound ws most_items (items_of (heads_in (within ix.decompositions ws)) c) r
+  pub decomposition_found : (c : ℕ) (r : rust.Option Span) → ItemsFound ws most_items (items_of (heads_in (within ix.decompositions ws)) c) r
       → ItemsFound ws most_parts (items_of (the_table ws).decompositions c) r
   unfolding records_in
   decomposition_found c r i =

@@ -15,7 +15,7 @@ use apart_lookup::{class_apart, in_apart, mem_apart};
 use head_search::items_by;
 use place_marks::Marks;
 use table::lookup::{class_in, in_pairs, mem_in, whole_in_of};
-use table::{Items, Span, WholeAt};
+use table::{Span, WholeAt};
 
 // Whether c lies in one of the pairs of a section, by halves where it is known to be sorted.
 pub fn in_section(words: &[u32], s: Span, sorted: bool, c: u32) -> bool
@@ -57,7 +57,7 @@ fn mem_section(words: &[u32], s: Span, sorted: bool, c: u32) -> bool
 }
 
 // Where the items of the first record of a section with head c stand among the words.
-fn items_section(words: &[u32], s: Span, sorted: bool, marks: Marks, c: u32) -> Items
+fn items_section(words: &[u32], s: Span, sorted: bool, marks: Marks, c: u32) -> Option<Span>
     requires { Fits words.now s × HeadsKnown (within s words.now) sorted marks }
     ensures { ItemsFound words.now most_items (items_of (heads_in (within s words.now)) c) result }
 {
@@ -65,11 +65,11 @@ fn items_section(words: &[u32], s: Span, sorted: bool, marks: Marks, c: u32) -> 
     let to = s.to;
     let found = items_by(&words[from..to], sorted, marks, c);
     match found {
-        Items::At(t) => Items::At(Span {
+        Some(t) => Some(Span {
             from: from + t.from,
             to: from + t.to,
         }),
-        Items::Nothing => Items::Nothing,
+        None => None,
     }
 }
 
@@ -135,7 +135,7 @@ pub fn is_excluded(words: &[u32], ix: Sections, c: u32) -> bool
 }
 
 // Where the items that c is mapped to stand.
-pub fn mapped_items(words: &[u32], ix: Sections, c: u32) -> Items
+pub fn mapped_items(words: &[u32], ix: Sections, c: u32) -> Option<Span>
     requires { Laid words.now ix }
     ensures { ItemsFound words.now most_items (items_of (the_table words.now).mapped c) result }
 {
@@ -143,7 +143,7 @@ pub fn mapped_items(words: &[u32], ix: Sections, c: u32) -> Items
 }
 
 // Where the items of the decomposition of c stand.
-pub fn decomposition_items(words: &[u32], ix: Sections, c: u32) -> Items
+pub fn decomposition_items(words: &[u32], ix: Sections, c: u32) -> Option<Span>
     requires { Laid words.now ix }
     ensures { ItemsFound words.now most_parts (items_of (the_table words.now).decompositions c) result }
 {

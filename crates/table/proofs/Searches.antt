@@ -13,9 +13,9 @@ use Rattle.table.specs.Table.{Headed, Whole}
 use Rattle.table.specs.Layout.{most_items, in_front, count_fits, headed, wholes}
 use Rattle.table.specs.declared.Span.{Span}
 use Rattle.table.specs.declared.WholeAt.TheVariants.{Lists, Unconfused}
-use Rattle.table.specs.declared.Items.{Items}
 use Rattle.table.specs.declared.WholeAt.{WholeAt}
-use Rattle.table.specs.declared.Items.TheVariants.{At, Nothing}
+use Rattle.std.specs.declared.option.Option as rust
+use Rattle.std.specs.declared.option.Option.TheVariants.{Some, None}
 use Rattle.table.specs.Spans.{within, Fits}
 use Rattle.table.specs.Lookup.{items_of, whole_of}
 use Rattle.table.specs.Part.{HeadedAt, WholesAt, HeadedHere, confused_at, WholeHere, counted_at, records_in, heads_in, wholes_in, ItemsFound, WholeFound}
@@ -52,7 +52,7 @@ module _ (part : List ℕ) (c at : ℕ) (w : HeadWalk part c at) where
   head_here h = headed_step most_items part at w.left w.walk h
 
   pub head_hit : at < length part → get_or part at 0 ≡ c
-      → ItemsFound part most_items (items_of (heads_in part) c) (At (record { from = at + 2; to = at + 2 + get_or part (at + 1) 0 }))
+      → ItemsFound part most_items (items_of (heads_in part) c) (Some (record { from = at + 2; to = at + 2 + get_or part (at + 1) 0 }))
   head_hit h e =
       let r = head_here h in
       let k : items_of w.left c ≡ some r.first.items = ap (λ (l : List Headed). items_of l c) r.split ∙ (items_hit r.first r.rest c (r.head ∙ e)) in
@@ -68,7 +68,7 @@ module _ (part : List ℕ) (c at : ℕ) (w : HeadWalk part c at) where
       let k : items_of w.left c ≡ items_of r.rest c = ap (λ (l : List Headed). items_of l c) r.split ∙ (items_miss r.first r.rest c (λ f. e (sym r.head ∙ f))) in
       record { left = r.rest; walk = r.next; same = sym k ∙ w.same }
 
-  pub head_stop : length part ≤ at → ItemsFound part most_items (items_of (heads_in part) c) Nothing
+  pub head_stop : length part ≤ at → ItemsFound part most_items (items_of (heads_in part) c) None
   unfolding items_of
   head_stop h =
       let e : w.left ≡ [] = headed_end most_items part at w.left w.walk h in
@@ -155,10 +155,10 @@ module _ (part : List ℕ) (c at : ℕ) (w : WholeWalk part c at) (h : at < leng
 
 -- What is found in a part of the words, found in the words.
 module _ (ws : List ℕ) (s : Span) (f : Fits ws s) where
-  pub items_at : (most : ℕ) (o : Option (List ℕ)) (r : Items) (t : Span) → r ≡ At t → ItemsFound (within s ws) most o r
-      → ItemsFound ws most o (At (behind s.from t))
+  pub items_at : (most : ℕ) (o : Option (List ℕ)) (r : rust.Option Span) (t : Span) → r ≡ Some t → ItemsFound (within s ws) most o r
+      → ItemsFound ws most o (Some (behind s.from t))
   items_at most o r t e i =
-      let j : ItemsFound (within s ws) most o (At t) = rw e at i in
+      let j : ItemsFound (within s ws) most o (Some t) = rw e at i in
       let g : Fits (within s ws) t = record { ordered = j.fit.0; inside = j.fit.1 } in
       let b = behind-fits ws s t f g in
       record {
@@ -167,9 +167,9 @@ module _ (ws : List ℕ) (s : Span) (f : Fits ws s) where
         filled = omega (arith, j.filled);
       }
 
-  pub items_nothing : (most : ℕ) (o : Option (List ℕ)) (r : Items) → r ≡ Nothing → ItemsFound (within s ws) most o r → ItemsFound ws most o Nothing
+  pub items_nothing : (most : ℕ) (o : Option (List ℕ)) (r : rust.Option Span) → r ≡ None → ItemsFound (within s ws) most o r → ItemsFound ws most o None
   items_nothing most o r e i =
-      let j : ItemsFound (within s ws) most o Nothing = rw e at i in
+      let j : ItemsFound (within s ws) most o None = rw e at i in
       record { same = j.same; fit = tt; filled = tt }
 
   pub whole-at : (o : Option Whole) (r : WholeAt) (v k : Span) → r ≡ Lists v k → WholeFound (within s ws) o r
@@ -231,13 +231,13 @@ items_few (suc k) most (a ∷ n ∷ ws) rs c xs e i =
         rw is (simp length-take (omega arith))
     go rest h j later false f = later (sym (items_miss (record { head = a; items = take n ws }) rest c (eqb-false a c f)) ∙ j)
 
-pub items_narrow : (ws : List ℕ) (more k most : ℕ) (part : List ℕ) (rs : List Headed) (c : ℕ) (r : Items) → headed k most part ≡ some rs
+pub items_narrow : (ws : List ℕ) (more k most : ℕ) (part : List ℕ) (rs : List Headed) (c : ℕ) (r : rust.Option Span) → headed k most part ≡ some rs
     → ItemsFound ws more (items_of rs c) r → ItemsFound ws most (items_of rs c) r
-items_narrow ws more k most part rs c (At s) e i =
+items_narrow ws more k most part rs c (Some s) e i =
     let few : length (within s ws) ≤ most = items_few k most part rs c (within s ws) e (sym i.same) in
     let f : Fits ws s = record { ordered = i.fit.0; inside = i.fit.1 } in
     record { same = i.same; fit = (i.fit.0, i.fit.1, omega (arith, few, within-length ws s f, i.fit.0)); filled = i.filled }
-items_narrow ws more k most part rs c Nothing e i = record { same = i.same; fit = tt; filled = tt }
+items_narrow ws more k most part rs c None e i = record { same = i.same; fit = tt; filled = tt }
 
 -- What a caller learns where items, or a whole, are there or not.
 pub record ItemsThere (ws : List ℕ) (most : ℕ) (items : Option (List ℕ)) (s : Span) : Type 0 where
@@ -247,16 +247,16 @@ pub record ItemsThere (ws : List ℕ) (most : ℕ) (items : Option (List ℕ)) (
   pub few : s.to ≤ s.from + most
   pub count : length (within s ws) ≡ s.to - s.from
 
-module _ (ws : List ℕ) (most : ℕ) (o : Option (List ℕ)) (r : Items) (i : ItemsFound ws most o r) where
-  pub items_there : (s : Span) → r ≡ At s → ItemsThere ws most o s
+module _ (ws : List ℕ) (most : ℕ) (o : Option (List ℕ)) (r : rust.Option Span) (i : ItemsFound ws most o r) where
+  pub items_there : (s : Span) → r ≡ Some s → ItemsThere ws most o s
   items_there s e =
-      let j : ItemsFound ws most o (At s) = rw e at i in
+      let j : ItemsFound ws most o (Some s) = rw e at i in
       let f : Fits ws s = record { ordered = j.fit.0; inside = j.fit.1 } in
       record { same = sym j.same; fits = f; filled = j.filled; few = j.fit.2; count = within-length ws s f }
 
-  pub items_missing : r ≡ Nothing → o ≡ none
+  pub items_missing : r ≡ None → o ≡ none
   items_missing e =
-      let j : ItemsFound ws most o Nothing = rw e at i in
+      let j : ItemsFound ws most o None = rw e at i in
       sym j.same
 
 pub record WholeThere (ws : List ℕ) (whole : Option Whole) (v k : Span) : Type 0 where

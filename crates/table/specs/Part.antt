@@ -1,11 +1,10 @@
 -- Lookups over the words of one section, without a table in between, and how a walk over its records stands.
-use Rattle.std.specs.Prelude.{ℕ, ◌+◌, ◌≤◌, ◌<◌, ◌≡◌, Bool, true, false, ◌&&◌, ◌||◌, cond, List, [], ◌∷◌, length, get_or, take, drop, leb, eqb}
+use Rattle.std.specs.Prelude.{ℕ, ◌+◌, ◌≤◌, ◌<◌, ◌≡◌, Bool, true, false, ◌&&◌, ◌||◌, cond, List, [], ◌∷◌, length, get_or, take, drop, leb, eqb, Some, None}
 use Rattle.std.proofs.Math.Option
 use Rattle.std.proofs.Math.Option.{Option, none, some}
 use Rattle.lists.specs.Lists.{is_some}
 use Rattle.table.specs.declared.Span.{Span}
-use Rattle.table.specs.declared.Items.{Items}
-use Rattle.table.specs.declared.Items.TheVariants.{At, Nothing}
+use Rattle.std.specs.declared.option.Option as rust
 use Rattle.table.specs.declared.WholeAt.{WholeAt}
 use Rattle.table.specs.declared.WholeAt.TheVariants.{Lists, Unconfused}
 use Rattle.table.specs.Spans.{within, Fits, items_at, ItemsFit}
@@ -64,12 +63,12 @@ abbrev pub wholes_in : List ℕ → List Whole
 wholes_in part = records_in wholes part
 
 -- at least one item
-abbrev pub Filled : Items → Type 0
-Filled (At s) = s.from < s.to
-Filled Nothing = Unit {0}
+abbrev pub Filled : rust.Option Span → Type 0
+Filled (Some s) = s.from < s.to
+Filled None = Unit {0}
 
 -- what a lookup of items answers: their places within the words, at least one and at most `most`
-pub record ItemsFound (ws : List ℕ) (most : ℕ) (items : Option (List ℕ)) (r : Items) : Type 0 where
+pub record ItemsFound (ws : List ℕ) (most : ℕ) (items : Option (List ℕ)) (r : rust.Option Span) : Type 0 where
   pub same : items_at ws r ≡ items
   pub fit : ItemsFit ws most r
   pub filled : Filled r

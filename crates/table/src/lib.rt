@@ -23,13 +23,6 @@ impl Span {
     }
 }
 
-// Where the items of a record stand among the words of a table.
-#[derive(Clone, Copy)]
-pub enum Items {
-    At(Span),
-    Nothing,
-}
-
 // Where the lists of the first whole that confuses a codepoint stand among the words of a table.
 #[derive(Clone, Copy)]
 pub enum WholeAt {

@@ -1,5 +1,5 @@
 // Lookups over the words of one section.
-use crate::{GroupRecord, Items, Span, WholeAt};
+use crate::{GroupRecord, Span, WholeAt};
 
 // "a count of 0 to 64, then records (count 2 to 8, items)"
 const MOST_SEQUENCES: u32 = 64;
@@ -170,7 +170,7 @@ pub fn mem_in_of(words: &[u32], s: Span, c: u32) -> bool
 }
 
 // Where the items of the first record head, count, items with head c stand in the part.
-pub fn head_in(part: &[u32], c: u32) -> Items
+pub fn head_in(part: &[u32], c: u32) -> Option<Span>
     requires { is_some (headed (length part.now) most_items part.now) ≡ true }
     ensures { ItemsFound part.now most_items (items_of (heads_in part.now) c) result }
 {
@@ -179,14 +179,11 @@ pub fn head_in(part: &[u32], c: u32) -> Items
         let n = part[i + 1] as usize;
         let from = i + 2;
         if part[i] == c {
-            return Items::At(Span {
-                from: from,
-                to: from + n,
-            });
+            return Some(Span { from, to: from + n });
         }
         i = from + n;
     }
-    Items::Nothing
+    None
 }
 
 // The items whose count stands at a place.

@@ -10,7 +10,7 @@ ghost use Rattle.tokens.specs.Single.{SingleFound};
 
 use sections::Sections;
 use sections::lookup::{is_ignored, is_valid, mapped_items};
-use table::{Items, Span};
+use table::Span;
 
 // What becomes of the codepoint: it is kept, gives the items that stand at a place, gives nothing, or is disallowed.
 #[derive(Clone, Copy)]
@@ -22,12 +22,12 @@ pub enum Single {
 }
 
 // The items that the codepoint is mapped to, asked for where it is not valid.
-fn items_unless(words: &[u32], ix: Sections, valid: bool, c: u32) -> Items
+fn items_unless(words: &[u32], ix: Sections, valid: bool, c: u32) -> Option<Span>
     requires { Laid words.now ix }
     ensures { ItemsFound words.now most_items (cond valid none (items_of (the_table words.now).mapped c)) result }
 {
     if valid {
-        return Items::Nothing;
+        return None;
     }
     mapped_items(words, ix, c)
 }
@@ -40,8 +40,8 @@ pub fn alone(words: &[u32], ix: Sections, c: u32) -> Single
     let valid = is_valid(words, ix, c);
     let items = items_unless(words, ix, valid, c);
     match items {
-        Items::At(s) => Single::Mapped(s),
-        Items::Nothing => {
+        Some(s) => Single::Mapped(s),
+        None => {
             if valid {
                 return Single::Valid;
             }

@@ -11,12 +11,12 @@ overflow_sub-result c = omega (arith, syllable c.args.c (sym c.is_syllable.ensur
 pub returns-then-is_syllable : goal.returns-then-is_syllable
 returns-then-is_syllable c = by_jamo _ _ _ (sym c.is_syllable.ensures ∙ c.if-is_syllable.true)
 
-pub returns-in-At : goal.returns-in-At
-returns-in-At c =
+pub returns-in-Some : goal.returns-in-Some
+returns-in-Some c =
     let d = c in
-    by_items _ _ _ (sym d.is_syllable.ensures ∙ d.if-is_syllable.false) _ d.decomposition_items.ensures _ c.in-At.is
+    by_items _ _ _ (sym d.is_syllable.ensures ∙ d.if-is_syllable.false) _ d.decomposition_items.ensures _ c.in-Some.is
 
-pub returns-in-Nothing : goal.returns-in-Nothing
-returns-in-Nothing c =
+pub returns-in-None : goal.returns-in-None
+returns-in-None c =
     let d = c in
-    by_itself _ _ _ (sym d.is_syllable.ensures ∙ d.if-is_syllable.false) _ d.decomposition_items.ensures c.in-Nothing.is
+    by_itself _ _ _ (sym d.is_syllable.ensures ∙ d.if-is_syllable.false) _ d.decomposition_items.ensures c.in-None.is

@@ -7,22 +7,22 @@ pub overflow_add-result : goal.overflow_add-result
 overflow_add-result c =
     let d = c in
     let f = d.requires.0 in
-    let r = items_at _ _ f _ _ _ _ d.in-At.is d.items_by-found.ensures in
+    let r = items_at _ _ f _ _ _ _ d.in-Some.is d.items_by-found.ensures in
     omega (arith, r.fit.0, r.fit.1)
 
-pub overflow_add-result-in-At : goal.overflow_add-result-in-At
-overflow_add-result-in-At c =
+pub overflow_add-result-in-Some : goal.overflow_add-result-in-Some
+overflow_add-result-in-Some c =
     let d = c in
     let f = d.requires.0 in
-    omega (arith, (items_at _ _ f _ _ _ _ d.in-At.is d.items_by-found.ensures).fit.1)
+    omega (arith, (items_at _ _ f _ _ _ _ d.in-Some.is d.items_by-found.ensures).fit.1)
 
-pub returns-in-At : goal.returns-in-At
-returns-in-At c =
+pub returns-in-Some : goal.returns-in-Some
+returns-in-Some c =
     let d = c in
     let f = d.requires.0 in
-    items_at _ _ f _ _ _ _ d.in-At.is d.items_by-found.ensures
+    items_at _ _ f _ _ _ _ d.in-Some.is d.items_by-found.ensures
 
-pub returns-in-Nothing : goal.returns-in-Nothing
-returns-in-Nothing c =
+pub returns-in-None : goal.returns-in-None
+returns-in-None c =
     let d = c in
-    items_nothing _ _ d.requires.0 _ _ _ c.in-Nothing.is d.items_by-found.ensures
+    items_nothing _ _ d.requires.0 _ _ _ c.in-None.is d.items_by-found.ensures

@@ -12,17 +12,17 @@ pub returns-then-is_ignored : goal.returns-then-is_ignored
 returns-then-is_ignored c =
     let e = c in
     let m = e in
-    alone_ignored _ _ _ m.is_valid-valid.ensures _ m.items_unless-items.ensures e.in-Nothing.is c.if-valid.false
+    alone_ignored _ _ _ m.is_valid-valid.ensures _ m.items_unless-items.ensures e.in-None.is c.if-valid.false
     (sym c.if-is_ignored.true ∙ c.is_ignored.ensures)
 
-pub returns-in-At : goal.returns-in-At
-returns-in-At c =
+pub returns-in-Some : goal.returns-in-Some
+returns-in-Some c =
     let m = c in
-    alone_mapped _ _ _ m.is_valid-valid.ensures _ m.items_unless-items.ensures _ c.in-At.is
+    alone_mapped _ _ _ m.is_valid-valid.ensures _ m.items_unless-items.ensures _ c.in-Some.is
 
 pub returns-else-is_ignored : goal.returns-else-is_ignored
 returns-else-is_ignored c =
     let e = c in
     let m = e in
-    alone_disallowed _ _ _ m.is_valid-valid.ensures _ m.items_unless-items.ensures e.in-Nothing.is c.if-valid.false
+    alone_disallowed _ _ _ m.is_valid-valid.ensures _ m.items_unless-items.ensures e.in-None.is c.if-valid.false
     (sym c.if-is_ignored.false ∙ c.is_ignored.ensures)
