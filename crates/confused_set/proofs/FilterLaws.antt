@@ -19,7 +19,7 @@ use Rattle.table.specs.Lookup.{whole_of}
 use Rattle.table.specs.Part.{WholesAt, WholeHere, WholeFound, confused_at, counted_at, records_in, wholes_in}
 use Rattle.table.specs.Spans.{within, Fits}
 use Rattle.table.specs.declared.Span.{Span}
-use Rattle.table.specs.declared.WholeAt.TheVariants.{Unconfused}
+use Rattle.std.specs.declared.option.Option.TheVariants.{None}
 use Rattle.table.proofs.Lookups.{false_true}
 use Rattle.table.proofs.Records.{records_start, wholes_end, wholes_step, within_count}
 use Rattle.sections.specs.declared.Sections.{Sections}
@@ -141,5 +141,5 @@ full_filter ws set e =
     full c = rw (e, get_or-replicate {A = ℕ} filter_words (place_of c / 32) 0xFFFFFFFF 0 (omega arith)) (bit_full (place_of c % 32) (omega arith))
 
 -- a clear bit answers
-pub clear_found : (words set : List ℕ) (xs : List Whole) (c : ℕ) → Filter xs set → has set (place_of c) ≡ false → WholeFound words (whole_of xs c) Unconfused
+pub clear_found : (words set : List ℕ) (xs : List Whole) (c : ℕ) → Filter xs set → has set (place_of c) ≡ false → WholeFound words (whole_of xs c) None
 clear_found words set xs c f e = record { same = sym (f.clear c e); fits = tt }

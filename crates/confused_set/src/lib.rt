@@ -15,7 +15,7 @@ use bit_sets::{has, put};
 use buffers::clear;
 use sections::Sections;
 use sections::lookup::whole_of;
-use table::WholeAt;
+use table::WholeLists;
 use table::lookup::counted;
 
 // The words of the filter.
@@ -72,13 +72,13 @@ pub fn make_filter(words: &[u32], ix: Sections, set: &mut [u32], characters: usi
 }
 
 // Where the lists of the whole of c stand, if c is confused.
-pub fn whole_by(words: &[u32], ix: Sections, set: &[u32], c: u32) -> WholeAt
+pub fn whole_by(words: &[u32], ix: Sections, set: &[u32], c: u32) -> Option<WholeLists>
     requires laid { Laid words.now ix }
     requires filter { Filter (the_table words.now).wholes set.now }
     ensures { WholeFound words.now (whole_of (the_table words.now).wholes c) result }
 {
     if !has(set, c % 4096) {
-        return WholeAt::Unconfused;
+        return None;
     }
     whole_of(words, ix, c)
 }

@@ -15,7 +15,7 @@ use confused_set::{FILTER_WORDS, make_filter, whole_by};
 use group_flags::{any_set, flag_holders, keep_apart, keep_both, keep_outside};
 use memo::recall;
 use sections::Sections;
-use table::WholeAt;
+use table::WholeLists;
 
 // The most characters of a text that is looked at first, before any component is found.
 const LOOKED: usize = 64;
@@ -55,13 +55,10 @@ fn rule_out(words: &[u32], ix: Sections, filter: &[u32], flags: &mut [u32; 256],
 {
     let whole = whole_by(words, ix, filter, c);
     match whole {
-        WholeAt::Lists {
-            valid: _,
-            confused: _,
-        } => {
+        Some(_) => {
             keep_others(words, ix, flags, c);
         }
-        WholeAt::Unconfused => {
+        None => {
             keep_holders(words, ix, flags, c);
         }
     }
@@ -109,11 +106,8 @@ fn is_confused(words: &[u32], ix: Sections, filter: &[u32], c: u32) -> bool
 {
     let whole = whole_by(words, ix, filter, c);
     match whole {
-        WholeAt::Lists {
-            valid: _,
-            confused: _,
-        } => true,
-        WholeAt::Unconfused => false,
+        Some(_) => true,
+        None => false,
     }
 }
 
@@ -154,14 +148,14 @@ fn narrow(
 {
     let whole = whole_by(words, ix, filter, c);
     match whole {
-        WholeAt::Lists { valid, confused } => {
+        Some(WholeLists { valid, confused }) => {
             let j = recall(words, ix, memo, valid, confused);
             let from = 260 * j + 4;
             let to = 260 * j + 260;
             keep_outside(words, ix, flags, &memo[from..to], c);
             true
         }
-        WholeAt::Unconfused => {
+        None => {
             keep_holders(words, ix, flags, c);
             false
         }

@@ -7,7 +7,7 @@ use mathlib.Core.Option.{some}
 use lib.Dec.{leb}
 use Rattle.std.specs.declared.option.Option as rust
 use Rattle.table.specs.declared.Span.{Span}
-use Rattle.table.specs.declared.WholeAt.{WholeAt}
+use Rattle.table.specs.declared.WholeLists.{WholeLists}
 use Rattle.table.specs.Table.{Range}
 use Rattle.table.specs.Layout.{most_items, most_parts, in_front, ranges, the_table}
 use Rattle.table.specs.Spans.{within}
@@ -53,7 +53,7 @@ module _ (ws : List ℕ) (ix : Sections) (l : Laid ws ix) where
       let w = headed_wider _ most_parts most_items _ _ (omega arith) e in
       items_narrow ws most_items _ most_parts _ _ c r e (rw w at i)
 
-  pub whole-found : (c : ℕ) (r : WholeAt) → WholeFound ws (whole_of (wholes_in (within ix.wholes ws)) c) r → WholeFound ws (whole_of (the_table ws).wholes c) r
+  pub whole-found : (c : ℕ) (r : rust.Option WholeLists) → WholeFound ws (whole_of (wholes_in (within ix.wholes ws)) c) r → WholeFound ws (whole_of (the_table ws).wholes c) r
   unfolding records_in
   whole-found c r i = rw (laid_reads ws ix l).wholes at i
 

@@ -15,7 +15,7 @@ use apart_lookup::{class_apart, in_apart, mem_apart};
 use head_search::items_by;
 use place_marks::Marks;
 use table::lookup::{class_in, in_pairs, mem_in, whole_in_of};
-use table::{Span, WholeAt};
+use table::{Span, WholeLists};
 
 // Whether c lies in one of the pairs of a section, by halves where it is known to be sorted.
 pub fn in_section(words: &[u32], s: Span, sorted: bool, c: u32) -> bool
@@ -157,7 +157,7 @@ pub fn decomposition_items(words: &[u32], ix: Sections, c: u32) -> Option<Span>
 }
 
 // Where the lists of the whole of c stand, if c is confused.
-pub fn whole_of(words: &[u32], ix: Sections, c: u32) -> WholeAt
+pub fn whole_of(words: &[u32], ix: Sections, c: u32) -> Option<WholeLists>
     requires { Laid words.now ix }
     ensures { WholeFound words.now (whole_of (the_table words.now).wholes c) result }
 {

@@ -12,8 +12,7 @@ use Rattle.lists.specs.Lists.{is_some, mem}
 use Rattle.table.specs.Table.{Headed, Whole}
 use Rattle.table.specs.Layout.{most_items, in_front, count_fits, headed, wholes}
 use Rattle.table.specs.declared.Span.{Span}
-use Rattle.table.specs.declared.WholeAt.TheVariants.{Lists, Unconfused}
-use Rattle.table.specs.declared.WholeAt.{WholeAt}
+use Rattle.table.specs.declared.WholeLists.{WholeLists}
 use Rattle.std.specs.declared.option.Option as rust
 use Rattle.std.specs.declared.option.Option.TheVariants.{Some, None}
 use Rattle.table.specs.Spans.{within, Fits}
@@ -104,7 +103,7 @@ module _ (part : List ℕ) (c at : ℕ) (w : WholeWalk part c at) where
   pub whole_here : at < length part → WholeHere part at w.left
   whole_here h = wholes_step part at w.left w.walk h
 
-  pub whole-stop : length part ≤ at → WholeFound part (whole_of (wholes_in part) c) Unconfused
+  pub whole-stop : length part ≤ at → WholeFound part (whole_of (wholes_in part) c) None
   unfolding whole_of
   whole-stop h =
       let e : w.left ≡ [] = wholes_end part at w.left w.walk h in
@@ -139,7 +138,7 @@ module _ (part : List ℕ) (c at : ℕ) (w : WholeWalk part c at) (h : at < leng
   pub whole_less : at < k.to
   whole_less = rw confused_at_lem (omega arith)
 
-  pub whole_hit : mem c (within k part) ≡ true → WholeFound part (whole_of (wholes_in part) c) (Lists v k)
+  pub whole_hit : mem c (within k part) ≡ true → WholeFound part (whole_of (wholes_in part) c) (Some (record { valid = v; confused = k }))
   whole_hit e =
       let r = whole_here part c at w h in
       let m : mem c r.first.confused ≡ true = rw confused_is at e in
@@ -172,20 +171,20 @@ module _ (ws : List ℕ) (s : Span) (f : Fits ws s) where
       let j : ItemsFound (within s ws) most o None = rw e at i in
       record { same = j.same; fit = tt; filled = tt }
 
-  pub whole-at : (o : Option Whole) (r : WholeAt) (v k : Span) → r ≡ Lists v k → WholeFound (within s ws) o r
-      → WholeFound ws o (Lists (behind s.from v) (behind s.from k))
-  whole-at o r v k e i =
-      let j : WholeFound (within s ws) o (Lists v k) = rw e at i in
+  pub whole-at : (o : Option Whole) (r : rust.Option WholeLists) (l : WholeLists) → r ≡ Some l → WholeFound (within s ws) o r
+      → WholeFound ws o (Some (record { valid = behind s.from l.valid; confused = behind s.from l.confused }))
+  whole-at o r l e i =
+      let j : WholeFound (within s ws) o (Some l) = rw e at i in
       let g = j.fits.0 in
       let h = j.fits.1 in
       record {
-        same = rw (← within-within ws s v f g, ← within-within ws s k f h) j.same;
-        fits = (behind-fits ws s v f g, behind-fits ws s k f h);
+        same = rw (← within-within ws s l.valid f g, ← within-within ws s l.confused f h) j.same;
+        fits = (behind-fits ws s l.valid f g, behind-fits ws s l.confused f h);
       }
 
-  pub whole-nothing : (o : Option Whole) (r : WholeAt) → r ≡ Unconfused → WholeFound (within s ws) o r → WholeFound ws o Unconfused
+  pub whole-nothing : (o : Option Whole) (r : rust.Option WholeLists) → r ≡ None → WholeFound (within s ws) o r → WholeFound ws o None
   whole-nothing o r e i =
-      let j : WholeFound (within s ws) o Unconfused = rw e at i in
+      let j : WholeFound (within s ws) o None = rw e at i in
       record { same = j.same; fits = tt }
 
 -- A reader that lets a record have more items reads the same records.
@@ -264,13 +263,13 @@ pub record WholeThere (ws : List ℕ) (whole : Option Whole) (v k : Span) : Type
   pub valid : Fits ws v
   pub confused : Fits ws k
 
-module _ (ws : List ℕ) (o : Option Whole) (r : WholeAt) (i : WholeFound ws o r) where
-  pub whole_there : (v k : Span) → r ≡ Lists v k → WholeThere ws o v k
-  whole_there v k e =
-      let j : WholeFound ws o (Lists v k) = rw e at i in
+module _ (ws : List ℕ) (o : Option Whole) (r : rust.Option WholeLists) (i : WholeFound ws o r) where
+  pub whole_there : (l : WholeLists) → r ≡ Some l → WholeThere ws o l.valid l.confused
+  whole_there l e =
+      let j : WholeFound ws o (Some l) = rw e at i in
       record { same = sym j.same; valid = j.fits.0; confused = j.fits.1 }
 
-  pub whole_missing : r ≡ Unconfused → o ≡ none
+  pub whole_missing : r ≡ None → o ≡ none
   whole_missing e =
-      let j : WholeFound ws o Unconfused = rw e at i in
+      let j : WholeFound ws o None = rw e at i in
       sym j.same

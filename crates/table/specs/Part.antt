@@ -5,8 +5,7 @@ use Rattle.std.proofs.Math.Option.{Option, none, some}
 use Rattle.lists.specs.Lists.{is_some}
 use Rattle.table.specs.declared.Span.{Span}
 use Rattle.std.specs.declared.option.Option as rust
-use Rattle.table.specs.declared.WholeAt.{WholeAt}
-use Rattle.table.specs.declared.WholeAt.TheVariants.{Lists, Unconfused}
+use Rattle.table.specs.declared.WholeLists.{WholeLists}
 use Rattle.table.specs.Spans.{within, Fits, items_at, ItemsFit}
 use Rattle.table.specs.Table.{Range, ClassRange, Headed, Group, Whole}
 use Rattle.table.specs.Layout.{most_items, most_class, headed, sequences, groups, wholes}
@@ -74,17 +73,17 @@ pub record ItemsFound (ws : List ℕ) (most : ℕ) (items : Option (List ℕ)) (
   pub filled : Filled r
 
 -- the whole that an answer of a lookup stands for
-abbrev pub whole_at : List ℕ → WholeAt → Option Whole
-whole_at ws (Lists v k) = some (record { valid = within v ws; confused = within k ws })
-whole_at ws Unconfused = none
+abbrev pub whole_at : List ℕ → rust.Option WholeLists → Option Whole
+whole_at ws (Some w) = some (record { valid = within w.valid ws; confused = within w.confused ws })
+whole_at ws None = none
 
 -- both of its lists lie within the words
-abbrev pub WholeFits : List ℕ → WholeAt → Type 0
-WholeFits ws (Lists v k) = Fits ws v × Fits ws k
-WholeFits ws Unconfused = Unit {0}
+abbrev pub WholeFits : List ℕ → rust.Option WholeLists → Type 0
+WholeFits ws (Some w) = Fits ws w.valid × Fits ws w.confused
+WholeFits ws None = Unit {0}
 
 -- what a lookup of a whole answers
-pub record WholeFound (ws : List ℕ) (whole : Option Whole) (r : WholeAt) : Type 0 where
+pub record WholeFound (ws : List ℕ) (whole : Option Whole) (r : rust.Option WholeLists) : Type 0 where
   pub same : whole_at ws r ≡ whole
   pub fits : WholeFits ws r
 

@@ -23,11 +23,11 @@ impl Span {
     }
 }
 
-// Where the lists of the first whole that confuses a codepoint stand among the words of a table.
+// Where the lists of a whole stand among the words of a table.
 #[derive(Clone, Copy)]
-pub enum WholeAt {
-    Lists { valid: Span, confused: Span },
-    Unconfused,
+pub struct WholeLists {
+    pub valid: Span,
+    pub confused: Span,
 }
 
 // The record of a group: its flags, where its pairs stand among the words and where the records of its list do, and the place behind the

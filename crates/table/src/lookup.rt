@@ -1,5 +1,5 @@
 // Lookups over the words of one section.
-use crate::{GroupRecord, Span, WholeAt};
+use crate::{GroupRecord, Span, WholeLists};
 
 // "a count of 0 to 64, then records (count 2 to 8, items)"
 const MOST_SEQUENCES: u32 = 64;
@@ -267,7 +267,7 @@ pub fn group_at(part: &[u32], at: usize) -> GroupRecord
 }
 
 // Where the lists of the first whole whose confused list has c stand in the part.
-pub fn whole_in(part: &[u32], c: u32) -> WholeAt
+pub fn whole_in(part: &[u32], c: u32) -> Option<WholeLists>
     requires { is_some (wholes (length part.now) part.now) ≡ true }
     ensures { WholeFound part.now (whole_of (wholes_in part.now) c) result }
 {
@@ -277,35 +277,27 @@ pub fn whole_in(part: &[u32], c: u32) -> WholeAt
         let at = valid.to;
         let confused = counted(part, at);
         if mem_in_of(part, confused, c) {
-            return WholeAt::Lists {
-                valid: valid,
-                confused: confused,
-            };
+            return Some(WholeLists { valid, confused });
         }
         i = confused.to;
     }
-    WholeAt::Unconfused
+    None
 }
 
 // Where the lists of the first whole of a section whose confused list has c stand among the words.
-pub fn whole_in_of(words: &[u32], s: Span, c: u32) -> WholeAt
+pub fn whole_in_of(words: &[u32], s: Span, c: u32) -> Option<WholeLists>
     requires { WholesPart words.now s }
     ensures { WholeFound words.now (whole_of (wholes_in (within s words.now)) c) result }
 {
-    let from = s.from;
-    let to = s.to;
-    let found = whole_in(&words[from..to], c);
-    match found {
-        WholeAt::Lists { valid, confused } => WholeAt::Lists {
-            valid: Span {
-                from: from + valid.from,
-                to: from + valid.to,
-            },
-            confused: Span {
-                from: from + confused.from,
-                to: from + confused.to,
-            },
+    let WholeLists { valid, confused } = whole_in(s.of(words), c)?;
+    Some(WholeLists {
+        valid: Span {
+            from: s.from + valid.from,
+            to: s.from + valid.to,
         },
-        WholeAt::Unconfused => WholeAt::Unconfused,
-    }
+        confused: Span {
+            from: s.from + confused.from,
+            to: s.from + confused.to,
+        },
+    })
 }

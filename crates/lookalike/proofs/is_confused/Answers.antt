@@ -3,14 +3,14 @@ use Rattle.table.proofs.Searches.{whole_there, whole_missing}
 use Rattle.confusable.specs.Confusable.{is_confused}
 use Rattle.lookalike.proofs.is_confused.Goals as goal
 
-pub returns-in-Lists : goal.returns-in-Lists
+pub returns-in-Some : goal.returns-in-Some
 unfolding is_confused
-returns-in-Lists c =
+returns-in-Some c =
     let w = c.whole_by-whole in
-    rw (whole_there _ _ w.result w.ensures c.in-Lists.valid c.in-Lists.confused c.in-Lists.is).same
+    rw (whole_there _ _ w.result w.ensures _ c.in-Some.is).same
 
-pub returns-in-Unconfused : goal.returns-in-Unconfused
+pub returns-in-None : goal.returns-in-None
 unfolding is_confused
-returns-in-Unconfused c =
+returns-in-None c =
     let w = c.whole_by-whole in
-    rw (whole_missing _ _ w.result w.ensures c.in-Unconfused.is)
+    rw (whole_missing _ _ w.result w.ensures c.in-None.is)

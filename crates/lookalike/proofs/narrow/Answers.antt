@@ -8,7 +8,7 @@ use Rattle.lookalike.proofs.narrow.Goals as goal
 pub recall-j-requires : goal.recall-j-requires
 recall-j-requires c =
     let p = c.requires in
-    let w = whole_there _ _ c.whole_by-whole.result c.whole_by-whole.ensures _ _ c.in-Lists.is in
+    let w = whole_there _ _ c.whole_by-whole.result c.whole_by-whole.ensures _ c.in-Some.is in
     record { laid = p.laid; fits = (w.valid, w.confused); memo = p.memo }
 
 pub keep_outside-requires : goal.keep_outside-requires
@@ -16,16 +16,16 @@ keep_outside-requires c =
     let p = c.requires in
     record { laid = p.laid; flags_len = p.flags_len; k_len = (recalled_components _ _ _ _ c.recall-j.result c.recall-j.ensures).size }
 
-pub returns-in-Lists : goal.returns-in-Lists
-returns-in-Lists c =
+pub returns-in-Some : goal.returns-in-Some
+returns-in-Some c =
     let p = c.requires in
     let r = c.recall-j.ensures in
-    let w = whole_there _ _ c.whole_by-whole.result c.whole_by-whole.ensures _ _ c.in-Lists.is in
+    let w = whole_there _ _ c.whole_by-whole.result c.whole_by-whole.ensures _ c.in-Some.is in
     record { narrowed = narrow_confused _ _ (laid_reads _ _ p.laid).few _ _ _ _ _ w.same (recalled_components _ _ _ _ c.recall-j.result r) c.keep_outside.ensures; memo_2 = r.kept }
 
-pub returns-in-Unconfused : goal.returns-in-Unconfused
-returns-in-Unconfused c =
+pub returns-in-None : goal.returns-in-None
+returns-in-None c =
     let p = c.requires in
     let w = c.whole_by-whole in
-    let e = whole_missing _ _ w.result w.ensures c.in-Unconfused.is in
+    let e = whole_missing _ _ w.result w.ensures c.in-None.is in
     record { narrowed = narrow_plain _ _ (laid_reads _ _ p.laid).few _ _ e c.keep_holders.ensures; memo_2 = p.memo }
