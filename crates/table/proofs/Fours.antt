@@ -1,4 +1,4 @@
--- Walks over pairs, triples and items, four of them at a time.
+-- Walks over pairs and triples, four of them at a time.
 use Prim.Native.Nat.{ℕ, ◌+◌, ◌-◌, ◌<◌}
 use native.Mathlib.Omega.{arith}
 use mathlib.Core.Path.{◌≡◌, refl, sym, ◌∙◌}
@@ -6,11 +6,9 @@ use mathlib.Core.Bool.{Bool, true, false, ◌&&◌, ◌||◌}
 use mathlib.Core.List.{List}
 use lib.ListN.{length, get_or, take, drop, length-drop}
 use lib.Seq.{take_all}
-use lib.Dec.{leb, eqb}
-use borrow.Author.Tests.{eqb-false}
-use Rattle.lists.specs.Lists.{mem}
-use Rattle.table.specs.Part.{in_pairs, class_among, in_four, mem_four, Skipped}
-use Rattle.table.proofs.Lookups.{false_true, Walk, pairs_on, class_on, mem_on}
+use lib.Dec.{leb}
+use Rattle.table.specs.Part.{in_pairs, class_among, in_four, Skipped}
+use Rattle.table.proofs.Lookups.{false_true, Walk, pairs_on, class_on}
 
 -- none of two
 or_left : (a b : Bool) → false ≡ (a || b) → false ≡ a
@@ -63,20 +61,6 @@ triples_skip c ws i w h e =
     let f = class_on c ws (i + 3 + 3 + 3) d (omega arith) (fourth c ws i 3 e) in
     let n : i + 3 + 3 + 3 + 3 ≡ i + 12 = omega arith in
     rw n at f
-
-pub items_skip : (c : ℕ) (ws : List ℕ) (i : ℕ) → Walk (mem c) ws i → 3 < length ws - i → false ≡ mem_four c ws i → Walk (mem c) ws (i + 4)
-items_skip c ws i w h e =
-    let at : ℕ → Bool = λ j. eqb (get_or ws j 0) c in
-    let front = or_left (at i || at (i + 1)) (at (i + 2) || at (i + 3)) e in
-    let back = or_right (at i || at (i + 1)) (at (i + 2) || at (i + 3)) e in
-    let a = mem_on c ws i w (omega arith) (eqb-false _ _ (sym (or_left (at i) (at (i + 1)) front))) in
-    let b = mem_on c ws (i + 1) a (omega arith) (eqb-false _ _ (sym (or_right (at i) (at (i + 1)) front))) in
-    let two : i + 1 + 1 ≡ i + 2 = omega arith in
-    let d = mem_on c ws (i + 2) (rw two at b) (omega arith) (eqb-false _ _ (sym (or_left (at (i + 2)) (at (i + 3)) back))) in
-    let three : i + 2 + 1 ≡ i + 3 = omega arith in
-    let f = mem_on c ws (i + 3) (rw three at d) (omega arith) (eqb-false _ _ (sym (or_right (at (i + 2)) (at (i + 3)) back))) in
-    let four : i + 3 + 1 ≡ i + 4 = omega arith in
-    rw four at f
 
 -- what a walk that stops has skipped, and what is left
 module _ {A : Type 0} (f : List ℕ → A) (ws : List ℕ) (i : ℕ) where

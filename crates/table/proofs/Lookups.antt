@@ -2,15 +2,18 @@
 use Prim.Native.Nat.{ℕ, zero, suc, ◌+◌, ◌-◌, ◌<◌, ◌≤◌}
 use native.Mathlib.Numerals.{add-one, unary_clauses}
 use native.Mathlib.Omega.{arith}
-use mathlib.Core.Path.{◌≡◌, refl, sym, ◌∙◌}
-use mathlib.Core.Bool.{Bool, true, false, ◌&&◌, cond}
-use mathlib.Core.List.{List, [], ◌∷◌}
+use mathlib.Core.Path.{◌≡◌, refl, ◌∙◌}
+use mathlib.Core.Bool.{Bool, true, false, ◌&&◌, ◌||◌, cond}
+use mathlib.Core.List.{List, [], ◌∷◌, ◌++◌}
 use mathlib.Core.Option.{Option, none, some}
 use lib.ListN.{length, get_or, take, drop, length-take, length-drop, drop_of_length-le}
 use lib.Seq.{drop-cons, drop-drop, take-nil, take-take}
 use lib.Dec.{leb, ltb, eqb}
-use borrow.Author.Tests.{ltb-true, ltb-false, leb-true, eq-eqb, ne_eqb}
+use borrow.Author.Tests.{ltb-true, ltb-false, leb-true}
+use Rattle.std.specs.List.{list_any}
+use Rattle.std.specs.declared.slice.ChunksExact.{ChunksExact}
 use Rattle.lists.specs.Lists.{all, and_then, mem}
+use Rattle.lists.specs.Tests.{eqb_turn}
 use Rattle.table.specs.declared.Span.{Span}
 use Rattle.table.specs.Spans.{within, Fits}
 use Rattle.table.specs.Table.{Range, ClassRange}
@@ -134,55 +137,80 @@ pub all_same : (p q : ℕ → Bool) → ((c : ℕ) → p c ≡ q c) → (s : Lis
 all_same p q e [] = refl
 all_same p q e (c ∷ s) = rw (e c, all_same p q e s)
 
--- over pairs
-module _ (c : ℕ) (ws : List ℕ) (i : ℕ) (w : Walk (in_pairs c) ws i) (h : 1 < length ws - i) where
-  pub pairs_hit : true ≡ (leb (get_or ws i 0) c && leb c (get_or ws (i + 1) 0)) → true ≡ in_pairs c ws
-  unfolding in_pairs
-  pairs_hit e = rw (w.same, drop-two ws i h, ← e)
-
-  pub pairs_on : false ≡ (leb (get_or ws i 0) c && leb c (get_or ws (i + 1) 0)) → Walk (in_pairs c) ws (i + 2)
-  unfolding in_pairs
-  pairs_on e = walk_on _ _ i 2 w (omega arith) (rw (drop-two ws i h, ← e))
-
-pub pairs-stop : (c : ℕ) (ws : List ℕ) (i : ℕ) → Walk (in_pairs c) ws i → length ws - i ≤ 1 → false ≡ in_pairs c ws
+-- over pairs and triples, by their places
+pub pairs_on : (c : ℕ) (ws : List ℕ) (i : ℕ) → Walk (in_pairs c) ws i → 1 < length ws - i
+    → false ≡ (leb (get_or ws i 0) c && leb c (get_or ws (i + 1) 0)) → Walk (in_pairs c) ws (i + 2)
 unfolding in_pairs
-pairs-stop c ws i w h = rw w.same (go (drop i ws) (simp length-drop h))
-  where
-    go : (vs : List ℕ) → length vs ≤ 1 → false ≡ in_pairs c vs
-    go [] k = refl
-    go (a ∷ []) k = refl
-    go (a ∷ b ∷ vs) k = absurd (omega arith)
+pairs_on c ws i w h e = walk_on _ _ i 2 w (omega arith) (rw (drop-two ws i h, ← e))
 
--- over triples
-module _ (c : ℕ) (ws : List ℕ) (i : ℕ) (w : Walk (class_among c) ws i) (h : 2 < length ws - i) where
-  pub class_hit : true ≡ (leb (get_or ws i 0) c && leb c (get_or ws (i + 1) 0)) → get_or ws (i + 2) 0 ≡ class_among c ws
-  unfolding class_among
-  class_hit e = rw (w.same, drop-three ws i h, ← e)
-
-  pub class_on : false ≡ (leb (get_or ws i 0) c && leb c (get_or ws (i + 1) 0)) → Walk (class_among c) ws (i + 3)
-  unfolding class_among
-  class_on e = walk_on _ _ i 3 w (omega arith) (rw (drop-three ws i h, ← e))
-
-pub class-stop : (c : ℕ) (ws : List ℕ) (i : ℕ) → Walk (class_among c) ws i → length ws - i ≤ 2 → 0 ≡ class_among c ws
+pub class_on : (c : ℕ) (ws : List ℕ) (i : ℕ) → Walk (class_among c) ws i → 2 < length ws - i
+    → false ≡ (leb (get_or ws i 0) c && leb c (get_or ws (i + 1) 0)) → Walk (class_among c) ws (i + 3)
 unfolding class_among
-class-stop c ws i w h = rw w.same (go (drop i ws) (simp length-drop h))
-  where
-    go : (vs : List ℕ) → length vs ≤ 2 → 0 ≡ class_among c vs
-    go [] k = refl
-    go (a ∷ []) k = refl
-    go (a ∷ b ∷ []) k = refl
-    go (a ∷ b ∷ d ∷ vs) k = absurd (omega arith)
+class_on c ws i w h e = walk_on _ _ i 3 w (omega arith) (rw (drop-three ws i h, ← e))
 
--- over items
-module _ (c : ℕ) (ws : List ℕ) (i : ℕ) (w : Walk (mem c) ws i) where
-  pub mem_hit : i < length ws → get_or ws i 0 ≡ c → true ≡ mem c ws
-  mem_hit h e = rw (w.same, drop-next ws i h, eq-eqb c (get_or ws i 0) (sym e))
+-- A search by pieces of n words: f gives for the words that are left what it gives for all.
+pub record Pieces {A : Type 0} (f : List ℕ → A) (n : ℕ) (ws : List ℕ) (it : ChunksExact ℕ) : Type 0 where
+  pub size : it.size ≡ n
+  pub same : f ws ≡ f it.rest.now
 
-  pub mem_on : i < length ws → (get_or ws i 0 ≡ c → ⊥) → Walk (mem c) ws (i + 1)
-  mem_on h e = walk_on _ _ i 1 w (omega arith) (rw (drop-next ws i h, ne_eqb c (get_or ws i 0) (λ f. e (sym f))))
+-- the first pair, and the rest
+pairs_first : (c : ℕ) (x ws : List ℕ) → length x ≡ 2
+    → in_pairs c (x ++ ws) ≡ ((leb (get_or x 0 0) c && leb c (get_or x 1 0)) || in_pairs c ws)
+unfolding in_pairs
+pairs_first c [] ws l = absurd (omega arith)
+pairs_first c (a ∷ []) ws l = absurd (omega arith)
+pairs_first c (a ∷ b ∷ []) ws l = refl
+pairs_first c (a ∷ b ∷ d ∷ x) ws l = absurd (omega arith)
 
-  pub mem-stop : length ws ≤ i → false ≡ mem c ws
-  mem-stop h = rw (w.same, drop_of_length-le ws h)
+module _ (c : ℕ) (ws : List ℕ) (it next : ChunksExact ℕ) (w : Pieces (in_pairs c) 2 ws it) where
+  module _ (x : List ℕ) (e : it.rest.now ≡ x ++ next.rest.now) (l : length x ≡ it.size) where
+    pub pair_hit : true ≡ (leb (get_or x 0 0) c && leb c (get_or x 1 0)) → true ≡ in_pairs c ws
+    pair_hit t = rw (w.same, e, pairs_first c x next.rest.now (l ∙ w.size), ← t)
+
+    pub pair_on : next.size ≡ it.size → false ≡ (leb (get_or x 0 0) c && leb c (get_or x 1 0)) → Pieces (in_pairs c) 2 ws next
+    pair_on s t = record { size = s ∙ w.size; same = rw (w.same, e, pairs_first c x next.rest.now (l ∙ w.size), ← t) }
+
+  pub pair-stop : length it.rest.now < it.size → false ≡ in_pairs c ws
+  unfolding in_pairs
+  pair-stop h = rw w.same (go it.rest.now (rw w.size at h))
+    where
+      go : (vs : List ℕ) → length vs < 2 → false ≡ in_pairs c vs
+      go [] k = refl
+      go (a ∷ []) k = refl
+      go (a ∷ b ∷ vs) k = absurd (omega arith)
+
+-- the first triple, and the rest
+class_first : (c : ℕ) (x ws : List ℕ) → length x ≡ 3
+    → class_among c (x ++ ws) ≡ cond (leb (get_or x 0 0) c && leb c (get_or x 1 0)) (get_or x 2 0) (class_among c ws)
+unfolding class_among
+class_first c [] ws l = absurd (omega arith)
+class_first c (a ∷ []) ws l = absurd (omega arith)
+class_first c (a ∷ b ∷ []) ws l = absurd (omega arith)
+class_first c (a ∷ b ∷ k ∷ []) ws l = refl
+class_first c (a ∷ b ∷ k ∷ d ∷ x) ws l = absurd (omega arith)
+
+module _ (c : ℕ) (ws : List ℕ) (it next : ChunksExact ℕ) (w : Pieces (class_among c) 3 ws it) where
+  module _ (x : List ℕ) (e : it.rest.now ≡ x ++ next.rest.now) (l : length x ≡ it.size) where
+    pub triple_hit : true ≡ (leb (get_or x 0 0) c && leb c (get_or x 1 0)) → get_or x 2 0 ≡ class_among c ws
+    triple_hit t = rw (w.same, e, class_first c x next.rest.now (l ∙ w.size), ← t)
+
+    pub triple_on : next.size ≡ it.size → false ≡ (leb (get_or x 0 0) c && leb c (get_or x 1 0)) → Pieces (class_among c) 3 ws next
+    triple_on s t = record { size = s ∙ w.size; same = rw (w.same, e, class_first c x next.rest.now (l ∙ w.size), ← t) }
+
+  pub triple-stop : length it.rest.now < it.size → 0 ≡ class_among c ws
+  unfolding class_among
+  triple-stop h = rw w.same (go it.rest.now (rw w.size at h))
+    where
+      go : (vs : List ℕ) → length vs < 3 → 0 ≡ class_among c vs
+      go [] k = refl
+      go (a ∷ []) k = refl
+      go (a ∷ b ∷ []) k = refl
+      go (a ∷ b ∷ d ∷ vs) k = absurd (omega arith)
+
+-- a search of the library finds an item or none
+pub list_any_mem : (c : ℕ) (xs : List ℕ) → list_any (λ y. eqb y c) xs ≡ mem c xs
+list_any_mem c [] = refl
+list_any_mem c (x ∷ xs) = rw (list_any_mem c xs, eqb_turn x c)
 
 -- the words of a part are its first word and those behind it
 pub within-next : (ws : List ℕ) (s : Span) → Fits ws s → s.from < s.to

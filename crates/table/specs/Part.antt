@@ -1,5 +1,5 @@
 -- Lookups over the words of one section, without a table in between, and how a walk over its records stands.
-use Rattle.std.specs.Prelude.{ℕ, ◌+◌, ◌≤◌, ◌<◌, ◌≡◌, Bool, true, false, ◌&&◌, ◌||◌, cond, List, [], ◌∷◌, length, get_or, take, drop, leb, eqb, Some, None}
+use Rattle.std.specs.Prelude.{ℕ, ◌+◌, ◌≤◌, ◌<◌, ◌≡◌, Bool, true, false, ◌&&◌, ◌||◌, cond, List, [], ◌∷◌, length, get_or, take, drop, leb, Some, None}
 use Rattle.std.proofs.Math.Option
 use Rattle.std.proofs.Math.Option.{Option, none, some}
 use Rattle.lists.specs.Lists.{is_some}
@@ -7,7 +7,7 @@ use Rattle.table.specs.declared.Span.{Span}
 use Rattle.std.specs.declared.option.Option as rust
 use Rattle.table.specs.declared.WholeLists.{WholeLists}
 use Rattle.table.specs.Spans.{within, Fits, items_at, ItemsFit}
-use Rattle.table.specs.Table.{Range, ClassRange, Headed, Group, Whole}
+use Rattle.table.specs.Table.{ClassRange, Headed, Group, Whole}
 use Rattle.table.specs.Layout.{most_items, most_class, headed, sequences, groups, wholes}
 use Rattle.table.specs.Lookup.{table_class}
 
@@ -29,12 +29,6 @@ abbrev pub in_four : ℕ → List ℕ → ℕ → ℕ → Bool
 in_four c ws i step =
     let at : ℕ → Bool = λ j. leb (get_or ws j 0) c && leb c (get_or ws (j + 1) 0) in
     (at i || at (i + step)) || (at (i + step + step) || at (i + step + step + step))
-
--- c is one of four items, of which the first stands at i
-abbrev pub mem_four : ℕ → List ℕ → ℕ → Bool
-mem_four c ws i =
-    let at : ℕ → Bool = λ j. eqb (get_or ws j 0) c in
-    (at i || at (i + 1)) || (at (i + 2) || at (i + 3))
 
 -- f gives for the words from i on what it gives for all
 pub record Skipped {A : Type 0} (f : List ℕ → A) (ws : List ℕ) (i : ℕ) : Type 0 where

@@ -14,7 +14,7 @@ ghost use Rattle.table.specs.Layout.{most_items, headed, wholes};
 ghost use Rattle.table.specs.Lookup.{items_of, whole_of};
 ghost use Rattle.table.specs.Spans.{Fits, within};
 ghost use Rattle.table.specs.GroupPart.{list_size, list_at, group_at};
-ghost use Rattle.table.specs.Part.{in_pairs, class_among, in_four, mem_four, Skipped, counted_at, heads_in, wholes_in, WholesPart, ItemsFound, WholeFound};
+ghost use Rattle.table.specs.Part.{in_pairs, class_among, in_four, Skipped, counted_at, heads_in, wholes_in, WholesPart, ItemsFound, WholeFound};
 
 // Whether c lies from first to last. Both tests are made, since where pairs stand in random order a branch at the first would be a guess.
 pub fn between(c: u32, first: u32, last: u32) -> bool
@@ -43,26 +43,22 @@ fn in_four(part: &[u32], i: usize, step: usize, c: u32) -> bool
 fn skip_pairs(part: &[u32], c: u32) -> usize
     ensures { Skipped (in_pairs c) part.now result }
 {
-    let mut i: usize = 0;
-    while 7 < part.len() - i {
-        if in_four(part, i, 2, c) {
-            return i;
+    for i in 0..part.len() / 8 {
+        if in_four(part, i * 8, 2, c) {
+            return i * 8;
         }
-        i += 8;
     }
-    i
+    part.len() / 8 * 8
 }
 
 // Whether c lies in one of the pairs first, last, asked one by one.
 fn in_any(part: &[u32], c: u32) -> bool
     ensures { result ≡ in_pairs c part.now }
 {
-    let mut i: usize = 0;
-    while 1 < part.len() - i {
-        if between(c, part[i], part[i + 1]) {
+    for pair in part.chunks_exact(2) {
+        if between(c, pair[0], pair[1]) {
             return true;
         }
-        i += 2;
     }
     false
 }
@@ -79,26 +75,22 @@ pub fn in_pairs(part: &[u32], c: u32) -> bool
 fn skip_triples(part: &[u32], c: u32) -> usize
     ensures { Skipped (class_among c) part.now result }
 {
-    let mut i: usize = 0;
-    while 11 < part.len() - i {
-        if in_four(part, i, 3, c) {
-            return i;
+    for i in 0..part.len() / 12 {
+        if in_four(part, i * 12, 3, c) {
+            return i * 12;
         }
-        i += 12;
     }
-    i
+    part.len() / 12 * 12
 }
 
 // The class of the first triple first, last, class with c in it, or 0, asked one by one.
 fn class_of_any(part: &[u32], c: u32) -> u32
     ensures { result ≡ class_among c part.now }
 {
-    let mut i: usize = 0;
-    while 2 < part.len() - i {
-        if between(c, part[i], part[i + 1]) {
-            return part[i + 2];
+    for triple in part.chunks_exact(3) {
+        if between(c, triple[0], triple[1]) {
+            return triple[2];
         }
-        i += 3;
     }
     0
 }
@@ -111,52 +103,11 @@ pub fn class_in(part: &[u32], c: u32) -> u32
     class_of_any(&part[i..], c)
 }
 
-// Whether c is one of four items, of which the first stands at i. One branch is then enough for four.
-fn mem_four(items: &[u32], i: usize, c: u32) -> bool
-    requires { i + 4 ≤ length items.now }
-    ensures { result ≡ mem_four c items.now i }
-{
-    let first = items[i] == c;
-    let second = items[i + 1] == c;
-    let third = items[i + 2] == c;
-    let fourth = items[i + 3] == c;
-    (first | second) | (third | fourth)
-}
-
-// A place up to which c is none of the items: that of four items with c, or one with fewer than four left.
-fn skip_items(items: &[u32], c: u32) -> usize
-    ensures { Skipped (mem c) items.now result }
-{
-    let mut i: usize = 0;
-    while 3 < items.len() - i {
-        if mem_four(items, i, c) {
-            return i;
-        }
-        i += 4;
-    }
-    i
-}
-
-// Whether c is one of the items, asked one by one.
-fn mem_any(items: &[u32], c: u32) -> bool
-    ensures { result ≡ mem c items.now }
-{
-    let mut i: usize = 0;
-    while i < items.len() {
-        if items[i] == c {
-            return true;
-        }
-        i += 1;
-    }
-    false
-}
-
 // Whether c is one of the items.
 pub fn mem_in(items: &[u32], c: u32) -> bool
     ensures { result ≡ mem c items.now }
 {
-    let i = skip_items(items, c);
-    mem_any(&items[i..], c)
+    items.contains(&c)
 }
 
 // Whether c is one of the items of a part.
@@ -164,9 +115,7 @@ pub fn mem_in_of(words: &[u32], s: Span, c: u32) -> bool
     requires { Fits words.now s }
     ensures { result ≡ mem c (within s words.now) }
 {
-    let from = s.from;
-    let to = s.to;
-    mem_in(&words[from..to], c)
+    mem_in(s.of(words), c)
 }
 
 // Where the items of the first record head, count, items with head c stand in the part.
@@ -174,6 +123,7 @@ pub fn head_in(part: &[u32], c: u32) -> Option<Span>
     requires { is_some (headed (length part.now) most_items part.now) ≡ true }
     ensures { ItemsFound part.now most_items (items_of (heads_in part.now) c) result }
 {
+    // by hand: a record's length is its own, and the place goes on by it
     let mut i: usize = 0;
     while i < part.len() {
         let n = part[i + 1] as usize;
@@ -193,10 +143,7 @@ pub fn counted(words: &[u32], at: usize) -> Span
 {
     let from = at + 1;
     let n = words[at] as usize;
-    Span {
-        from: from,
-        to: from + n,
-    }
+    Span { from, to: from + n }
 }
 
 // The number of words of the list that `rest` begins with, or 0 where none does.
@@ -206,12 +153,12 @@ pub fn list_size(rest: &[u32]) -> usize
     if rest.len() == 0 {
         return 0;
     }
-    let mut left = rest[0];
-    if left > MOST_SEQUENCES {
+    let count = rest[0];
+    if count > MOST_SEQUENCES {
         return 0;
     }
     let mut at: usize = 1;
-    while left > 0 {
+    for _ in 0..count {
         if at == rest.len() {
             return 0;
         }
@@ -227,7 +174,6 @@ pub fn list_size(rest: &[u32]) -> usize
             return 0;
         }
         at = at + 1 + items;
-        left -= 1;
     }
     at
 }
@@ -259,9 +205,9 @@ pub fn group_at(part: &[u32], at: usize) -> GroupRecord
     GroupRecord {
         restricted: flags % 2 == 1,
         whitelisted: flags / 2 % 2 == 1,
-        pairs: pairs,
-        listed: listed,
-        list: list,
+        pairs,
+        listed,
+        list,
         next: list.to,
     }
 }
@@ -271,6 +217,7 @@ pub fn whole_in(part: &[u32], c: u32) -> Option<WholeLists>
     requires { is_some (wholes (length part.now) part.now) ≡ true }
     ensures { WholeFound part.now (whole_of (wholes_in part.now) c) result }
 {
+    // by hand: a record's length is its own, and the place goes on by it
     let mut i: usize = 0;
     while i < part.len() {
         let valid = counted(part, i);

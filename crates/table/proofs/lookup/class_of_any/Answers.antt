@@ -1,20 +1,18 @@
-use Prim.Native.Nat.{◌-◌}
-use native.Mathlib.Omega.{arith}
-use mathlib.Core.Path.{sym, ◌∙◌}
-use Rattle.table.proofs.Lookups.{class_hit, class_on, class-stop}
+use Rattle.table.proofs.Lookups.{triple_hit, triple_on, triple-stop}
 use Rattle.table.proofs.lookup.class_of_any.Goals as goal
+
+pub loop-triple-init : goal.loop-triple-init
+loop-triple-init c = rw c.into_iter-triple-iterator.ensures.into_iter_gives (record { size = c.chunks_exact-triple-items.ensures.size; same = rw c.chunks_exact-triple-items.ensures.rest })
 
 pub returns-then-between : goal.returns-then-between
 returns-then-between c =
-    let b = c in
-    let p = b in
-    class_hit _ _ p.loop-i.i p.loop-i.invariant (omega arith) (sym c.if-between.true ∙ b.between.ensures)
+    let s = c.in-Some.ensures.steps in
+    triple_hit _ _ _ c.next.new.self c.loop-triple.invariant _ s.1.0 s.1.1 c.if-between.ensures
 
-pub loop-i-preserved : goal.loop-i-preserved
-loop-i-preserved c =
-    let b = c in
-    let p = b in
-    class_on _ _ p.loop-i.i p.loop-i.invariant (omega arith) (sym c.if-between.false ∙ b.between.ensures)
+pub loop-triple-preserved : goal.loop-triple-preserved
+loop-triple-preserved c =
+    let s = c.in-Some.ensures.steps in
+    triple_on _ _ _ c.next.new.self c.loop-triple.invariant _ s.1.0 s.1.1 s.0 c.if-between.ensures
 
 pub returns : goal.returns
-returns c = class-stop _ _ c.loop-i.i c.loop-i.invariant c.loop-i-test.false
+returns c = triple-stop _ _ _ c.next.new.self c.loop-triple.invariant c.in-None.ensures.steps.1.0

@@ -1,4 +1,3 @@
-use Prim.Native.Nat.{◌-◌}
 use native.Mathlib.Omega.{arith}
 use Rattle.table.proofs.Searches.{head_start, head_here, head_hit, head_on, head_stop}
 use Rattle.table.proofs.lookup.head_in.Goals as goal

@@ -1,12 +1,7 @@
--- `table::lookup::in_any` meets its contract, by the laws of a walk over pairs.
-use Prim.Native.Nat.{◌-◌}
-use lib.ListN.{length}
+-- `table::lookup::in_any` meets its contract, by the laws of a search by pieces.
 use Rattle.table.specs.Part.{in_pairs}
-use Rattle.table.proofs.Lookups.{Walk}
+use Rattle.table.proofs.Lookups.{Pieces}
 use Rattle.table.proofs.lookup.in_any.Given as goal
 
-abbrev pub invariant-loop-i : goal.invariant-loop-i
-invariant-loop-i l = Walk (in_pairs l.c) l.part l.i
-
-abbrev pub decreases-loop-i : goal.decreases-loop-i
-decreases-loop-i l = length l.part - l.i
+abbrev pub invariant-loop-pair : goal.invariant-loop-pair
+invariant-loop-pair l = Pieces (in_pairs l.c) 2 l.part l.pair-iterator

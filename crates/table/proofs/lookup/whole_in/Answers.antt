@@ -1,4 +1,3 @@
-use Prim.Native.Nat.{◌-◌}
 use mathlib.Core.Path.{sym, ◌∙◌}
 use native.Mathlib.Omega.{arith}
 use Rattle.table.proofs.Searches.{whole_start, whole_here, whole_room, confused_fits, whole_hit, whole_on, whole-stop}
