@@ -79,6 +79,7 @@ pub fn firsts_order(part: &[u32]) -> FirstsOrder
     let mut floor: u32 = 0;
     let mut places = no_marks();
     let mut numbers = no_marks();
+    // by hand: a record's length is its own, and the place goes on by it
     while here.place < part.len() {
         let at = here.place;
         let n = part[at] as usize;
@@ -101,8 +102,8 @@ pub fn firsts_order(part: &[u32]) -> FirstsOrder
     }
     FirstsOrder {
         order: order_of(steady),
-        places: places,
-        numbers: numbers,
+        places,
+        numbers,
     }
 }
 
@@ -143,26 +144,18 @@ fn pass_below(part: &[u32], from: Start, n: usize, stop: usize, e: u32) -> Start
     let step = n + 1;
     let mut at = from.place;
     let mut number = from.number;
+    // by hand: the walk goes on by the length of its records, and hands on its place
     while at < stop {
         if part[at] as usize != n {
-            return Start {
-                place: at,
-                number: number,
-            };
+            return Start { place: at, number };
         }
         if part[at + 1] >= e {
-            return Start {
-                place: at,
-                number: number,
-            };
+            return Start { place: at, number };
         }
         at += step;
         number += 1;
     }
-    Start {
-        place: at,
-        number: number,
-    }
+    Start { place: at, number }
 }
 
 // Where a search for sequences that match from e on starts. In a section that is sorted it is the first record whose first item is not below
@@ -178,6 +171,7 @@ pub fn seek(part: &[u32], sorted: bool, places: Marks, numbers: Marks, e: u32) -
     let first = latest(part, start, places.a, numbers.a, e);
     let found = latest(part, first, places.b, numbers.b, e);
     let mut here = found;
+    // by hand: a record's length is its own, and the place goes on by it
     while here.place < part.len() {
         let at = here.place;
         if part[at + 1] >= e {

@@ -43,6 +43,7 @@ fn skip_run(part: &[u32], from: usize, n: usize, stop: usize, sorted: bool, c: u
 {
     let step = n + 2;
     let mut at = from;
+    // by hand: the walk goes on by the length of its records, and hands on its place
     while at < stop {
         if part[at + 1] as usize != n {
             return at;
@@ -67,6 +68,7 @@ pub fn items_by(part: &[u32], sorted: bool, marks: Marks, c: u32) -> Option<Span
         let first = latest(part, 0, marks.a, c);
         i = latest(part, first, marks.b, c);
     }
+    // by hand: a record's length is its own, and the place goes on by it
     while i < part.len() {
         let head = part[i];
         let n = part[i + 1] as usize;

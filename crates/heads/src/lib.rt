@@ -31,7 +31,7 @@ fn faulty(marks: Marks) -> HeadsOrder
 {
     HeadsOrder {
         order: Order::Fault,
-        marks: marks,
+        marks,
     }
 }
 
@@ -55,24 +55,17 @@ fn pass_run(part: &[u32], walk: HeadsWalk, n: usize, stop: usize) -> HeadsWalk
     let mut at = walk.at;
     let mut floor = walk.floor;
     let mut rising = walk.rising;
+    // by hand: the walk goes on by the length of its records, and hands on its place
     while at < stop {
         if part[at + 1] as usize != n {
-            return HeadsWalk {
-                at: at,
-                floor: floor,
-                rising: rising,
-            };
+            return HeadsWalk { at, floor, rising };
         }
         let head = part[at] as u64;
         rising = rising & (floor <= head);
         floor = head + 1;
         at += step;
     }
-    HeadsWalk {
-        at: at,
-        floor: floor,
-        rising: rising,
-    }
+    HeadsWalk { at, floor, rising }
 }
 
 // Whether the words are records of at most so many items each, one behind the other, and whether their heads ascend. A mark is set at the
@@ -89,6 +82,7 @@ pub fn heads_order(part: &[u32], most: usize) -> HeadsOrder
     };
     let mut next = gap;
     let mut marks = no_marks();
+    // by hand: a record's length is its own, and the place goes on by it
     while walk.at < part.len() {
         let at = walk.at;
         if next <= at {
@@ -108,6 +102,6 @@ pub fn heads_order(part: &[u32], most: usize) -> HeadsOrder
     }
     HeadsOrder {
         order: order_of(walk.rising),
-        marks: marks,
+        marks,
     }
 }
