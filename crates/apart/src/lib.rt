@@ -43,14 +43,12 @@ pub fn pairs_order(part: &[u32]) -> Order
     let mut end = part[1];
     let mut fits = part[0] <= end;
     let mut apart = true;
-    let mut i: usize = 1;
-    while i < n {
+    for i in 1..n {
         let first = part[i * 2];
         let last = part[i * 2 + 1];
         fits = fits & (first <= last);
         apart = apart & (end < first);
         end = last;
-        i += 1;
     }
     order_if(whole & fits, apart)
 }
@@ -67,14 +65,12 @@ pub fn triples_order(part: &[u32]) -> Order
     let mut end = part[1];
     let mut fits = (part[0] <= end) & (part[2] <= MOST_CLASS);
     let mut apart = true;
-    let mut i: usize = 1;
-    while i < n {
+    for i in 1..n {
         let from = part[i * 3];
         let to = part[i * 3 + 1];
         fits = fits & ((from <= to) & (part[i * 3 + 2] <= MOST_CLASS));
         apart = apart & (end < from);
         end = to;
-        i += 1;
     }
     order_if(whole & fits, apart)
 }

@@ -1,4 +1,3 @@
-use Prim.Native.Nat.{◌-◌}
 use Rattle.apart.proofs.Walks.{none_seen, seen_start, seen_on, seen_stop, pairs}
 use Rattle.apart.proofs.pairs_order.Goals as goal
 

@@ -1,4 +1,3 @@
-use Prim.Native.Nat.{◌-◌}
 use Rattle.apart.proofs.Walks.{none_seen, seen_start, seen_on, seen_stop, triples}
 use Rattle.apart.proofs.triples_order.Goals as goal
 
