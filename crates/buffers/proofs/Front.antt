@@ -2,10 +2,10 @@
 use Prim.Native.Nat.{ℕ, ◌+◌, ◌<◌, ◌≤◌}
 use native.Mathlib.Numerals.{add-one}
 use native.Mathlib.Omega.{arith}
-use mathlib.Core.Path.{◌≡◌, refl, sym}
-use mathlib.Core.List.{List, [], ◌∷◌, ◌++◌, append-nil}
-use lib.ListN.{length, set, get_or, take, drop, replicate, length-append, length-set, drop_of_length-le, replicate-append-replicate}
-use lib.Seq.{drop-cons, take-suc, take_all, set_at, append_snoc}
+use mathlib.Core.Path.{◌≡◌, refl}
+use mathlib.Core.List.{List, [], ◌∷◌, ◌++◌}
+use lib.ListN.{length, set, get_or, drop, length-append, length-set}
+use lib.Seq.{drop-cons, set_at, append_snoc}
 
 -- `now` is `done`, which has i elements, and then what `old` has from i on
 pub record Front {A : Type 0} (done old now : List A) (i : ℕ) : Type 0 where
@@ -27,27 +27,3 @@ module _ {A : Type 0} where
         room = omega arith;
         same = rw (length-set, f.same);
       }
-
-  -- one value, stored again and again
-  pub front_fill : {old now : List A} {i : ℕ} (v : A) → Front (replicate i v) old now i → i < length old → Front (replicate (i + 1) v) old (set now i v) (i + 1)
-  front_fill {old} {now} {i} v f h = rw (replicate-append-replicate i 1 v) at (front_more v f h)
-
-  -- .. to the end
-  pub front_filled : {old now : List A} {i : ℕ} (v : A) → Front (replicate i v) old now i → length old ≤ i → now ≡ replicate (length old) v
-  front_filled {old} {now} {i} v f h =
-      let e : length old ≡ i = omega arith in
-      rw (f.holds, drop_of_length-le old {i = i} h, append-nil, e)
-
-  -- the values of another list, in order; `d` stands for what is past its end
-  pub front_copy : (src : List A) {old now : List A} {i : ℕ} (d : A) → Front (take i src) old now i → i < length src → i < length old
-      → Front (take (i + 1) src) old (set now i (get_or src i d)) (i + 1)
-  front_copy src {old} {now} {i} d f g h =
-      let e : take i src ++ (get_or src i d ∷ []) ≡ take (i + 1) src = rw (add-one i, take-suc src i d g) in
-      rw e at (front_more (get_or src i d) f h)
-
-  -- .. to its end
-  pub front_copied : (src : List A) {old now : List A} {i : ℕ} → Front (take i src) old now i → length src ≤ i → now ≡ src ++ drop (length src) old
-  front_copied src {old} {now} {i} f h =
-      let whole : take i src ≡ src = take_all i src h in
-      let e : i ≡ length src = sym (rw whole at f.long) in
-      rw (f.holds, whole, e)

@@ -1,5 +1,4 @@
 pub mod Front
 pub mod Parts
-pub mod Comparison
 pub mod Written
 pub mod Wiping

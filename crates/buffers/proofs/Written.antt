@@ -61,7 +61,7 @@ writes_within m {text} {before} {part} {r} h w =
       room = omega (arith, w.room, length-take-le m before h);
     }
 
--- a text is copied, as `copy_bytes` does
+-- a text is copied, as `copy_into` does
 pub copied : {text before after : List ℕ} → after ≡ text ++ drop (length text) before → length text ≤ length before
     → Writes text before after (length text)
 copied e h = record { holds = e; long = refl; room = h }

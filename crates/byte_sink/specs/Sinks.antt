@@ -1,5 +1,5 @@
 -- What was put into a buffer, as far as there is room.
-use Rattle.std.specs.Prelude.{ℕ, ◌+◌, ◌≤◌, ◌<◌, ◌≡◌, true, false, List, ◌++◌, length, take}
+use Rattle.std.specs.Prelude.{ℕ, ◌≤◌, ◌<◌, ◌≡◌, true, false, List, ◌++◌, length, take}
 use Rattle.byte_sink.specs.declared.Sink.{Sink}
 
 -- all that was done stands in front

@@ -38,10 +38,8 @@ pub fn put_word(out: &mut [u8], sink: Sink, word: &[u8]) -> Sink
     ensures { Adds out.old out.new word.now sink result }
 {
     let mut r = sink;
-    let mut i = 0;
-    while i < word.len() {
-        r = put(out, r, word[i]);
-        i += 1;
+    for &b in word {
+        r = put(out, r, b);
     }
     r
 }

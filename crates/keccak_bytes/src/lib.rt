@@ -18,7 +18,7 @@ pub fn xor_byte(lanes: &mut [u64; 25], place: usize, byte: u8)
     ensures { lanes.new ≡ xor_byte lanes.old place byte }
 {
     let shift = 8 * (place % 8);
-    lanes[place / 8] = lanes[place / 8] ^ (byte as u64) << shift as u64;
+    lanes[place / 8] ^= (byte as u64) << shift as u64;
 }
 
 // The first 32 bytes of the state.
@@ -26,11 +26,9 @@ pub fn squeeze(lanes: &[u64; 25]) -> Digest
     ensures { result.bytes ≡ squeezed lanes.now }
 {
     let mut bytes = [0u8; 32];
-    let mut i = 0;
-    while i < 32 {
+    for i in 0..32 {
         let shift = 8 * (i % 8);
         bytes[i] = (lanes[i / 8] >> shift as u64 & 0xFF) as u8;
-        i += 1;
     }
     Digest { bytes }
 }

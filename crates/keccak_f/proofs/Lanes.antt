@@ -1,12 +1,12 @@
 -- The lanes of each step by their places in the state: what the code writes at place i is the lane that the definition has there.
-use Prim.Native.Nat.{ℕ, ◌+◌, ◌*◌, ◌/◌, ◌%◌, ◌<◌}
+use Prim.Native.Nat.{ℕ, ◌+◌, ◌*◌, ◌/◌, ◌%◌, ◌<◌, ◌≤◌}
 use native.Mathlib.Omega.{arith}
-use native.Mathlib.Numerals.{unary_clauses}
 use mathlib.Core.Path.{◌≡◌, sym, ap, ap₂, ◌∙◌}
-use mathlib.Core.List.{List, [], ◌∷◌}
-use lib.ListN.{length, get_or, set}
-use lib.Seq.{sets}
-use Rattle.keccak_f.specs.Tabulate.{tabulate, tabulate-same, get_d_tabulate}
+use mathlib.Core.List.{List, ◌++◌, append_assoc}
+use lib.ListN.{length, get_or, take, drop}
+use lib.Seq.{sets, sets-eq, drop-drop}
+use borrow.Rule.Slice.PartMut.{put_mid}
+use Rattle.keccak_f.specs.Tabulate.{Filling, fill_part, tabulate, tabulate-same, get_d_tabulate}
 use Rattle.keccak_f.specs.Permutation.{◌⊕◌, lane, parity, rotate, offsets, chi_lane}
 use Rattle.keccak_f.specs.Rows.{row_at, theta_row, chi_row}
 
@@ -52,17 +52,20 @@ module _ (a : List ℕ) (i : ℕ) (z : i % 5 ≡ 0) (h : i < 25) where
       (λ k l. ap₂ (λ (x y : ℕ). chi_lane x y (get_or (row_at a i) ((k + 2) % 5) 0)) (sym (of_row k l)) (sym (on_row k 1 l))
       ∙ ap (λ (y : ℕ). chi_lane (lane a ((i + k) % 5) ((i + k) / 5)) (lane a ((i + k) % 5 + 1) ((i + k) / 5)) y) (sym (on_row k 2 l)))
 
--- five stores are the row put in
-pub five_stores : (b r : List ℕ) (i : ℕ) → length r ≡ 5
-    → set (set (set (set (set b i (get_or r 0 0)) (i + 1) (get_or r 1 0)) (i + 2) (get_or r 2 0)) (i + 3) (get_or r 3 0)) (i + 4) (get_or r 4 0)
-    ≡ sets b i r
-five_stores b [] i e = absurd (omega (arith, e))
-five_stores b (v₀ ∷ []) i e = absurd (omega (arith, e))
-five_stores b (v₀ ∷ v₁ ∷ []) i e = absurd (omega (arith, e))
-five_stores b (v₀ ∷ v₁ ∷ v₂ ∷ []) i e = absurd (omega (arith, e))
-five_stores b (v₀ ∷ v₁ ∷ v₂ ∷ v₃ ∷ []) i e = absurd (omega (arith, e))
-five_stores b (v₀ ∷ v₁ ∷ v₂ ∷ v₃ ∷ v₄ ∷ []) i e = simp unary_clauses
-five_stores b (v₀ ∷ v₁ ∷ v₂ ∷ v₃ ∷ v₄ ∷ v₅ ∷ r) i e = absurd (omega (arith, e))
+-- a row copied to the place i on is put in there
+pub row_put : (b r ys : List ℕ) (i k : ℕ) → ys ≡ r → k ≡ length r → i + length r ≤ length b → put_mid i k b ys ≡ sets b i r
+row_put b r ys i k e f h =
+    ap₂ (λ (m : ℕ) (x : List ℕ). take i b ++ (x ++ drop m (drop i b))) f e
+    ∙ ap (λ (x : List ℕ). take i b ++ (r ++ x)) (drop-drop (length r) i b)
+    ∙ sym (append_assoc (take i b) r (drop (i + length r) b))
+    ∙ sym (sets-eq r b i h)
+
+-- the row y put in
+pub row_filled : {f : ℕ → ℕ} {y : ℕ} {b b' : List ℕ} (r : List ℕ) → y < 5 → r ≡ tabulate 5 (λ k. f (5 * y + k)) → b' ≡ sets b (5 * y) r
+    → Filling f 25 (5 * y) b → Filling f 25 (5 * (y + 1)) b'
+row_filled {f} {y} {b} {b'} r h e w p =
+    let next : 5 * y + 5 ≡ 5 * (y + 1) = omega arith in
+    rw next at (fill_part 5 r (omega arith) e w p)
 
 -- where a column's lanes stand
 pub column : (a : List ℕ) (x : ℕ) → x < 5

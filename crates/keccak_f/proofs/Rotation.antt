@@ -1,22 +1,30 @@
--- A rotation by shifts.
-use Prim.Native.Nat.{ℕ, ◌+◌, ◌-◌, ◌*◌, ◌/◌, ◌%◌, ◌^◌, ◌<◌}
+-- What the library says of a rotation is the rotation of the definition.
+use Prim.Native.Nat.{ℕ, zero, suc, ◌+◌, ◌-◌, ◌*◌, ◌/◌, ◌%◌, ◌^◌, ◌<◌}
 use native.Mathlib.Omega.{arith}
 use mathlib.Core.Path.{◌≡◌, sym, ap, ap₂, ◌∙◌, subst}
-use lib.Pow.{shr-shr}
-use lib.Bits.{bit_or}
+use lib.Bits.{bit_or, or_self}
+use native.Mathlib.Nat.{add-zero, mul-one, mod-eq_of_lt, div-eq_of_lt}
+use Rattle.std.specs.Int.{w64, rotate_left}
 use Rattle.bits.specs.Fields.{shifted_out, turned}
 use Rattle.keccak_f.specs.Permutation.{rotate}
 
--- down by 64 - n places in two shifts, each below the width
-pub shifts_rotate : (a n : ℕ) → a < 2 ^ 64 → n < 64 → bit_or (a * 2 ^ n % 2 ^ 64) (a / 2 / 2 ^ (63 - n)) ≡ rotate a n
+-- what the library says of a turn by less than the width
+pub turns_rotate : (a n : ℕ) → a < 2 ^ 64 → n < 64 → rotate_left w64 a n ≡ rotate a n
 unfolding rotate
-shifts_rotate a n h l =
+turns_rotate a zero h l =
+    let same : a * 1 % 2 ^ 64 ≡ a = rw (mul-one a) (mod-eq_of_lt h) in
+    let whole : a / 1 ≡ a = omega arith in
+    let none : a / 2 ^ 64 ≡ 0 = div-eq_of_lt h in
+    ap₂ bit_or same whole ∙ or_self a ∙ sym (ap₂ (λ (x y : ℕ). x + y) same none ∙ add-zero a)
+turns_rotate a (suc m) h l =
+    let n = suc m in
     let j = 64 - n in
     let width : 64 ≡ j + n = omega arith in
     let other : 64 ≡ n + j = omega arith in
     let small : a < 2 ^ (n + j) = subst (λ (w : ℕ). a < 2 ^ w) other h in
-    let up : a * 2 ^ n % 2 ^ 64 ≡ a * 2 ^ n % 2 ^ (j + n) = ap (λ (w : ℕ). a * 2 ^ n % 2 ^ w) width in
-    let down : a / 2 / 2 ^ (63 - n) ≡ a / 2 ^ j = shr-shr a 1 (63 - n) ∙ ap (λ (k : ℕ). a / 2 ^ k) (omega arith) in
-    ap₂ bit_or up down
+    let places : n % 64 ≡ n = omega arith in
+    let back : (64 - n % 64) % 64 ≡ j = omega arith in
+    let up : a * 2 ^ (n % 64) % 2 ^ 64 ≡ a * 2 ^ n % 2 ^ (j + n) = ap₂ (λ (k w : ℕ). a * 2 ^ k % 2 ^ w) places width in
+    ap₂ bit_or up (ap (λ (k : ℕ). a / 2 ^ k) back)
     ∙ turned j n small
-    ∙ ap (λ (x : ℕ). x + a / 2 ^ j) (sym (up ∙ shifted_out j n a))
+    ∙ ap (λ (x : ℕ). x + a / 2 ^ j) (sym (ap (λ (w : ℕ). a * 2 ^ n % 2 ^ w) width ∙ shifted_out j n a))

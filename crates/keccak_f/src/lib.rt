@@ -12,7 +12,7 @@ pub fn rotate_left(a: u64, n: u64) -> u64
     requires { n < 64 }
     ensures { result ≡ rotate a n }
 {
-    a << n | a >> 1 >> 63 - n
+    a.rotate_left(n as u32)
 }
 
 // The parity of each column.
@@ -20,10 +20,8 @@ fn parities(a: &[u64; 25]) -> [u64; 5]
     ensures { result ≡ parities a.now }
 {
     let mut c = [0u64; 5];
-    let mut x = 0;
-    while x < 5 {
+    for x in 0..5 {
         c[x] = a[x] ^ a[x + 5] ^ a[x + 10] ^ a[x + 15] ^ a[x + 20];
-        x += 1;
     }
     c
 }
@@ -33,10 +31,8 @@ fn effects(c: &[u64; 5]) -> [u64; 5]
     ensures { result ≡ effects c.now }
 {
     let mut d = [0u64; 5];
-    let mut x = 0;
-    while x < 5 {
+    for x in 0..5 {
         d[x] = c[(x + 4) % 5] ^ rotate_left(c[(x + 1) % 5], 1);
-        x += 1;
     }
     d
 }
@@ -54,11 +50,7 @@ fn put_row(b: &mut [u64; 25], i: usize, r: [u64; 5])
     requires { i + 5 ≤ 25 }
     ensures { b.new ≡ sets b.old i r }
 {
-    b[i] = r[0];
-    b[i + 1] = r[1];
-    b[i + 2] = r[2];
-    b[i + 3] = r[3];
-    b[i + 4] = r[4];
+    b[i..i + 5].copy_from_slice(&r);
 }
 
 // What theta makes of a row.
@@ -80,11 +72,9 @@ pub fn theta(a: &[u64; 25]) -> [u64; 25]
     let c = parities(a);
     let d = effects(&c);
     let mut b = [0u64; 25];
-    let mut i = 0;
-    while i < 25 {
-        let r = theta_row(row(a, i), d);
-        put_row(&mut b, i, r);
-        i += 5;
+    for y in 0..5 {
+        let r = theta_row(row(a, 5 * y), d);
+        put_row(&mut b, 5 * y, r);
     }
     b
 }
@@ -106,11 +96,9 @@ pub fn chi(b: &[u64; 25]) -> [u64; 25]
     ensures { result ≡ chi b.now }
 {
     let mut a = [0u64; 25];
-    let mut i = 0;
-    while i < 25 {
-        let r = chi_row(row(b, i));
-        put_row(&mut a, i, r);
-        i += 5;
+    for y in 0..5 {
+        let r = chi_row(row(b, 5 * y));
+        put_row(&mut a, 5 * y, r);
     }
     a
 }

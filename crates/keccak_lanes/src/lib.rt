@@ -22,10 +22,8 @@ pub fn rho(a: &[u64; 25]) -> [u64; 25]
 {
     let offsets = OFFSETS;
     let mut b = [0u64; 25];
-    let mut i = 0;
-    while i < 25 {
+    for i in 0..25 {
         b[i] = rotate_left(a[i], offsets[i]);
-        i += 1;
     }
     b
 }
@@ -36,10 +34,8 @@ pub fn pi(a: &[u64; 25]) -> [u64; 25]
 {
     let sources = SOURCES;
     let mut b = [0u64; 25];
-    let mut i = 0;
-    while i < 25 {
+    for i in 0..25 {
         b[i] = a[sources[i]];
-        i += 1;
     }
     b
 }
@@ -47,6 +43,6 @@ pub fn pi(a: &[u64; 25]) -> [u64; 25]
 pub fn iota(mut a: [u64; 25], rc: u64) -> [u64; 25]
     ensures { result ≡ iota a rc }
 {
-    a[0] = a[0] ^ rc;
+    a[0] ^= rc;
     a
 }

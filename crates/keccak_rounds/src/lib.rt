@@ -49,11 +49,8 @@ fn round(a: &[u64; 25], rc: u64) -> [u64; 25]
 pub fn permute(mut a: [u64; 25]) -> [u64; 25]
     ensures { result ≡ keccak_f a }
 {
-    let constants = ROUND_CONSTANTS;
-    let mut i = 0;
-    while i < 24 {
-        a = round(&a, constants[i]);
-        i += 1;
+    for rc in ROUND_CONSTANTS {
+        a = round(&a, rc);
     }
     a
 }

@@ -40,15 +40,13 @@ impl Keccak256 {
     {
         let mut lanes = self.lanes;
         let mut fill = self.fill % RATE;
-        let mut i = 0;
-        while i < bytes.len() {
-            xor_byte(&mut lanes, fill, bytes[i]);
+        for &b in bytes {
+            xor_byte(&mut lanes, fill, b);
             fill += 1;
             if fill == RATE {
                 lanes = permute(lanes);
                 fill = 0;
             }
-            i += 1;
         }
         self.lanes = lanes;
         self.fill = fill;

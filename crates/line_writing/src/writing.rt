@@ -23,7 +23,7 @@ pub fn write_word(word: &[u8], out: &mut [u8]) -> usize
     requires { length word.now ≤ length out.old }
     ensures { Writes word.now out.old out.new result }
 {
-    buffers::copy_bytes(out, word);
+    buffers::copy_into(out, word);
     word.len()
 }
 

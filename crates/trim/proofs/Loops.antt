@@ -60,12 +60,14 @@ module _ (s : List ℕ) (n : ℕ) (behind : off_back s ≡ off_back (take n s)) 
       let e : off_back s ≡ take n s = behind ∙ ap off_back last ∙ off_other (take (n - 1) s) (get_or s (n - 1) 0) b ∙ sym last in
       rw (e, length-take-le n s room)
 
+-- the loop starts behind the last codepoint
+pub back_all : (s : List ℕ) → off_back s ≡ off_back (take (length s) s)
+back_all s = ap off_back (sym (take_all (length s) s (omega arith)))
+
 -- nothing but blanks
-pub back_end : (s : List ℕ) (n : ℕ) → off_back s ≡ off_back (take n s) → n ≤ 0 → n ≡ length (off_back s)
+pub back_end : (s : List ℕ) (n : ℕ) → off_back s ≡ off_back (take n s) → n ≤ 0 → 0 ≡ length (off_back s)
 unfolding off_back off_front
-back_end s n e h =
-    let z : n ≡ 0 = omega arith in
-    z ∙ sym (ap length (rw z at e))
+back_end s n e h = let z : n ≡ 0 = omega arith in sym (ap length (rw z at e))
 
 -- `&s[start..]`, and the front of it that is not blanks at the back
 module _ (s : List ℕ) (start n : ℕ) (e : start ≡ start_of s) where

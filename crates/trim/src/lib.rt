@@ -13,50 +13,35 @@ pub struct Part {
 }
 
 // 9, A, D and 20 are blanks.
+#[tactic(auto, unfolding(crate::specs::Trim::is_blank))]
 pub fn is_blank(c: u32) -> bool
     ensures { result ≡ is_blank c }
 {
-    if c == 0x9 {
-        return true;
-    }
-    if c == 0xA {
-        return true;
-    }
-    if c == 0xD {
-        return true;
-    }
-    if c == 0x20 {
-        return true;
-    }
-    false
+    c == 0x9 || c == 0xA || c == 0xD || c == 0x20
 }
 
 // The place of the first codepoint that is no blank, the length where there is none.
 fn start_of(input: &[u32]) -> usize
     ensures { result ≡ start_of input.now }
 {
-    let mut i = 0;
-    while i < input.len() {
-        if !is_blank(input[i]) {
+    for (i, &c) in input.iter().enumerate() {
+        if !is_blank(c) {
             return i;
         }
-        i += 1;
     }
-    i
+    input.len()
 }
 
 // The length that remains when the blanks at the back are taken off.
 fn length_of(rest: &[u32]) -> usize
     ensures { result ≡ length (off_back rest.now) }
 {
-    let mut n = rest.len();
-    while 0 < n {
-        if !is_blank(rest[n - 1]) {
-            return n;
+    for i in (0..rest.len()).rev() {
+        if !is_blank(rest[i]) {
+            return i + 1;
         }
-        n -= 1;
     }
-    n
+    0
 }
 
 // The part that remains.

@@ -1,11 +1,7 @@
 -- `squeeze`: the first i bytes are written.
-use Prim.Native.Nat.{◌-◌, ◌≤◌}
 use Rattle.keccak_f.specs.Tabulate.{Filling}
 use Rattle.keccak_bytes.specs.Sponge.{byte_at}
 use Rattle.keccak_bytes.proofs.squeeze.Given as goal
 
 abbrev pub invariant-loop-i : goal.invariant-loop-i
-invariant-loop-i l = (l.i ≤ 32) × Filling (byte_at l.lanes) 32 l.i l.bytes
-
-abbrev pub decreases-loop-i : goal.decreases-loop-i
-decreases-loop-i l = 32 - l.i
+invariant-loop-i l = Filling (byte_at l.lanes) 32 l.i l.bytes

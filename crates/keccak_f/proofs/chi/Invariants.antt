@@ -1,12 +1,8 @@
--- `chi`: the rows before i are done, and i is the start of a row.
-use Prim.Native.Nat.{◌≤◌, ◌-◌, ◌%◌}
-use mathlib.Core.Path.{◌≡◌}
+-- `chi`: the first y rows are done.
+use Prim.Native.Nat.{◌*◌}
 use Rattle.keccak_f.specs.Tabulate.{Filling}
 use Rattle.keccak_f.proofs.Lanes.{chi_at}
 use Rattle.keccak_f.proofs.chi.Given as goal
 
-abbrev pub invariant-loop-i : goal.invariant-loop-i
-invariant-loop-i l = (l.i ≤ 25) × (l.i % 5 ≡ 0) × Filling (chi_at l.b) 25 l.i l.a
-
-abbrev pub decreases-loop-i : goal.decreases-loop-i
-decreases-loop-i l = 25 - l.i
+abbrev pub invariant-loop-y : goal.invariant-loop-y
+invariant-loop-y l = Filling (chi_at l.b) 25 (5 * l.y) l.a

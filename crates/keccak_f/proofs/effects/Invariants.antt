@@ -1,11 +1,7 @@
 -- `effects`: the first x effects are written.
-use Prim.Native.Nat.{◌≤◌, ◌-◌}
 use Rattle.keccak_f.specs.Permutation.{effect}
 use Rattle.keccak_f.specs.Tabulate.{Filling}
 use Rattle.keccak_f.proofs.effects.Given as goal
 
 abbrev pub invariant-loop-x : goal.invariant-loop-x
-invariant-loop-x l = (l.x ≤ 5) × Filling (effect l.c) 5 l.x l.d
-
-abbrev pub decreases-loop-x : goal.decreases-loop-x
-decreases-loop-x l = 5 - l.x
+invariant-loop-x l = Filling (effect l.c) 5 l.x l.d

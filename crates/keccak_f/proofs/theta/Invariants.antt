@@ -1,12 +1,8 @@
--- `theta`: the rows before i are done, and i is the start of a row.
-use Prim.Native.Nat.{◌≤◌, ◌-◌, ◌%◌}
-use mathlib.Core.Path.{◌≡◌}
+-- `theta`: the first y rows are done.
+use Prim.Native.Nat.{◌*◌}
 use Rattle.keccak_f.specs.Tabulate.{Filling}
 use Rattle.keccak_f.proofs.Lanes.{theta_at}
 use Rattle.keccak_f.proofs.theta.Given as goal
 
-abbrev pub invariant-loop-i : goal.invariant-loop-i
-invariant-loop-i l = (l.i ≤ 25) × (l.i % 5 ≡ 0) × Filling (theta_at l.a l.d) 25 l.i l.b
-
-abbrev pub decreases-loop-i : goal.decreases-loop-i
-decreases-loop-i l = 25 - l.i
+abbrev pub invariant-loop-y : goal.invariant-loop-y
+invariant-loop-y l = Filling (theta_at l.a l.d) 25 (5 * l.y) l.b

@@ -1,4 +1,4 @@
-use Prim.Native.Nat.{ℕ, ◌-◌}
+use Prim.Native.Nat.{ℕ}
 use native.Mathlib.Omega.{arith}
 use mathlib.Core.Path.{ap}
 use lib.ListN.{get_or}
@@ -10,9 +10,8 @@ use Rattle.keccak_lanes.proofs.pi.Goals as goal
 pub loop-i-preserved : goal.loop-i-preserved
 unfolding sources
 loop-i-preserved c =
-    let l = c in
-    (omega arith, fill_more _ (omega arith) (ap (λ (j : ℕ). get_or l.args.a.now j 0) (source l.loop-i.i (omega arith))) l.loop-i.invariant.1)
+    fill_more _ (omega arith) (ap (λ (j : ℕ). get_or c.args.a.now j 0) (source c.loop-i.i (omega arith))) c.loop-i.invariant
 
 pub returns : goal.returns
 unfolding pi lanes
-returns c = fill_stop (omega arith) c.loop-i.invariant.1
+returns c = fill_stop (omega arith) c.loop-i.invariant

@@ -1,18 +1,18 @@
 use mathlib.Core.Path.{sym, ◌∙◌}
 use native.Mathlib.Omega.{arith}
-use borrow.Author.Tests.{not-true, not-false}
-use Rattle.trim.proofs.Loops.{back_more, back_stop, back_end}
+use Rattle.trim.proofs.Loops.{back_all, back_more, back_stop, back_end}
 use Rattle.trim.proofs.length_of.Goals as goal
+
+pub loop-i-init : goal.loop-i-init
+loop-i-init c = back_all _
 
 pub returns-then-not-is_blank : goal.returns-then-not-is_blank
 returns-then-not-is_blank c =
-    let other = sym c.is_blank.ensures ∙ not-true _ c.if-not-is_blank.true-raw in
-    back_stop _ _ c.loop-n.invariant.1 (omega arith) (omega arith) other
+    omega (arith, back_stop _ _ c.loop-i.invariant c.loop-i-test.true c.loop-i.auto.i (sym c.is_blank.ensures ∙ c.if-not-is_blank.true))
 
-pub loop-n-preserved : goal.loop-n-preserved
-loop-n-preserved c =
-    let blank = sym c.is_blank.ensures ∙ not-false _ c.if-not-is_blank.false-raw in
-    (omega arith, back_more _ _ c.loop-n.invariant.1 (omega arith) (omega arith) blank)
+pub loop-i-preserved : goal.loop-i-preserved
+loop-i-preserved c =
+    back_more _ _ c.loop-i.invariant c.loop-i-test.true c.loop-i.auto.i (sym c.is_blank.ensures ∙ c.if-not-is_blank.false)
 
 pub returns : goal.returns
-returns c = back_end _ _ c.loop-n.invariant.1 (omega arith)
+returns c = back_end _ _ c.loop-i.invariant c.loop-i-test.false

@@ -1,12 +1,8 @@
--- `length_of`: the codepoints from n on are blanks.
-use Prim.Native.Nat.{◌≤◌}
+-- `length_of`: the codepoints from i on are blanks.
 use mathlib.Core.Path.{◌≡◌}
-use lib.ListN.{length, take}
+use lib.ListN.{take}
 use Rattle.trim.specs.Trim.{off_back}
 use Rattle.trim.proofs.length_of.Given as goal
 
-abbrev pub invariant-loop-n : goal.invariant-loop-n
-invariant-loop-n l = (l.n ≤ length l.rest) × (off_back l.rest ≡ off_back (take l.n l.rest))
-
-abbrev pub decreases-loop-n : goal.decreases-loop-n
-decreases-loop-n l = l.n
+abbrev pub invariant-loop-i : goal.invariant-loop-i
+invariant-loop-i l = off_back l.rest ≡ off_back (take l.i l.rest)
