@@ -5,6 +5,8 @@ use mathlib.Core.Path.{◌≡◌, refl, sym, ap, ◌∙◌}
 use mathlib.Core.Bool.{Bool, true, false, not, ◌||◌, cond}
 use mathlib.Core.List.{List, [], ◌∷◌}
 use mathlib.Core.Option.{none, some}
+use Rattle.std.specs.Prelude.{Some, None}
+use Rattle.std.specs.Prelude as code
 use lib.ListN.{length, get_or, take, drop, length-drop}
 use lib.Seq.{drop-drop, take_all, take-take, get_or-take, length-take-le}
 use lib.Dec.{eqb}
@@ -15,7 +17,7 @@ use Rattle.buffers.proofs.Parts.{mid_tail}
 use Rattle.book_slots.specs.Book.{form_room, slot_size, Slot, slot_of, slots_of, name_of, has_name, is_free}
 use Rattle.book_slots.specs.Damage.{zeros, slot_damaged, name_twice, damaged}
 use Rattle.book_slots.specs.SlotLaws.{slot_at, slots_long}
-use Rattle.book_slots.specs.Walks.{named_again}
+use Rattle.book_slots.specs.Walks.{named_again, place_is}
 use Rattle.book_slots.proofs.Cuts.{drop-take}
 use Rattle.book_slots.proofs.Walking.{words_at}
 use Rattle.book_slots.proofs.Naming.{name_part}
@@ -142,19 +144,23 @@ module _ (n : ℕ) (ws : List ℕ) where
     slots_again : lent_slots ≡ slots_of n (drop slot_size ws)
     slots_again = rw (mid_tail slot_size ws)
 
-    pub again_found : (i : ℕ) → some i ≡ place_with (has_name lent_name) 0 lent_slots → true ≡ named_again (slots_of (suc n) ws)
+    again_found : (i : ℕ) → some i ≡ place_with (has_name lent_name) 0 lent_slots → true ≡ named_again (slots_of (suc n) ws)
     unfolding named_again slots_of
     again_found i e =
         let t : true ≡ any (has_name (name_of (slot_of (take slot_size ws)))) (slots_of n (drop slot_size ws)) =
         found-any (has_name lent_name) 0 i lent_slots e ∙ rw (name_again, slots_again) in
         sym (rw filed (sym t))
 
-    pub again_none : none ≡ place_with (has_name lent_name) 0 lent_slots → false ≡ named_again (slots_of (suc n) ws)
+    again_none : none ≡ place_with (has_name lent_name) 0 lent_slots → false ≡ named_again (slots_of (suc n) ws)
     unfolding named_again slots_of
     again_none e =
         let t : false ≡ any (has_name (name_of (slot_of (take slot_size ws)))) (slots_of n (drop slot_size ws)) =
         none_any (has_name lent_name) 0 lent_slots e ∙ rw (name_again, slots_again) in
         sym (rw filed (sym t))
+
+    pub again_is : (o : code.Option ℕ) → place_is o ≡ place_with (has_name lent_name) 0 lent_slots → code.is_some o ≡ named_again (slots_of (suc n) ws)
+    again_is (Some i) e = again_found i e
+    again_is None e = again_none e
 
     -- what `find_slot` asks of both
     pub asks_find : length ws ≡ slot_size + slot_size * n

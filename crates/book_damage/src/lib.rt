@@ -7,7 +7,7 @@ ghost use Rattle.book_slots.specs.Book.{slot_size, slot_of, slots_of};
 ghost use Rattle.book_slots.specs.Damage.{slot_damaged, name_twice, damaged};
 ghost use Rattle.book_slots.specs.Walks.{named_again};
 
-use book_slots::slots::{Spot, all_zero, find_slot};
+use book_slots::slots::{all_zero, find_slot};
 use book_slots::{FORM, SLOT};
 
 // Whether a slot is damaged by itself.
@@ -34,14 +34,12 @@ fn any_damaged(slots: &[u32], count: usize) -> bool
     requires { length slots.now ≡ slot_size * count }
     ensures { result ≡ any slot_damaged (slots_of count slots.now) }
 {
-    let mut i = 0;
-    while i < count {
+    for i in 0..count {
         let at = SLOT * i;
         let end = at + SLOT;
         if slot_damaged(&slots[at..end]) {
             return true;
         }
-        i += 1;
     }
     false
 }
@@ -57,10 +55,7 @@ fn named_again(slots: &[u32], behind: usize) -> bool
         return false;
     }
     let end = 1 + n;
-    match find_slot(&slots[SLOT..], behind, &slots[1..end]) {
-        Spot::At(_) => true,
-        Spot::Nothing => false,
-    }
+    find_slot(&slots[SLOT..], behind, &slots[1..end]).is_some()
 }
 
 // Whether two filed slots have one name. Words are compared only where the lengths are equal.
@@ -69,13 +64,11 @@ fn name_twice(slots: &[u32], count: usize) -> bool
     requires slots_value { any slot_damaged (slots_of count slots.now) ≡ false }
     ensures { result ≡ name_twice (slots_of count slots.now) }
 {
-    let mut i = 0;
-    while i < count {
+    for i in 0..count {
         let at = SLOT * i;
         if named_again(&slots[at..], count - i - 1) {
             return true;
         }
-        i += 1;
     }
     false
 }
@@ -85,8 +78,5 @@ pub fn is_damaged(slots: &[u32], count: usize) -> bool
     requires { length slots.now ≡ slot_size * count }
     ensures { result ≡ damaged (slots_of count slots.now) }
 {
-    if any_damaged(slots, count) {
-        return true;
-    }
-    name_twice(slots, count)
+    any_damaged(slots, count) || name_twice(slots, count)
 }

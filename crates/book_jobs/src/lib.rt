@@ -9,7 +9,7 @@ ghost use Rattle.book_jobs.specs.Works.{Works};
 
 use book_answers::{BookAnswer, FindAnswer};
 use book_keeping::{account_at, clear_at, fill_at};
-use book_slots::slots::{Spot, find_slot, spot_for};
+use book_slots::slots::{find_slot, spot_for};
 use book_slots::{Account, SLOTS};
 
 // Files an account under a form.
@@ -18,13 +18,12 @@ pub fn save_in(slots: &mut [u32], form: &[u32], account: Account) -> BookAnswer
     requires form_len_bound { length form.now ≤ form_room }
     ensures { Works (save_in account.words form.now (slots_of slot_count slots.old)) slots.old slots.new (book_values result no_account) }
 {
-    let spot = spot_for(slots, SLOTS, form);
-    match spot {
-        Spot::At(i) => {
+    match spot_for(slots, SLOTS, form) {
+        Some(i) => {
             fill_at(slots, SLOTS, i, form, account);
             BookAnswer::Done
         }
-        Spot::Nothing => BookAnswer::Full,
+        None => BookAnswer::Full,
     }
 }
 
@@ -41,8 +40,7 @@ pub fn find_in(slots: &[u32], form: &[u32]) -> FindAnswer
     requires form_len_bound { length form.now ≤ form_room }
     ensures { Works (find_in form.now (slots_of slot_count slots.now)) slots.now slots.now (book_values result.answer result.account.words) }
 {
-    let spot = find_slot(slots, SLOTS, form);
-    let Spot::At(i) = spot else {
+    let Some(i) = find_slot(slots, SLOTS, form) else {
         return FindAnswer {
             answer: BookAnswer::NotFiled,
             account: no_account(),
@@ -61,8 +59,7 @@ pub fn forget_in(slots: &mut [u32], form: &[u32]) -> BookAnswer
     requires form_len_bound { length form.now ≤ form_room }
     ensures { Works (forget_in form.now (slots_of slot_count slots.old)) slots.old slots.new (book_values result no_account) }
 {
-    let spot = find_slot(slots, SLOTS, form);
-    let Spot::At(i) = spot else {
+    let Some(i) = find_slot(slots, SLOTS, form) else {
         return BookAnswer::NotFiled;
     };
     clear_at(slots, SLOTS, i);

@@ -3,12 +3,14 @@ use Prim.Native.Nat.{ℕ, suc, ◌+◌, ◌-◌, ◌*◌, ◌<◌, ◌≤◌}
 use native.Mathlib.Numerals.{add-one}
 use native.Mathlib.Omega.{arith}
 use mathlib.Core.Path.{◌≡◌, refl, sym, ap, ◌∙◌}
-use mathlib.Core.Bool.{Bool, true, false}
+use mathlib.Core.Bool.{Bool, true, false, ◌&&◌}
 use mathlib.Core.List.{List, [], ◌∷◌}
 use mathlib.Core.Option.{none, some}
-use lib.ListN.{length, get_or, take, drop, drop_of_length-le, length-drop}
-use lib.Seq.{drop-cons, length-take-le, get_or-take, get_or-drop}
+use lib.ListN.{length, get_or, take, drop, length-drop}
+use lib.Seq.{length-take-le, get_or-take, get_or-drop}
+use lib.Dec.{eqb}
 use borrow.Author.Tests.{eq-eqb, ne_eqb}
+use Rattle.std.specs.List.{list_all}
 use Rattle.lists.specs.Lists.{any, place_with}
 use Rattle.buffers.proofs.Parts.{mid_tail}
 use Rattle.book_slots.specs.Book.{slot_size, Slot, slot_of, slots_of, is_free}
@@ -42,10 +44,6 @@ pub record Walk {B : Type 0} (f : ℕ → List Slot → B) (n : ℕ) (ws : List 
 module _ {B : Type 0} (f : ℕ → List Slot → B) (n : ℕ) (ws : List ℕ) where
   pub walk_start : Walk f n ws 0
   walk_start = let e : n - 0 ≡ n = omega arith in record { inside = omega arith; rest = rw e refl }
-
-  -- all n are left
-  pub started : Walk f n ws (n - n)
-  started = let e : n - n ≡ 0 = omega arith in rw e walk_start
 
   pub walk_stop : (i : ℕ) → Walk f n ws i → n ≤ i → f 0 (slots_of n ws) ≡ f i []
   unfolding slots_of
@@ -129,21 +127,7 @@ module _ (n : ℕ) (ws : List ℕ) (i : ℕ) (w : Walk (λ at. name_twice) n ws 
         sym f ∙ e ∙ ap named_again from_here_lem in
         walk_more (λ at. name_twice) n ws i w h (rw (← t))
 
--- a loop over words, which looks whether all are zero
-pub record Zeroed (s : List ℕ) (i : ℕ) : Type 0 where
-  pub inside : i ≤ length s
-  pub rest : zeros s ≡ zeros (drop i s)
-
-module _ (s : List ℕ) (i : ℕ) (z : Zeroed s i) where
-  pub zeros-stop : length s ≤ i → true ≡ zeros s
-  zeros-stop h = sym (z.rest ∙ rw (drop_of_length-le s {i = i} h))
-
-  module _ (h : i < length s) where
-    next_word : drop i s ≡ get_or s i 0 ∷ drop (i + 1) s
-    next_word = rw (add-one i, drop-cons s i 0 h)
-
-    pub zeros_not : (get_or s i 0 ≡ 0 → ⊥) → false ≡ zeros s
-    zeros_not e = sym (z.rest ∙ rw (next_word, ne_eqb (get_or s i 0) 0 e))
-
-    pub zeros_more : get_or s i 0 ≡ 0 → Zeroed s (i + 1)
-    zeros_more e = record { inside = omega arith; rest = z.rest ∙ rw (next_word, eq-eqb (get_or s i 0) 0 e) }
+-- whether all words are zero, in std's words and in those of `lists`
+pub every_zero : (s : List ℕ) → list_all (λ w. eqb w 0) s ≡ zeros s
+every_zero [] = refl
+every_zero (w ∷ s) = ap (λ b. eqb w 0 && b) (every_zero s)

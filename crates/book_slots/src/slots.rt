@@ -7,25 +7,11 @@ ghost use Rattle.book_slots.specs.Walks.{place_is};
 
 use crate::SLOT;
 
-// The number of a slot, from 0.
-#[derive(Clone, Copy)]
-pub enum Spot {
-    At(usize),
-    Nothing,
-}
-
 // Whether every word is zero.
 pub fn all_zero(s: &[u32]) -> bool
     ensures { result ≡ zeros s.now }
 {
-    let mut i = 0;
-    while i < s.len() {
-        if s[i] != 0 {
-            return false;
-        }
-        i += 1;
-    }
-    true
+    s.iter().all(|&w| w == 0)
 }
 
 // Whether the slot has this name. The lengths are compared first.
@@ -42,50 +28,43 @@ fn has_name(slot: &[u32], form: &[u32]) -> bool
     buffers::same(&slot[1..end], form)
 }
 
-// The first slot that has this name.
-pub fn find_slot(slots: &[u32], count: usize, form: &[u32]) -> Spot
+// The number, from 0, of the first slot that has this name.
+pub fn find_slot(slots: &[u32], count: usize, form: &[u32]) -> Option<usize>
     requires slots_len { length slots.now ≡ slot_size * count }
     requires form_len_bound { length form.now ≤ form_room }
     ensures { place_is result ≡ place_with (has_name form.now) 0 (slots_of count slots.now) }
 {
-    let mut i = 0;
-    while i < count {
+    for i in 0..count {
         let at = SLOT * i;
         let end = at + SLOT;
         if has_name(&slots[at..end], form) {
-            return Spot::At(i);
+            return Some(i);
         }
-        i += 1;
     }
-    Spot::Nothing
+    None
 }
 
-// The lowest free slot; `left` slots are still to be looked at.
-pub fn free_slot(slots: &[u32], count: usize) -> Spot
+// The number of the lowest free slot.
+pub fn free_slot(slots: &[u32], count: usize) -> Option<usize>
     requires { length slots.now ≡ slot_size * count }
     ensures { place_is result ≡ place_with is_free 0 (slots_of count slots.now) }
 {
-    let mut left = count;
-    while left > 0 {
-        let i = count - left;
-        let at = SLOT * i;
-        if slots[at] == 0 {
-            return Spot::At(i);
+    for i in 0..count {
+        if slots[SLOT * i] == 0 {
+            return Some(i);
         }
-        left -= 1;
     }
-    Spot::Nothing
+    None
 }
 
 // The slot that has this name, otherwise the lowest free one.
-pub fn spot_for(slots: &[u32], count: usize, form: &[u32]) -> Spot
+pub fn spot_for(slots: &[u32], count: usize, form: &[u32]) -> Option<usize>
     requires slots_len { length slots.now ≡ slot_size * count }
     requires form_len_bound { length form.now ≤ form_room }
     ensures { place_is result ≡ spot_for form.now (slots_of count slots.now) }
 {
-    let found = find_slot(slots, count, form);
-    match found {
-        Spot::At(i) => Spot::At(i),
-        Spot::Nothing => free_slot(slots, count),
+    match find_slot(slots, count, form) {
+        Some(i) => Some(i),
+        None => free_slot(slots, count),
     }
 }

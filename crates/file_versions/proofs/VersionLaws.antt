@@ -6,8 +6,7 @@ use mathlib.Core.Bool.{Bool, true, false, cond}
 use mathlib.Core.Option.{none, some, some-injective, none-ne-some}
 use lib.Dec.{eqb}
 use borrow.Author.Tests.{ne_eqb}
-use Rattle.file_versions.specs.declared.Lacking.{Lacking}
-use Rattle.file_versions.specs.declared.Lacking.TheVariants.{Sections, NotNamed}
+use Rattle.std.specs.Prelude.{Option, Some, None}
 use Rattle.file_versions.specs.Versions.{lacks, Lacks}
 
 -- The rows of the versions.
@@ -27,11 +26,11 @@ pub not_named : (v : ℕ) → (v ≡ 1 → ⊥) → (v ≡ 2 → ⊥) → (v ≡
 not_named v m n o p = rw (ne_eqb v 1 m, ne_eqb v 2 n, ne_eqb v 3 o, ne_eqb v 4 p)
 
 -- what the answer says of a version, where it is known
-pub lack_given : (v : ℕ) (r : Lacking) (k : ℕ) → r ≡ Sections k → Lacks v r → lacks v ≡ some k
-lack_given v r k e h = subst (λ (x : Lacking). Lacks v x) e h
+pub lack_given : (v : ℕ) (r : Option ℕ) (k : ℕ) → r ≡ Some k → Lacks v r → lacks v ≡ some k
+lack_given v r k e h = subst (λ (x : Option ℕ). Lacks v x) e h
 
-pub lack_none : (v : ℕ) (r : Lacking) → r ≡ NotNamed → Lacks v r → lacks v ≡ none
-lack_none v r e h = subst (λ (x : Lacking). Lacks v x) e h
+pub lack_none : (v : ℕ) (r : Option ℕ) → r ≡ None → Lacks v r → lacks v ≡ none
+lack_none v r e h = subst (λ (x : Option ℕ). Lacks v x) e h
 
 -- no version lacks more than two
 pub lacks_few : (v k : ℕ) → lacks v ≡ some k → k ≤ 2

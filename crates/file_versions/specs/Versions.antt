@@ -1,8 +1,7 @@
 -- The versions of a table file. 02, Items 9, 11 and 12.
-use Rattle.std.specs.Prelude.{ℕ, ◌≡◌, cond, eqb}
+use Rattle.std.specs.Prelude.{ℕ, ◌≡◌, cond, eqb, Some, None}
+use Rattle.std.specs.Prelude as code
 use Rattle.std.proofs.Math.Option.{Option, none, some}
-use Rattle.file_versions.specs.declared.Lacking.{Lacking}
-use Rattle.file_versions.specs.declared.Lacking.TheVariants.{Sections, NotNamed}
 
 -- How many sections a file of version v lacks: one row for each version, and none for "versions not yet named". "Files with this thirteenth
 -- section have version 2"; those of version 1 have twelve. Item 11: "the quick-check set as pairs in a fourteenth section, version 3, added empty to
@@ -16,6 +15,6 @@ lacks v =
     none)))
 
 -- What an answer says of a version.
-abbrev pub Lacks : ℕ → Lacking → Type 0
-Lacks v (Sections k) = lacks v ≡ some k
-Lacks v NotNamed = lacks v ≡ none
+abbrev pub Lacks : ℕ → code.Option ℕ → Type 0
+Lacks v (Some k) = lacks v ≡ some k
+Lacks v None = lacks v ≡ none

@@ -3,21 +3,15 @@
 
 ghost use Rattle.file_versions.specs.Versions.{Lacks};
 
-// How many sections a file lacks, by its version.
-#[derive(Clone, Copy)]
-pub enum Lacking {
-    Sections(usize),
-    NotNamed,
-}
-
-pub fn lack_of(version: u8) -> Lacking
+// How many sections a file lacks, by its version; `None` where the version is not yet named.
+pub fn lack_of(version: u8) -> Option<usize>
     ensures { Lacks version result }
 {
     match version {
-        1 => Lacking::Sections(2),
-        2 => Lacking::Sections(1),
-        3 => Lacking::Sections(0),
-        4 => Lacking::Sections(0),
-        _ => Lacking::NotNamed,
+        1 => Some(2),
+        2 => Some(1),
+        3 => Some(0),
+        4 => Some(0),
+        _ => None,
     }
 }

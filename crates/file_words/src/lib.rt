@@ -6,7 +6,7 @@ ghost use Rattle.file_words.specs.FileWords.{word, words_of};
 ghost use Rattle.file_words.specs.Promise.{Inspected};
 
 use answers::Unpacked;
-use file_versions::{Lacking, lack_of};
+use file_versions::lack_of;
 
 // Four bytes, big-endian.
 fn be32(a: u8, b: u8, c: u8, d: u8) -> u32
@@ -22,7 +22,7 @@ pub fn inspect(file: &[u8]) -> Unpacked
     if file.len() == 0 {
         return Unpacked::WrongLength;
     }
-    let Lacking::Sections(lack) = lack_of(file[0]) else {
+    let Some(lack) = lack_of(file[0]) else {
         return Unpacked::WrongVersion;
     };
     if file.len() < 5 {
@@ -41,10 +41,8 @@ pub fn copy_words(bytes: &[u8], count: usize, answer: &mut [u32])
     requires count_in_bounds { count ≤ length answer.old }
     ensures { answer.new ≡ words_of bytes.now ++ drop count answer.old }
 {
-    let mut i = 0;
-    while i < count {
+    for i in 0..count {
         let at = 4 * i;
         answer[i] = be32(bytes[at], bytes[at + 1], bytes[at + 2], bytes[at + 3]);
-        i += 1;
     }
 }

@@ -34,11 +34,9 @@ fn write_numbers(numbers: &[u32], out: &mut [u8]) -> usize
     ensures upper_bound { result ≤ 9 * length numbers.now }
 {
     let mut at = 0;
-    let mut i = 0;
-    while i < numbers.len() {
-        let k = write_spaced(wide(numbers[i]), 16, &mut out[at..]);
+    for &n in numbers {
+        let k = write_spaced(wide(n), 16, &mut out[at..]);
         at += k;
-        i += 1;
     }
     at
 }

@@ -1,4 +1,3 @@
-use Prim.Native.Nat.{◌-◌}
 use native.Mathlib.Omega.{arith}
 use Rattle.book_slots.specs.Damage.{slot_damaged}
 use Rattle.book_slots.proofs.Walking.{part_long, lent, walk_start, any-stop, any_hit, any_more}

@@ -1,5 +1,4 @@
 -- `any_damaged`: none of the first i slots is damaged.
-use Prim.Native.Nat.{◌-◌}
 use Rattle.lists.specs.Lists.{any}
 use Rattle.book_slots.specs.Damage.{slot_damaged}
 use Rattle.book_slots.proofs.Walking.{Walk}
@@ -7,6 +6,3 @@ use Rattle.book_damage.proofs.any_damaged.Given as goal
 
 abbrev pub invariant-loop-i : goal.invariant-loop-i
 invariant-loop-i l = Walk (λ at. any slot_damaged) l.count l.slots l.i
-
-abbrev pub decreases-loop-i : goal.decreases-loop-i
-decreases-loop-i l = l.count - l.i

@@ -1,4 +1,3 @@
-use Prim.Native.Nat.{◌-◌}
 use native.Mathlib.Omega.{arith}
 use Rattle.book_damage.proofs.Damages.{asks_again}
 use Rattle.book_slots.proofs.Walking.{walk_start, twice-stop, twice_hit, twice_more}

@@ -1,38 +1,19 @@
 -- `named_again`: the slots behind the first are searched for its name.
-use Prim.Native.Nat.{◌≤◌}
+use Prim.Native.Nat.{ℕ, ◌≤◌}
 use native.Mathlib.Omega.{arith}
-use mathlib.Core.Path.{sym, ap, ◌∙◌}
+use mathlib.Core.Path.{◌≡◌, ◌∙◌}
+use mathlib.Core.Bool.{false}
+use mathlib.Core.List.{List}
 use lib.ListN.{get_or, take}
 use lib.Seq.{get_or-take}
 use Rattle.book_slots.specs.Book.{form_room, slot_size, slot_of}
-use Rattle.book_slots.specs.Walks.{place_is}
-use Rattle.book_damage.proofs.Damages.{not_too_long, first-free, again_found, again_none, asks_find}
+use Rattle.book_slots.specs.Damage.{slot_damaged}
+use Rattle.book_damage.proofs.Damages.{not_too_long, first-free, again_is, asks_find}
 use Rattle.book_damage.proofs.named_again.Goals as goal
-use Rattle.book_damage.proofs.named_again.Goals.{After-find_slot-arg-1, After-find_slot-arg-2-1, In-At, In-Nothing}
 
 -- the length of the first slot's name
-short-at-After-find_slot-arg-1 : (s : After-find_slot-arg-1) → get_or s.args.slots.now 0 0 ≤ form_room
-short-at-After-find_slot-arg-1 s =
-    omega
-    (arith, not_too_long (slot_of (take slot_size s.args.slots.now)) s.requires.slots_value, get_or-take slot_size s.args.slots.now 0 0 (omega arith))
-
--- the length of the first slot's name
-short-at-After-find_slot-arg-2-1 : (s : After-find_slot-arg-2-1) → get_or s.args.slots.now 0 0 ≤ form_room
-short-at-After-find_slot-arg-2-1 s =
-    omega
-    (arith, not_too_long (slot_of (take slot_size s.args.slots.now)) s.requires.slots_value, get_or-take slot_size s.args.slots.now 0 0 (omega arith))
-
--- the length of the first slot's name
-short-at-In-At : (s : In-At) → get_or s.args.slots.now 0 0 ≤ form_room
-short-at-In-At s =
-    omega
-    (arith, not_too_long (slot_of (take slot_size s.args.slots.now)) s.requires.slots_value, get_or-take slot_size s.args.slots.now 0 0 (omega arith))
-
--- the length of the first slot's name
-short-at-In-Nothing : (s : In-Nothing) → get_or s.args.slots.now 0 0 ≤ form_room
-short-at-In-Nothing s =
-    omega
-    (arith, not_too_long (slot_of (take slot_size s.args.slots.now)) s.requires.slots_value, get_or-take slot_size s.args.slots.now 0 0 (omega arith))
+short : (ws : List ℕ) → slot_damaged (slot_of (take slot_size ws)) ≡ false → get_or ws 0 0 ≤ form_room
+short ws h = omega (arith, not_too_long (slot_of (take slot_size ws)) h, get_or-take slot_size ws 0 0 (omega arith))
 
 pub overflow_cast-n : goal.overflow_cast-n
 overflow_cast-n c = omega (arith, c.type_inv.slots 0)
@@ -44,24 +25,11 @@ pub overflow_add-end : goal.overflow_add-end
 overflow_add-end c = omega (arith, c.type_inv.slots 0)
 
 pub slice_bounds-find_slot-end-2 : goal.slice_bounds-find_slot-end-2
-slice_bounds-find_slot-end-2 c = omega (arith, short-at-After-find_slot-arg-1 c, c.requires.slots_len)
+slice_bounds-find_slot-end-2 c = omega (arith, short c.args.slots.now c.requires.slots_value, c.requires.slots_len)
 
 pub find_slot-requires : goal.find_slot-requires
 find_slot-requires c =
-    let e = c in
-    let s = e in
-    let every = asks_find s.args.behind s.args.slots.now (short-at-After-find_slot-arg-2-1 s) e.if-n-eq0.false s.requires.slots_len in record { slots_len = every.0; form_len_bound = every.1 }
+    let every = asks_find c.args.behind c.args.slots.now (short c.args.slots.now c.requires.slots_value) c.if-n-eq0.false c.requires.slots_len in record { slots_len = every.0; form_len_bound = every.1 }
 
-pub returns-in-At : goal.returns-in-At
-returns-in-At c =
-    let f = c in
-    let e = f in
-    let s = e in
-    again_found s.args.behind s.args.slots.now (short-at-In-At s) e.if-n-eq0.false _ (sym (ap place_is c.in-At.is) ∙ f.find_slot.ensures)
-
-pub returns-in-Nothing : goal.returns-in-Nothing
-returns-in-Nothing c =
-    let f = c in
-    let e = f in
-    let s = e in
-    again_none s.args.behind s.args.slots.now (short-at-In-Nothing s) e.if-n-eq0.false (sym (ap place_is c.in-Nothing.is) ∙ f.find_slot.ensures)
+pub returns : goal.returns
+returns c = c.is_some.ensures ∙ again_is c.args.behind c.args.slots.now (short c.args.slots.now c.requires.slots_value) c.if-n-eq0.false _ c.find_slot.ensures

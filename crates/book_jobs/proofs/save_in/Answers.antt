@@ -9,16 +9,16 @@ fill_at-requires c =
     let p = c in
     let q = p in
     let s = q in
-    record { slots_len = s.requires.slots_len; i_lt_count = spot_inside _ _ _ (sym (ap place_is p.in-At.is) ∙ q.spot_for-spot.ensures); form_len_bound = s.requires.form_len_bound }
+    record { slots_len = s.requires.slots_len; i_lt_count = spot_inside _ _ _ (sym (ap place_is p.in-Some.is) ∙ q.spot_for.ensures); form_len_bound = s.requires.form_len_bound }
 
-pub returns-in-At : goal.returns-in-At
-returns-in-At c =
+pub returns-in-Some : goal.returns-in-Some
+returns-in-Some c =
     let a = c in
     let p = a in
     let q = p in
-    saved _ _ _ _ _ (sym (ap place_is p.in-At.is) ∙ q.spot_for-spot.ensures) a.fill_at.ensures
+    saved _ _ _ _ _ (sym (ap place_is p.in-Some.is) ∙ q.spot_for.ensures) a.fill_at.ensures
 
-pub returns-in-Nothing : goal.returns-in-Nothing
-returns-in-Nothing c =
+pub returns-in-None : goal.returns-in-None
+returns-in-None c =
     let q = c in
-    not_saved _ _ _ (sym (ap place_is c.in-Nothing.is) ∙ q.spot_for-spot.ensures)
+    not_saved _ _ _ (sym (ap place_is c.in-None.is) ∙ q.spot_for.ensures)

@@ -1,4 +1,3 @@
-use Prim.Native.Nat.{◌-◌}
 use mathlib.Core.Path.{◌≡◌}
 use native.Mathlib.Omega.{arith}
 use Rattle.buffers.proofs.Front.{front_start}
@@ -8,15 +7,15 @@ use Rattle.file_words.proofs.copy_words.Goals as goal
 
 pub loop-i-init : goal.loop-i-init
 unfolding words_of
-loop-i-init c = (front_start _, omega arith)
+loop-i-init c = front_start _
 
 pub loop-i-preserved : goal.loop-i-preserved
 loop-i-preserved c =
     let l = c.loop-i in
-    (front_words _ _ l.invariant.0 (omega arith) (omega arith) c.be32.ensures, omega arith)
+    front_words _ _ l.invariant (omega arith) (omega arith) c.be32.ensures
 
 pub returns : goal.returns
 returns c =
     let l = c.loop-i in
     let e : l.i ≡ c.args.count = omega arith in
-    rw e at (front_worded _ l.invariant.0 (omega arith))
+    rw e at (front_worded _ l.invariant (omega arith))

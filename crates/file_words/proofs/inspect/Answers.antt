@@ -17,16 +17,16 @@ returns-in_default c = file_version _ (omega arith) (lack_none (get_or c.args.fi
 
 pub returns-then-file-lt5 : goal.returns-then-file-lt5
 returns-then-file-lt5 c =
-    file_short _ _ (omega arith) ((let it : lacks (get_or c.args.file.now 0 0) ≡ some c.in-Sections.lack = lack_given (get_or c.args.file.now 0 0) _ _ c.in-Sections.is c.lack_of.ensures in it))
+    file_short _ _ (omega arith) ((let it : lacks (get_or c.args.file.now 0 0) ≡ some c.in-Some.lack = lack_given (get_or c.args.file.now 0 0) _ _ c.in-Some.is c.lack_of.ensures in it))
 
 pub returns-then-file-count : goal.returns-then-file-count
 returns-then-file-count c =
-    file_length _ _ _ (omega arith) ((let it : lacks (get_or c.args.file.now 0 0) ≡ some c.in-Sections.lack = lack_given (get_or c.args.file.now 0 0) _ _ c.in-Sections.is c.lack_of.ensures in it)) c.be32-count.ensures c.if-file-count.true
+    file_length _ _ _ (omega arith) ((let it : lacks (get_or c.args.file.now 0 0) ≡ some c.in-Some.lack = lack_given (get_or c.args.file.now 0 0) _ _ c.in-Some.is c.lack_of.ensures in it)) c.be32-count.ensures c.if-file-count.true
 
 pub overflow_add-result : goal.overflow_add-result
 overflow_add-result c =
-    omega (arith, (let it : c.in-Sections.lack ≤ 2 = lacks_few (get_or c.args.file.now 0 0) _ ((let it : lacks (get_or c.args.file.now 0 0) ≡ some c.in-Sections.lack = lack_given (get_or c.args.file.now 0 0) _ _ c.in-Sections.is c.lack_of.ensures in it)) in it))
+    omega (arith, (let it : c.in-Some.lack ≤ 2 = lacks_few (get_or c.args.file.now 0 0) _ ((let it : lacks (get_or c.args.file.now 0 0) ≡ some c.in-Some.lack = lack_given (get_or c.args.file.now 0 0) _ _ c.in-Some.is c.lack_of.ensures in it)) in it))
 
 pub returns : goal.returns
 returns c =
-    file_words_lem _ _ _ (omega arith) ((let it : lacks (get_or c.args.file.now 0 0) ≡ some c.in-Sections.lack = lack_given (get_or c.args.file.now 0 0) _ _ c.in-Sections.is c.lack_of.ensures in it)) c.be32-count.ensures c.if-file-count.false
+    file_words_lem _ _ _ (omega arith) ((let it : lacks (get_or c.args.file.now 0 0) ≡ some c.in-Some.lack = lack_given (get_or c.args.file.now 0 0) _ _ c.in-Some.is c.lack_of.ensures in it)) c.be32-count.ensures c.if-file-count.false

@@ -1,4 +1,3 @@
-use Prim.Native.Nat.{◌-◌}
 use native.Mathlib.Omega.{arith}
 use Rattle.book_slots.specs.Book.{has_name}
 use Rattle.book_slots.proofs.Walking.{lent, place_stop, place_hit, place_more}

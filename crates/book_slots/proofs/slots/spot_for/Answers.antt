@@ -4,8 +4,8 @@ use Rattle.book_slots.specs.Walks.{place_is}
 use Rattle.book_slots.proofs.Naming.{spot_filed, spot_free}
 use Rattle.book_slots.proofs.slots.spot_for.Goals as goal
 
-pub returns-in-At : goal.returns-in-At
-returns-in-At c = spot_filed _ _ _ (sym (ap place_is c.in-At.is) ∙ c.find_slot-found.ensures)
+pub returns-in-Some : goal.returns-in-Some
+returns-in-Some c = spot_filed _ _ _ (sym (ap place_is c.in-Some.is) ∙ c.find_slot.ensures)
 
-pub returns-in-Nothing : goal.returns-in-Nothing
-returns-in-Nothing c = spot_free _ _ _ (sym (ap place_is c.in-Nothing.is) ∙ c.find_slot-found.ensures) c.free_slot.ensures
+pub returns-in-None : goal.returns-in-None
+returns-in-None c = spot_free _ _ _ (sym (ap place_is c.in-None.is) ∙ c.find_slot.ensures) c.free_slot.ensures

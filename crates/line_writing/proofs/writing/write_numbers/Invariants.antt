@@ -1,11 +1,6 @@
--- `write_numbers`: after i turns, the first i numbers are written.
-use Prim.Native.Nat.{◌-◌}
-use lib.ListN.{length}
+-- `write_numbers`: after n-index turns, so many numbers are written.
 use Rattle.line_writing.proofs.Lines.{Numbering}
 use Rattle.line_writing.proofs.writing.write_numbers.Given as goal
 
-abbrev pub invariant-loop-i : goal.invariant-loop-i
-invariant-loop-i l = Numbering l.numbers l.initial.out l.out l.at l.i
-
-abbrev pub decreases-loop-i : goal.decreases-loop-i
-decreases-loop-i l = length l.numbers - l.i
+abbrev pub invariant-loop-n : goal.invariant-loop-n
+invariant-loop-n l = Numbering l.numbers l.initial.out l.out l.at l.n-index
