@@ -8,7 +8,7 @@ use Rattle.sections.specs.Laid.{Laid}
 use Rattle.sections.specs.declared.Sections.{Sections}
 use Rattle.table.specs.declared.Span.{Span}
 use Rattle.sections.proofs.SectionLaws.{laid-parse}
-use Rattle.finder.specs.declared.emoji.Match as match
+use Rattle.std.specs.Prelude.{Option as Answer, Some, None}
 use Rattle.finder.specs.declared.emoji.Match.{Match}
 use Rattle.finder.specs.Emoji.{find}
 use Rattle.finder.specs.Match.{found_of, FoundBy}
@@ -20,13 +20,13 @@ module _ (ws part : List ℕ) where
   unfolding emoji_call
   told-fault e = rw e
 
-  module _ (ix : Sections) (l : Laid ws ix) (m : Match) (f : FoundBy ws part (find (the_table ws).emoji part) m) where
+  module _ (ix : Sections) (l : Laid ws ix) (m : Answer Match) (f : FoundBy ws part (find (the_table ws).emoji part) m) where
     told : matching (found_of ws m) ≡ emoji_call ws part
     unfolding emoji_call
     told = rw (laid-parse ws ix l) (ap matching f.same)
 
-    pub told-found : (n : ℕ) (s : Span) (k g : ℕ) → m ≡ match.TheVariants.Found n s k g → emoji_values (answer.TheVariants.Found k n g) ≡ emoji_call ws part
-    told-found n s k g e = rw e at told
+    pub told-found : (u : Match) → m ≡ Some u → emoji_values (answer.TheVariants.Found u.taken u.number u.selectors) ≡ emoji_call ws part
+    told-found u e = rw e at told
 
-    pub told-nothing : m ≡ match.TheVariants.Nothing → emoji_values answer.TheVariants.Nothing ≡ emoji_call ws part
+    pub told-nothing : m ≡ None → emoji_values answer.TheVariants.Nothing ≡ emoji_call ws part
     told-nothing e = rw e at told

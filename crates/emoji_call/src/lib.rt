@@ -4,7 +4,7 @@
 ghost use Rattle.std.specs.Prelude.{◌≡◌};
 ghost use Rattle.emoji_call.specs.EmojiCall.{emoji_values, emoji_call};
 
-use finder::emoji::{Match, find};
+use finder::emoji::find;
 use sections::Layout;
 
 // Why there is no answer, no match, or the match: how much of the part it takes, the number of its record from 0, and how many FE0F it takes.
@@ -29,16 +29,11 @@ pub fn which_emoji(part: &[u32], words: &[u32]) -> EmojiAnswer
     };
     let found = find(words, ix, part);
     match found {
-        Match::Found {
-            number,
-            sequence: _,
-            taken,
-            selectors,
-        } => EmojiAnswer::Found {
-            taken,
-            index: number,
-            selectors,
+        Some(m) => EmojiAnswer::Found {
+            taken: m.taken,
+            index: m.number,
+            selectors: m.selectors,
         },
-        Match::Nothing => EmojiAnswer::Nothing,
+        None => EmojiAnswer::Nothing,
     }
 }

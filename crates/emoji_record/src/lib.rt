@@ -18,7 +18,8 @@ fn sequence_in(part: &[u32], number: usize) -> Span
     ensures { SequenceIs part.now (get_or (sequences_in part.now) number []) result }
 {
     let mut left = number;
-    let mut at: usize = 0;
+    let mut at = 0;
+    // by hand: a record's length is its own, and the place goes on by it
     while at < part.len() {
         let sequence = counted(part, at);
         if left == 0 {
@@ -36,11 +37,9 @@ pub fn sequence(words: &[u32], ix: Sections, number: usize) -> Span
     ensures { SequenceIs words.now (get_or (the_table words.now).emoji number []) result }
 {
     let s = ix.emoji;
-    let from = s.from;
-    let to = s.to;
-    let found = sequence_in(&words[from..to], number);
+    let found = sequence_in(s.of(words), number);
     Span {
-        from: from + found.from,
-        to: from + found.to,
+        from: s.from + found.from,
+        to: s.from + found.to,
     }
 }

@@ -23,10 +23,8 @@ use Rattle.place_marks.specs.declared.Marks.{Marks}
 use Rattle.firsts.specs.declared.Start.{Start}
 use Rattle.firsts.specs.Firsts.{optional, sequences_in, first_of, steady, Avoids, FirstsKnown, Passing}
 use Rattle.firsts.proofs.Steady.{first_item, steady_rest, steady-behind, avoid_behind}
-use Rattle.finder.specs.declared.emoji.Taking as taking
-use Rattle.finder.specs.declared.emoji.Taking.{Taking}
-use Rattle.finder.specs.declared.emoji.Match as match
-use Rattle.finder.specs.declared.emoji.Uncounted as uncounted
+use Rattle.std.specs.Prelude.{Option as Answer, Some, None, slice_get}
+use Rattle.std.proofs.lemmas.Option.{none-some, same_Some}
 use Rattle.finder.specs.declared.emoji.Uncounted.{Uncounted}
 use Rattle.finder.specs.Emoji.{Taken, Found, takes, strip, selectors_in, found, longer, find_from, find}
 use Rattle.finder.specs.Matching.{takes-fits}
@@ -35,12 +33,12 @@ use Rattle.finder.proofs.Taking.{takes_none}
 use Rattle.finder.specs.Match.{taken_of, uncounted_of, match_of, better_of, onward, SequenceFits, UncountedFits, UncountedBy, FoundBy, Sequences}
 
 -- the match of a record, as the definition has it
-match_found : (ws rest : List ℕ) (n : ℕ) (s : Span) (k : Taking) → uncounted_of ws rest (match_of n s k) ≡ on_some (taken_of rest k) (found n (within s ws)) none
-match_found ws rest n s taking.TheVariants.Nothing = refl
-match_found ws rest n s (taking.TheVariants.Whole k) = go (eqb k 0) refl
+match_found : (ws rest : List ℕ) (n : ℕ) (s : Span) (k : Answer ℕ) → uncounted_of ws rest (match_of n s k) ≡ on_some (taken_of rest k) (found n (within s ws)) none
+match_found ws rest n s None = refl
+match_found ws rest n s (Some k) = go (eqb k 0) refl
   where
     go : (b : Bool) → eqb k 0 ≡ b
-        → uncounted_of ws rest (match_of n s (taking.TheVariants.Whole k)) ≡ found n (within s ws) (record { length = k; selectors = selectors_in (take k rest) })
+        → uncounted_of ws rest (match_of n s (Some k)) ≡ found n (within s ws) (record { length = k; selectors = selectors_in (take k rest) })
     go true p =
         let z : k ≡ 0 = eqb-true _ _ p in
         let less : k < 1 = omega arith in
@@ -50,37 +48,37 @@ match_found ws rest n s (taking.TheVariants.Whole k) = go (eqb k 0) refl
         let low : 1 ≤ k = omega arith in
         rw (p, le-leb 1 k low)
 
-match_fits : (ws : List ℕ) (n : ℕ) (s : Span) (k : Taking) → SequenceFits ws s → UncountedFits ws (match_of n s k)
-match_fits ws n s taking.TheVariants.Nothing h = tt
-match_fits ws n s (taking.TheVariants.Whole k) h = go (eqb k 0) refl
+match_fits : (ws : List ℕ) (n : ℕ) (s : Span) (k : Answer ℕ) → SequenceFits ws s → UncountedFits ws (match_of n s k)
+match_fits ws n s None h = tt
+match_fits ws n s (Some k) h = go (eqb k 0) refl
   where
-    go : (b : Bool) → eqb k 0 ≡ b → UncountedFits ws (match_of n s (taking.TheVariants.Whole k))
+    go : (b : Bool) → eqb k 0 ≡ b → UncountedFits ws (match_of n s (Some k))
     go true p = rw p tt
     go false p = rw p h
 
 -- the better of two matches, as the definition has it
-better_found : (ws rest : List ℕ) (a b : Uncounted) → uncounted_of ws rest (better_of a b) ≡ longer (uncounted_of ws rest a) (uncounted_of ws rest b)
-better_found ws rest uncounted.TheVariants.Nothing uncounted.TheVariants.Nothing = refl
-better_found ws rest uncounted.TheVariants.Nothing (uncounted.TheVariants.Found m t j) = refl
-better_found ws rest (uncounted.TheVariants.Found n s k) uncounted.TheVariants.Nothing = refl
-better_found ws rest (uncounted.TheVariants.Found n s k) (uncounted.TheVariants.Found m t j) = go (ltb k j) refl
+better_found : (ws rest : List ℕ) (a b : Answer Uncounted) → uncounted_of ws rest (better_of a b) ≡ longer (uncounted_of ws rest a) (uncounted_of ws rest b)
+better_found ws rest None None = refl
+better_found ws rest None (Some g) = refl
+better_found ws rest (Some f) None = refl
+better_found ws rest (Some f) (Some g) = go (ltb f.taken g.taken) refl
   where
-    a : Uncounted
-    a = uncounted.TheVariants.Found n s k
+    a : Answer Uncounted
+    a = Some f
 
-    b : Uncounted
-    b = uncounted.TheVariants.Found m t j
+    b : Answer Uncounted
+    b = Some g
 
-    go : (c : Bool) → ltb k j ≡ c → uncounted_of ws rest (better_of a b) ≡ longer (uncounted_of ws rest a) (uncounted_of ws rest b)
+    go : (c : Bool) → ltb f.taken g.taken ≡ c → uncounted_of ws rest (better_of a b) ≡ longer (uncounted_of ws rest a) (uncounted_of ws rest b)
     go true p = rw p
     go false p = rw p
 
-better_fits : (ws : List ℕ) (a b : Uncounted) → UncountedFits ws a → UncountedFits ws b → UncountedFits ws (better_of a b)
-better_fits ws uncounted.TheVariants.Nothing b p q = q
-better_fits ws (uncounted.TheVariants.Found n s k) uncounted.TheVariants.Nothing p q = p
-better_fits ws (uncounted.TheVariants.Found n s k) (uncounted.TheVariants.Found m t j) p q = go (ltb k j) refl
+better_fits : (ws : List ℕ) (a b : Answer Uncounted) → UncountedFits ws a → UncountedFits ws b → UncountedFits ws (better_of a b)
+better_fits ws None b p q = q
+better_fits ws (Some f) None p q = p
+better_fits ws (Some f) (Some g) p q = go (ltb f.taken g.taken) refl
   where
-    go : (c : Bool) → ltb k j ≡ c → UncountedFits ws (better_of (uncounted.TheVariants.Found n s k) (uncounted.TheVariants.Found m t j))
+    go : (c : Bool) → ltb f.taken g.taken ≡ c → UncountedFits ws (better_of (Some f) (Some g))
     go true e = rw e q
     go false e = rw e p
 
@@ -114,7 +112,7 @@ neither false b e = (refl, e)
 neither true b e = absurd (false_true (sym e))
 
 -- The records before `at` are looked at: `best` is their match, and those from there on are numbered from `number` on.
-pub record Finder (part rest : List ℕ) (sorted : Bool) (best : Uncounted) (number at : ℕ) : Type 0 where
+pub record Finder (part rest : List ℕ) (sorted : Bool) (best : Answer Uncounted) (number at : ℕ) : Type 0 where
   pub left : List (List ℕ)
   pub here : SequencesAt part at left
   pub few : number ≤ at
@@ -123,7 +121,7 @@ pub record Finder (part rest : List ℕ) (sorted : Bool) (best : Uncounted) (num
   pub rise : sorted ≡ true → steady 0 left ≡ true
 
 pub finder_start : (part rest : List ℕ) (sorted : Bool) (f g : Marks) → FirstsKnown part sorted f g → 0 < length rest → (s : Start) → Passing part (get_or rest 0 0) s
-    → Finder part rest sorted uncounted.TheVariants.Nothing s.number s.place
+    → Finder part rest sorted None s.number s.place
 unfolding find
 finder_start part rest sorted f g k h s p =
     let w = p.from in
@@ -140,22 +138,22 @@ finder_start part rest sorted f g k h s p =
     }
 
 -- a match takes some of the rest
-takes-some : (ws rest : List ℕ) (seqs : List (List ℕ)) (n : ℕ) (s : Span) (k : ℕ) → uncounted_of ws rest (uncounted.TheVariants.Found n s k) ≡ find seqs rest
-    → (1 ≤ k) × (k ≤ length rest)
-takes-some ws rest seqs n s k e =
-    let t : Taken = record { length = k; selectors = selectors_in (take k rest) } in
-    let b = find_best seqs rest (record { number = n; taken = t; stripped = strip (within s ws) }) (sym e) in
+takes-some : (ws rest : List ℕ) (seqs : List (List ℕ)) (m : Uncounted) → uncounted_of ws rest (Some m) ≡ find seqs rest
+    → (1 ≤ m.taken) × (m.taken ≤ length rest)
+takes-some ws rest seqs m e =
+    let t : Taken = record { length = m.taken; selectors = selectors_in (take m.taken rest) } in
+    let b = find_best seqs rest (record { number = m.number; taken = t; stripped = strip (within m.sequence ws) }) (sym e) in
     (b.some-taken, (takes-fits _ rest t b.taken).inside)
 
-module _ (part rest : List ℕ) (sorted : Bool) (best : Uncounted) (number at : ℕ) (w : Finder part rest sorted best number at) where
+module _ (part rest : List ℕ) (sorted : Bool) (best : Answer Uncounted) (number at : ℕ) (w : Finder part rest sorted best number at) where
   pub finder_here : at < length part → SequenceHere part at w.left
   finder_here h = sequences_step part at w.left w.here h
 
   finder_rise : (h : at < length part) → sorted ≡ true → steady 0 (finder_here h).rest ≡ true
   finder_rise h t = let x = finder_here h in steady_rest x.first x.rest (sym (ap (steady 0) x.split) ∙ w.rise t)
 
-  pub finder_more : (h : at < length part) (k : Taking) → taken_of rest k ≡ takes (within (counted_at part at) part) rest
-      → (m : Uncounted) → m ≡ match_of number (counted_at part at) k → (b : Uncounted) → b ≡ better_of best m
+  pub finder_more : (h : at < length part) (k : Answer ℕ) → taken_of rest k ≡ takes (within (counted_at part at) part) rest
+      → (m : Answer Uncounted) → m ≡ match_of number (counted_at part at) k → (b : Answer Uncounted) → b ≡ better_of best m
       → Finder part rest sorted b (number + 1) (counted_at part at).to
   unfolding find_from
   finder_more h k e m p b q =
@@ -229,22 +227,31 @@ find_empty seqs = go (find seqs []) refl
         let b = find_best seqs [] f e in
         absurd (omega (arith, b.some-taken, (takes-fits _ [] f.taken b.taken).inside))
 
-pub finder_empty : (part rest : List ℕ) → length rest ≡ 0 → UncountedBy part rest (find (sequences_in part) rest) uncounted.TheVariants.Nothing
+pub finder_empty : (part rest : List ℕ) → length rest ≡ 0 → UncountedBy part rest (find (sequences_in part) rest) None
 finder_empty part [] h = record { same = sym (find_empty (sequences_in part)); fits = tt }
 finder_empty part (c ∷ rest) h = absurd (omega arith)
 
+-- the first item of a text, if there is one
+pub first_none : (rest : List ℕ) → ◌≡◌ {A = Answer ℕ} None (slice_get rest 0) → length rest ≡ 0
+first_none [] e = refl
+first_none (c ∷ rest) e = absurd (none-some c e)
+
+pub first_some : (rest : List ℕ) (e : ℕ) → ◌≡◌ {A = Answer ℕ} (Some e) (slice_get rest 0) → (0 < length rest) × (get_or rest 0 0 ≡ e)
+first_some [] e h = absurd (none-some e (sym h))
+first_some (c ∷ rest) e h = (omega arith, sym (same_Some e c h))
+
 -- what is found in a section is found among the words
 module _ (ws rest : List ℕ) (s : Span) (seqs : List (List ℕ)) (f : Fits ws s) where
-  pub found-onward : (m : Uncounted) → UncountedBy (within s ws) rest (find seqs rest) m → FoundBy ws rest (find seqs rest) (onward s.from rest m)
-  found-onward uncounted.TheVariants.Nothing r = record { same = r.same; fits = tt; takes = tt }
-  found-onward (uncounted.TheVariants.Found n t k) r =
-      let q : SequenceFits (within s ws) t = r.fits in
-      let fit : Fits (within s ws) t = record { ordered = q.ordered; inside = q.inside } in
-      let b = behind-fits ws s t f fit in
+  pub found-onward : (m : Answer Uncounted) → UncountedBy (within s ws) rest (find seqs rest) m → FoundBy ws rest (find seqs rest) (onward s.from rest m)
+  found-onward None r = record { same = r.same; fits = tt; takes = tt }
+  found-onward (Some m) r =
+      let q : SequenceFits (within s ws) m.sequence = r.fits in
+      let fit : Fits (within s ws) m.sequence = record { ordered = q.ordered; inside = q.inside } in
+      let b = behind-fits ws s m.sequence f fit in
       record {
-        same = rw (← within-within ws s t f fit) r.same;
+        same = rw (← within-within ws s m.sequence f fit) r.same;
         fits = record { ordered = b.ordered; inside = b.inside; short = omega (arith, q.short) };
-        takes = takes-some (within s ws) rest seqs n t k r.same;
+        takes = takes-some (within s ws) rest seqs m r.same;
       }
 
 -- the emoji section holds the sequences of the table
@@ -260,16 +267,16 @@ module _ (ws : List ℕ) (ix : Sections) (l : Laid ws ix) where
   emoji-sequences = record { parses = rw emoji_known (laid_reads ws ix l).emoji }
 
 -- what is found in the emoji section is what the table has
-module _ (ws : List ℕ) (ix : Sections) (l : Laid ws ix) (rest : List ℕ) (m : Uncounted)
+module _ (ws : List ℕ) (ix : Sections) (l : Laid ws ix) (rest : List ℕ) (m : Answer Uncounted)
     (r : UncountedBy (within ix.emoji ws) rest (find (sequences_in (within ix.emoji ws)) rest) m) where
   section-found : FoundBy ws rest (find (the_table ws).emoji rest) (onward ix.emoji.from rest m)
   section-found =
       let p : UncountedBy (within ix.emoji ws) rest (find (the_table ws).emoji rest) m = rw (emoji_known ws ix l) at r in
       found-onward ws rest ix.emoji (the_table ws).emoji (laid-fits ws ix l).emoji m p
 
-  pub found_at : (n : ℕ) (s : Span) (k : ℕ) → m ≡ uncounted.TheVariants.Found n s k
-      → FoundBy ws rest (find (the_table ws).emoji rest) (match.TheVariants.Found n (behind ix.emoji.from s) k (selectors_in (take k rest)))
-  found_at n s k e = rw e at section-found
+  pub found_at : (u : Uncounted) → m ≡ Some u
+      → FoundBy ws rest (find (the_table ws).emoji rest) (Some (record { number = u.number; sequence = behind ix.emoji.from u.sequence; taken = u.taken; selectors = selectors_in (take u.taken rest) }))
+  found_at u e = rw e at section-found
 
-  pub found_nothing : m ≡ uncounted.TheVariants.Nothing → FoundBy ws rest (find (the_table ws).emoji rest) match.TheVariants.Nothing
+  pub found_nothing : m ≡ None → FoundBy ws rest (find (the_table ws).emoji rest) None
   found_nothing e = rw e at section-found

@@ -1,6 +1,6 @@
 -- What the finder's match took of the input: the record but for FE0F, and so many FE0F. For every list of records.
 use Rattle.std.specs.Prelude.{ℕ, suc, ◌+◌, ◌<◌, ◌≡◌, refl, Bool, true, false, not, cond, List, [], ◌∷◌, length, get_or, take, eqb}
-use Rattle.std.proofs.Common.{arith, sym, ◌∙◌, length-take-le}
+use Rattle.std.proofs.Common.{arith, length-take-le}
 use Rattle.std.proofs.Math.Option.{some}
 use Rattle.finder.specs.Emoji.{selector, strip, selectors_in, Taken, takes, Found, find}
 use Rattle.finder.specs.Matching.{takes-fits}

@@ -5,12 +5,11 @@ ghost use Rattle.finder.specs.Shared.{Shared};
 pub fn shared(a: &[u32], b: &[u32]) -> usize
     ensures { Shared a.now b.now result }
 {
-    let mut k: usize = 0;
-    while k < a.len() && k < b.len() {
+    let both = a.len().min(b.len());
+    for k in 0..both {
         if a[k] != b[k] {
             return k;
         }
-        k += 1;
     }
-    k
+    both
 }

@@ -2,11 +2,12 @@
 use Prim.Native.Nat.{ℕ, ◌+◌, ◌-◌, ◌≤◌, ◌<◌}
 use native.Mathlib.Omega.{arith}
 use native.Mathlib.Nat.{add-zero}
+use native.Mathlib.Numerals.{add-one}
 use mathlib.Core.Path.{◌≡◌, refl, sym, ◌∙◌, ap}
 use mathlib.Core.Bool.{true, false, false≢true}
 use mathlib.Core.List.{List, [], ◌∷◌, ◌++◌}
 use lib.ListN.{length, get_or, take, drop, set, length-append, length-set}
-use lib.Seq.{length-sets}
+use lib.Seq.{length-sets, take-suc, take_all}
 use Rattle.limits.specs.Limits.{most_worked, least_work}
 use Rattle.table.specs.declared.Span.{Span}
 use Rattle.table.specs.Table.{Table}
@@ -19,7 +20,6 @@ use Rattle.laying.specs.declared.Run.{Run}
 use Rattle.laying.specs.Laying.{step_text, laid, Laying, PutAt, EmojiPut}
 use Rattle.laying.proofs.LayingLaws.{four_joins, kept_joins, laid_snoc, laid_none, laid-text, laying_start, laying_empty, laying_text, laying_ignored}
 use Rattle.laying.proofs.Putting.{put_start, put_more, put_stop}
-use Rattle.laying.proofs.Texts.{items_next}
 use Rattle.kept_scan.specs.declared.Held.{Held}
 use Rattle.kept_scan.specs.Passing.{step_passes, step_class, passes, last_class, steps_pass, class_after}
 use Rattle.kept_scan.specs.Keeping.{as_it_is, Keeping, Promised, MayKeep, TextKept, ItemsKept, EmojiKept}
@@ -114,33 +114,27 @@ module _ (t : Table) where
       pub text-kept : class ≡ class_of t c → TextKept t w w' c held r
       text-kept k = record { same = put.same; keeps = λ ss a p f. more k ss a (p m.fine) }
 
-  -- the items from `from` up to i are laid down
-  pub record Itemed (ws w₀ : List ℕ) (from to : ℕ) (held : Held) (w : List ℕ) (r : Held) (i : ℕ) : Type 0 where
-    pub low : from ≤ i
-    pub high : i ≤ to
+  -- the first i items are laid down
+  pub record Itemed (s w₀ : List ℕ) (held : Held) (w : List ℕ) (r : Held) (i : ℕ) : Type 0 where
+    pub inside : i ≤ length s
     pub same : length w ≡ length w₀
-    pub keeps : (ss : List Step) → Promised t ss held w₀ → Promised t (ss ++ scan.text (take (i - from) (drop from ws)) ∷ []) r w
+    pub keeps : (ss : List Step) → Promised t ss held w₀ → Promised t (ss ++ scan.text (take i s) ∷ []) r w
 
-  module _ (ws w₀ : List ℕ) (s : Span) (held : Held) where
-    pub items_start : s.from < s.to → Itemed ws w₀ s.from s.to held w₀ held s.from
-    items_start h =
-        let e : s.from - s.from ≡ 0 = omega arith in
-        record { low = omega arith; high = omega arith; same = refl; keeps = λ ss p. rw e (promised_empty ss held w₀ p) }
+  module _ (s w₀ : List ℕ) (held : Held) where
+    pub items_start : Itemed s w₀ held w₀ held 0
+    items_start = record { inside = omega arith; same = refl; keeps = λ ss p. promised_empty ss held w₀ p }
 
-    pub items_more : (w w' : List ℕ) (r r' : Held) (i : ℕ) → s.to ≤ length ws → Itemed ws w₀ s.from s.to held w r i → i < s.to
-        → TextKept t w w' (get_or ws i 0) r r' → Itemed ws w₀ s.from s.to held w' r' (i + 1)
-    items_more w w' r r' i room p h q =
-        record {
-          low = omega (arith, p.low);
-          high = omega arith;
-          same = q.same ∙ p.same;
-          keeps = λ ss l. rw (items_next ws s.from i s.to room p.low h) (q.keeps ss (take (i - s.from) (drop s.from ws)) (p.keeps ss l));
-        }
+    module _ (w : List ℕ) (r : Held) (i : ℕ) (p : Itemed s w₀ held w r i) where
+      pub items_more : (w' : List ℕ) (r' : Held) → i < length s → TextKept t w w' (get_or s i 0) r r' → Itemed s w₀ held w' r' (i + 1)
+      items_more w' r' h q =
+          record {
+            inside = omega arith;
+            same = q.same ∙ p.same;
+            keeps = λ ss l. rw (add-one i, take-suc s i 0 h) (q.keeps ss (take i s) (p.keeps ss l));
+          }
 
-    pub items_stop : (w : List ℕ) (r : Held) (i : ℕ) → Itemed ws w₀ s.from s.to held w r i → s.to ≤ i → ItemsKept t w₀ w (within s ws) held r
-    items_stop w r i p h =
-        let e : i ≡ s.to = omega (arith, p.high) in
-        record { same = p.same; keeps = λ ss l. rw (← e) (p.keeps ss l) }
+      pub items_stop : length s ≤ i → ItemsKept t w₀ w s held r
+      items_stop h = record { same = p.same; keeps = λ ss l. rw (take_all i s h) at (p.keeps ss l) }
 
 -- an emoji is laid down
 module _ (ws w : List ℕ) (s : Span) (held : Held) where

@@ -10,7 +10,7 @@ use Rattle.limits.specs.Limits.{most_worked}
 use Rattle.table.specs.declared.Span.{Span}
 use Rattle.table.specs.Table.{Table}
 use Rattle.table.specs.Spans.{within}
-use Rattle.finder.specs.declared.emoji.Match as match
+use Rattle.std.specs.Prelude.{Option as Answer, Some, None}
 use Rattle.finder.specs.declared.emoji.Match.{Match}
 use Rattle.finder.specs.Emoji.{Found, strip, find}
 use Rattle.finder.specs.Match.{FoundBy}
@@ -66,11 +66,11 @@ step_given t s w held r e =
     record { same = refl; allowed = λ g. absurd (false≢true (sym e ∙ g)); keeps = λ ss l. given_up t (ss ++ s ∷ []) r w e }
 
 -- the step at the start of a rest that is not empty
-module _ (t : Table) (ws rest : List ℕ) (m : Match) (h : 1 ≤ length rest) (d : FoundBy ws rest (find t.emoji rest) m) where
-  pub step_emoji : (n : ℕ) (q : Span) (k g : ℕ) → m ≡ match.TheVariants.Found n q k g → (w w' : List ℕ) (held r : Held) → EmojiKept ws w w' q held r
-      → StepTook t (first_step t rest) w w' held (record { taken = k; held = r })
-  step_emoji n q k g e w w' held r p =
-      let f : Found = record { number = n; taken = record { length = k; selectors = g }; stripped = strip (within q ws) } in
+module _ (t : Table) (ws rest : List ℕ) (m : Answer Match) (h : 1 ≤ length rest) (d : FoundBy ws rest (find t.emoji rest) m) where
+  pub step_emoji : (u : Match) → m ≡ Some u → (w w' : List ℕ) (held r : Held) → EmojiKept ws w w' u.sequence held r
+      → StepTook t (first_step t rest) w w' held (record { taken = u.taken; held = r })
+  step_emoji u e w w' held r p =
+      let f : Found = record { number = u.number; taken = record { length = u.taken; selectors = u.selectors }; stripped = strip (within u.sequence ws) } in
       let some-found : some f ≡ find t.emoji rest = rw e at d.same in
       let s : first_step t rest ≡ emoji f = first_found t rest f h (sym some-found) in
       record {
@@ -83,7 +83,7 @@ module _ (t : Table) (ws rest : List ℕ) (m : Match) (h : 1 ≤ length rest) (d
         taken = λ o. rw s;
       }
 
-  pub step_alone : m ≡ match.TheVariants.Nothing → (w w' : List ℕ) (held r : Held) → StepKept t (codepoint_step t (get_or rest 0 0)) w w' held r
+  pub step_alone : m ≡ None → (w w' : List ℕ) (held r : Held) → StepKept t (codepoint_step t (get_or rest 0 0)) w w' held r
       → StepTook t (first_step t rest) w w' held (record { taken = 1; held = r })
   step_alone e w w' held r p =
       let s : first_step t rest ≡ codepoint_step t (get_or rest 0 0) = first_alone t rest h (sym (rw e at d.same)) in

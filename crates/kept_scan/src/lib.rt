@@ -14,7 +14,7 @@ ghost use Rattle.scanning.specs.Scanning.{first_step};
 ghost use Rattle.kept_scan.specs.Keeping.{follows, MayKeep, TextKept, ItemsKept, EmojiKept, StepKept, StepTook, KeptScans};
 
 use decomposition::append_decomposed;
-use finder::emoji::{Match, find};
+use finder::emoji::find;
 use laying::{Run, put_emoji};
 use limits::MOST_WORKED;
 use scanning::Tally;
@@ -117,14 +117,9 @@ fn keep_items(words: &[u32], ix: Sections, w: &mut [u32], held: Held, items: Spa
     requires least_work_in_bounds { (least_work ≤ length w.old) × ItemsThere words.now items }
     ensures { ItemsKept (the_table words.now) w.old w.new (within items words.now) held result }
 {
-    let from = items.from;
-    let to = items.to;
     let mut r = held;
-    let mut i = from;
-    while i < to {
-        let c = words[i];
+    for &c in items.of(words) {
         r = keep_text(words, ix, w, r, c);
-        i += 1;
     }
     r
 }
@@ -171,15 +166,10 @@ fn keep_one(words: &[u32], ix: Sections, w: &mut [u32], held: Held, c: u32) -> H
         Single::Valid => keep_text(words, ix, w, held, c),
         Single::Mapped(s) => keep_items(words, ix, w, held, s),
         Single::Ignored => held,
-        Single::Disallowed => {
-            let run = held.run;
-            Held {
-                run,
-                worked: held.worked,
-                class: held.class,
-                fine: false,
-            }
-        }
+        Single::Disallowed => Held {
+            fine: false,
+            ..held
+        },
     }
 }
 
@@ -191,16 +181,11 @@ fn keep_step(words: &[u32], ix: Sections, rest: &[u32], w: &mut [u32], held: Hel
 {
     let found = find(words, ix, rest);
     match found {
-        Match::Found {
-            number: _,
-            sequence,
-            taken,
-            selectors: _,
-        } => Took {
-            taken,
-            held: keep_emoji(words, w, held, sequence),
+        Some(m) => Took {
+            taken: m.taken,
+            held: keep_emoji(words, w, held, m.sequence),
         },
-        Match::Nothing => Took {
+        None => Took {
             taken: 1,
             held: keep_one(words, ix, w, held, rest[0]),
         },
@@ -225,7 +210,8 @@ pub fn scan_kept(words: &[u32], ix: Sections, label: &[u32], w: &mut [u32]) -> K
         class: 0,
         fine: true,
     };
-    let mut at: usize = 0;
+    let mut at = 0;
+    // by hand: a step takes what its token is long, and the place goes on by it
     while at < label.len() {
         let took = keep_step(words, ix, &label[at..], w, held);
         held = took.held;

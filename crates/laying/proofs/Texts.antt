@@ -1,11 +1,12 @@
 -- Laying text down, codepoint by codepoint.
 use Prim.Native.Nat.{ℕ, zero, suc, ◌+◌, ◌-◌, ◌≤◌, ◌<◌}
 use native.Mathlib.Omega.{arith}
+use native.Mathlib.Numerals.{add-one}
 use mathlib.Core.Path.{◌≡◌, refl, ◌∙◌, ap}
 use mathlib.Core.Bool.{true}
 use mathlib.Core.List.{List, [], ◌∷◌, ◌++◌}
-use lib.ListN.{length, get_or, take, drop, length-drop}
-use lib.Seq.{take-suc, get_or-drop}
+use lib.ListN.{length, get_or, take, drop}
+use lib.Seq.{take-suc, take_all}
 use Rattle.limits.specs.Limits.{most_worked, least_work}
 use Rattle.table.specs.declared.Span.{Span}
 use Rattle.table.specs.Table.{Table}
@@ -51,48 +52,24 @@ module _ (t : Table) (c : ℕ) (w : List ℕ) (run : Run) where
         lays = λ ss a l. laying_text_over (four_rounds t) (four_joins t) ss a run w w c (record { worked = run.worked; emoji = run.emoji; text = true; tag = run.tag }) l h refl refl refl;
       }
 
--- the items from `from` up to i are laid down
-pub record Itemed (t : Table) (ws w₀ : List ℕ) (from to : ℕ) (run : Run) (w : List ℕ) (r : Run) (i : ℕ) : Type 0 where
-  pub low : from ≤ i
-  pub high : i ≤ to
+-- the first i items are laid down
+pub record Itemed (t : Table) (s w₀ : List ℕ) (run : Run) (w : List ℕ) (r : Run) (i : ℕ) : Type 0 where
+  pub inside : i ≤ length s
   pub same : length w ≡ length w₀
-  pub lays : (ss : List Step) → Laying (four_rounds t) ss run w₀ → Laying (four_rounds t) (ss ++ text (take (i - from) (drop from ws)) ∷ []) r w
+  pub lays : (ss : List Step) → Laying (four_rounds t) ss run w₀ → Laying (four_rounds t) (ss ++ text (take i s) ∷ []) r w
 
--- one item more
-pub items_next : (ws : List ℕ) (from i to : ℕ) → to ≤ length ws → from ≤ i → i < to → take (i + 1 - from) (drop from ws) ≡ take (i - from) (drop from ws) ++ get_or ws i 0 ∷ []
-items_next ws from i to room low h =
-    let k : ℕ = i - from in
-    let e : i + 1 - from ≡ suc k = omega arith in
-    let at : from + k ≡ i = omega arith in
-    let fits : k < length (drop from ws) = simp length-drop (omega arith) in
-    let c : get_or (drop from ws) k 0 ≡ get_or ws i 0 = get_or-drop from ws k 0 ∙ ap (λ (j : ℕ). get_or ws j 0) at in
-    rw (e, take-suc (drop from ws) k 0 fits, c)
+module _ (t : Table) (s w₀ : List ℕ) (run : Run) where
+  pub items_start : Itemed t s w₀ run w₀ run 0
+  items_start = record { inside = omega arith; same = refl; lays = λ ss l. laying_empty (four_rounds t) (four_joins t) ss run w₀ l }
 
-module _ (t : Table) (ws w₀ : List ℕ) (s : Span) (run : Run) where
-  pub items_start : s.from < s.to → Itemed t ws w₀ s.from s.to run w₀ run s.from
-  items_start h =
-      let e : s.from - s.from ≡ 0 = omega arith in
-      record {
-        low = omega arith;
-        high = omega arith;
-        same = refl;
-        lays = λ ss l. rw e (laying_empty (four_rounds t) (four_joins t) ss run w₀ l);
-      }
+  module _ (w : List ℕ) (r : Run) (i : ℕ) (p : Itemed t s w₀ run w r i) where
+    pub items_more : (w' : List ℕ) (r' : Run) → i < length s → TextPut t w w' (get_or s i 0) r r' → Itemed t s w₀ run w' r' (i + 1)
+    items_more w' r' h q =
+        record {
+          inside = omega arith;
+          same = q.same ∙ p.same;
+          lays = λ ss l. rw (add-one i, take-suc s i 0 h) (q.lays ss (take i s) (p.lays ss l));
+        }
 
-  pub items_more : (w w' : List ℕ) (r r' : Run) (i : ℕ) → s.to ≤ length ws → Itemed t ws w₀ s.from s.to run w r i → i < s.to
-      → TextPut t w w' (get_or ws i 0) r r' → Itemed t ws w₀ s.from s.to run w' r' (i + 1)
-  items_more w w' r r' i room p h q =
-      record {
-        low = omega (arith, p.low);
-        high = omega arith;
-        same = q.same ∙ p.same;
-        lays = λ ss l. rw (items_next ws s.from i s.to room p.low h) (q.lays ss (take (i - s.from) (drop s.from ws)) (p.lays ss l));
-      }
-
-  pub items_stop : (w : List ℕ) (r : Run) (i : ℕ) → Itemed t ws w₀ s.from s.to run w r i → s.to ≤ i → ItemsPut t w₀ w (within s ws) run r
-  items_stop w r i p h =
-      let e : i ≡ s.to = omega (arith, p.high) in
-      record {
-        same = p.same;
-        lays = λ ss l. rw (← e) (p.lays ss l);
-      }
+    pub items_stop : length s ≤ i → ItemsPut t w₀ w s run r
+    items_stop h = record { same = p.same; lays = λ ss l. rw (take_all i s h) at (p.lays ss l) }

@@ -37,11 +37,9 @@ fn put_tags(w: &mut [u32], from: usize, to: usize, first: u32, later: u32)
         return;
     }
     let mut tag = first;
-    let mut i = from;
-    while i < to {
+    for i in from..to {
         w[MOST_WORKED + i] = tag;
         tag = later;
-        i += 1;
     }
 }
 
@@ -51,10 +49,7 @@ fn strip_into(seq: &[u32], out: &mut [u32], at: usize) -> usize
     ensures { Appended out.old out.new at (strip seq.now) result }
 {
     let mut to = at;
-    let mut i: usize = 0;
-    while i < seq.len() {
-        let c = seq[i];
-        i += 1;
+    for &c in seq {
         if c == 0xFE0F {
             continue;
         }
@@ -77,9 +72,7 @@ pub fn put_emoji(words: &[u32], w: &mut [u32], run: Run, sequence: Span) -> Run
             tag: 1,
         };
     }
-    let from = sequence.from;
-    let to = sequence.to;
-    let end = strip_into(&words[from..to], &mut w[..MOST_WORKED], n);
+    let end = strip_into(sequence.of(words), &mut w[..MOST_WORKED], n);
     put_tags(w, n, end, 0, 0);
     Run {
         worked: end,
@@ -132,14 +125,9 @@ pub fn put_items(words: &[u32], ix: Sections, w: &mut [u32], run: Run, items: Sp
     requires least_work_in_bounds { (least_work ≤ length w.old) × ItemsThere words.now items }
     ensures { ItemsPut (the_table words.now) w.old w.new (within items words.now) run result }
 {
-    let from = items.from;
-    let to = items.to;
     let mut r = run;
-    let mut i = from;
-    while i < to {
-        let c = words[i];
+    for &c in items.of(words) {
         r = put_text(words, ix, w, r, c);
-        i += 1;
     }
     r
 }

@@ -42,9 +42,9 @@ module _ (w : List ℕ) (from n : ℕ) where
         let s : twos (drop i tags) ≡ 0 = rw (here, ne_eqb (get_or w (most_worked + i) 0) 2 e) in
         omega (arith, p.so)
 
-  pub ending_stop : (i : ℕ) → Ending w from n i → n ≤ i → i ≡ from + 1 + twos (drop (from + 1) (take n (drop most_worked w)))
+  pub ending_stop : (i : ℕ) → Ending w from n i → n ≤ i → n ≡ from + 1 + twos (drop (from + 1) (take n (drop most_worked w)))
   unfolding twos
   ending_stop i p h =
       let short : length (take n (drop most_worked w)) ≤ i = simp length-take (omega arith) in
       let s : twos (drop i (take n (drop most_worked w))) ≡ 0 = rw (drop_of_length-le (take n (drop most_worked w)) short) in
-      omega (arith, p.so)
+      omega (arith, p.high, p.so)

@@ -18,13 +18,11 @@ fn move_down(w: &mut [u32], from: usize, n: usize, at: usize, first: u32, later:
     ensures { MovedDown w.old w.new from n at first later result }
 {
     let mut tag = first;
-    let mut i: usize = 0;
-    while i < n {
+    for i in 0..n {
         let j = at + i;
         w[j] = w[from + i];
         w[MOST_WORKED + j] = tag;
         tag = later;
-        i += 1;
     }
     at + n
 }
@@ -65,14 +63,12 @@ fn token_end(w: &[u32], from: usize, n: usize) -> usize
     requires { (least_work ≤ length w.now) × (from < n) × (n ≤ most_worked) }
     ensures { result ≡ from + 1 + twos (drop (from + 1) (take n (drop most_worked w.now))) }
 {
-    let mut i = from + 1;
-    while i < n {
+    for i in from + 1..n {
         if w[MOST_WORKED + i] != 2 {
             return i;
         }
-        i += 1;
     }
-    i
+    n
 }
 
 // Puts the tokens that stand in the first n cells into normal form, and answers how many cells are left. `unpaired` keeps what records were found
@@ -90,8 +86,9 @@ pub fn normalise(
     ensures normal_cells { NormalCells (the_table words.now) w.old w.new n result }
     ensures unpaired_2 { Unpaired (the_table words.now) unpaired.new }
 {
-    let mut at: usize = 0;
-    let mut i: usize = 0;
+    let mut at = 0;
+    let mut i = 0;
+    // by hand: a token's length is its own, and the place goes on by it
     while i < n {
         if w[MOST_WORKED + i] == 0 {
             at = keep_emoji(w, i, at);

@@ -12,12 +12,6 @@ use byte_sink::{Sink, put, put_numeral, put_word};
 use sections::Sections;
 use sections::lookup::should_escape;
 
-fn wide(n: u32) -> u64
-    ensures { result ≡ n }
-{
-    n as u64
-}
-
 // A blank, and a number in decimal.
 fn put_place(out: &mut [u8], sink: Sink, n: usize) -> Sink
     ensures { Adds out.old out.new (spaced (numeral 10 n)) sink result }
@@ -34,10 +28,10 @@ fn put_codepoint(words: &[u32], ix: Sections, c: u32, out: &mut [u8], sink: Sink
     let blank = put(out, sink, b' ');
     if should_escape(words, ix, c) {
         let open = put(out, blank, b'{');
-        let digits = put_numeral(out, open, wide(c), 16);
+        let digits = put_numeral(out, open, u64::from(c), 16);
         return put(out, digits, b'}');
     }
-    put_numeral(out, blank, wide(c), 16)
+    put_numeral(out, blank, u64::from(c), 16)
 }
 
 // The codepoints of a token, a blank before each.
@@ -46,10 +40,8 @@ fn put_codepoints(words: &[u32], ix: Sections, text: &[u32], out: &mut [u8], sin
     ensures { Adds out.old out.new (shown_all (the_table words.now) text.now) sink result }
 {
     let mut r = sink;
-    let mut i = 0;
-    while i < text.len() {
-        r = put_codepoint(words, ix, text[i], out, r);
-        i += 1;
+    for &c in text {
+        r = put_codepoint(words, ix, c, out, r);
     }
     r
 }

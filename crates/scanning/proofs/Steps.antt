@@ -11,7 +11,7 @@ use Rattle.table.specs.Table.{Table}
 use Rattle.table.specs.Spans.{within}
 use Rattle.text.specs.Decomposition.{four_rounds}
 use Rattle.laying.specs.declared.Run.{Run}
-use Rattle.finder.specs.declared.emoji.Match as match
+use Rattle.std.specs.Prelude.{Option as Answer, Some, None}
 use Rattle.finder.specs.declared.emoji.Match.{Match}
 use Rattle.tokens.specs.declared.single.Single as single
 use Rattle.tokens.specs.declared.single.Single.{Single}
@@ -88,19 +88,19 @@ module _ (t : Table) (ws : List ℕ) (c : ℕ) (s : Step) (x : Single) (f : Sing
   pub one_disallowed : x ≡ single.TheVariants.Disallowed → StepPut t s w w run stepped.TheVariants.Disallowed
   one_disallowed e = record { same = refl; went = sym (rw e at f.same) }
 
-pub step_sequence : (ws rest : List ℕ) (o : Option Found) (m : Match) → FoundBy ws rest o m
-    → (n : ℕ) (q : Span) (k g : ℕ) → m ≡ match.TheVariants.Found n q k g → SequenceFits ws q
-step_sequence ws rest o m d n q k g e =
-    let f : FoundBy ws rest o (match.TheVariants.Found n q k g) = rw e at d in
+pub step_sequence : (ws rest : List ℕ) (o : Option Found) (m : Answer Match) → FoundBy ws rest o m
+    → (u : Match) → m ≡ Some u → SequenceFits ws u.sequence
+step_sequence ws rest o m d u e =
+    let f : FoundBy ws rest o (Some u) = rw e at d in
     f.fits
 
 -- the step at the start of a rest that is not empty
 module _ (t : Table) (ws : List ℕ) where
-  pub step_emoji : (rest : List ℕ) (m : Match) → 1 ≤ length rest → FoundBy ws rest (find t.emoji rest) m
-      → (n : ℕ) (q : Span) (k g : ℕ) → m ≡ match.TheVariants.Found n q k g → (w w' : List ℕ) (run r : Run) → EmojiPut ws w w' q run r
-      → StepPut t (first_step t rest) w w' run (stepped.TheVariants.Went k (which.TheVariants.Emoji n g) r)
-  step_emoji rest m h d n q k g e w w' run r p =
-      let f : Found = record { number = n; taken = record { length = k; selectors = g }; stripped = strip (within q ws) } in
+  pub step_emoji : (rest : List ℕ) (m : Answer Match) → 1 ≤ length rest → FoundBy ws rest (find t.emoji rest) m
+      → (u : Match) → m ≡ Some u → (w w' : List ℕ) (run r : Run) → EmojiPut ws w w' u.sequence run r
+      → StepPut t (first_step t rest) w w' run (stepped.TheVariants.Went u.taken (which.TheVariants.Emoji u.number u.selectors) r)
+  step_emoji rest m h d u e w w' run r p =
+      let f : Found = record { number = u.number; taken = record { length = u.taken; selectors = u.selectors }; stripped = strip (within u.sequence ws) } in
       let some-found : some f ≡ find t.emoji rest = rw e at d.same in
       let s : first_step t rest ≡ emoji f = first_found t rest f h (sym some-found) in
       record {
@@ -114,7 +114,7 @@ module _ (t : Table) (ws : List ℕ) where
             };
       }
 
-  pub step_alone : (rest : List ℕ) (m : Match) → 1 ≤ length rest → FoundBy ws rest (find t.emoji rest) m → m ≡ match.TheVariants.Nothing
+  pub step_alone : (rest : List ℕ) (m : Answer Match) → 1 ≤ length rest → FoundBy ws rest (find t.emoji rest) m → m ≡ None
       → (w w' : List ℕ) (run : Run) (r : Stepped) → StepPut t (codepoint_step t (get_or rest 0 0)) w w' run r → StepPut t (first_step t rest) w w' run r
   step_alone rest m h d e w w' run r p = rw (first_alone t rest h (sym (rw e at d.same))) p
 

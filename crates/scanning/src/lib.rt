@@ -8,7 +8,7 @@ ghost use Rattle.table.specs.Layout.{the_table};
 ghost use Rattle.tokens.specs.Scan.{codepoint_step};
 ghost use Rattle.scanning.specs.Scanning.{StepPut, first_step, Scans};
 
-use finder::emoji::{Match, find};
+use finder::emoji::find;
 use laying::{Run, put_emoji, put_items, put_text};
 use sections::Sections;
 use tokens::single::{Single, alone};
@@ -81,17 +81,15 @@ fn step(words: &[u32], ix: Sections, rest: &[u32], w: &mut [u32], run: Run) -> S
 {
     let found = find(words, ix, rest);
     match found {
-        Match::Found {
-            number,
-            sequence,
-            taken,
-            selectors,
-        } => Stepped::Went {
-            taken,
-            which: Which::Emoji { number, selectors },
-            run: put_emoji(words, w, run, sequence),
+        Some(m) => Stepped::Went {
+            taken: m.taken,
+            which: Which::Emoji {
+                number: m.number,
+                selectors: m.selectors,
+            },
+            run: put_emoji(words, w, run, m.sequence),
         },
-        Match::Nothing => take_one(words, ix, w, run, rest[0]),
+        None => take_one(words, ix, w, run, rest[0]),
     }
 }
 
@@ -108,7 +106,8 @@ pub fn scan(words: &[u32], ix: Sections, label: &[u32], w: &mut [u32]) -> Scanne
         text: false,
         tag: 1,
     };
-    let mut at: usize = 0;
+    let mut at = 0;
+    // by hand: a step takes what its token is long, and the place goes on by it
     while at < label.len() {
         let went = step(words, ix, &label[at..], w, run);
         match went {

@@ -12,7 +12,7 @@ use Rattle.table.specs.Spans.{within}
 use Rattle.tokens.specs.declared.single.Single.{Single}
 use Rattle.tokens.specs.declared.single.Single.TheVariants as single
 use Rattle.finder.specs.declared.emoji.Match.{Match}
-use Rattle.finder.specs.declared.emoji.Match.TheVariants as match
+use Rattle.std.specs.Prelude.{Option as Answer, Some, None}
 use Rattle.finder.specs.Emoji.{Found, strip, find}
 use Rattle.finder.specs.Match.{FoundBy}
 use Rattle.tokens.specs.Single.{ItemsThere, SingleFound}
@@ -58,12 +58,12 @@ module _ (t : Table) (ws : List ℕ) where
   first_alone [] h e = absurd (omega arith)
   first_alone (c ∷ rest) h e = rw e
 
-  module _ (rest : List ℕ) (m : Match) (h : 1 ≤ length rest) (d : FoundBy ws rest (find t.emoji rest) m) where
-    pub look_emoji : (n : ℕ) (q : Span) (k g : ℕ) → m ≡ match.Found n q k g → StandsIs (first_step t rest) (Emoji n k)
-    look_emoji n q k g e =
-        let f : Found = record { number = n; taken = record { length = k; selectors = g }; stripped = strip (within q ws) } in
+  module _ (rest : List ℕ) (m : Answer Match) (h : 1 ≤ length rest) (d : FoundBy ws rest (find t.emoji rest) m) where
+    pub look_emoji : (u : Match) → m ≡ Some u → StandsIs (first_step t rest) (Emoji u.number u.taken)
+    look_emoji u e =
+        let f : Found = record { number = u.number; taken = record { length = u.taken; selectors = u.selectors }; stripped = strip (within u.sequence ws) } in
         let is : some f ≡ find t.emoji rest = rw e at d.same in
         record { found = f; is = first_found rest f h (sym is); number = refl; taken = refl }
 
-    pub look_codepoint : m ≡ match.Nothing → (r : Stands) → StandsIs (codepoint_step t (get_or rest 0 0)) r → StandsIs (first_step t rest) r
+    pub look_codepoint : m ≡ None → (r : Stands) → StandsIs (codepoint_step t (get_or rest 0 0)) r → StandsIs (first_step t rest) r
     look_codepoint e r s = rw (first_alone rest h (sym (rw e at d.same))) s

@@ -9,7 +9,7 @@ ghost use Rattle.scanning.specs.Scanning.{first_step};
 ghost use Rattle.tokens.specs.Tokens.{tokens_of};
 ghost use Rattle.token_extent.specs.Ends.{StandsIs, TokenEnds};
 
-use finder::emoji::{Match, find};
+use finder::emoji::find;
 use sections::Sections;
 use tokens::single::{Single, alone};
 
@@ -58,13 +58,11 @@ fn look(words: &[u32], ix: Sections, rest: &[u32]) -> Stands
 {
     let found = find(words, ix, rest);
     match found {
-        Match::Found {
-            number,
-            sequence: _,
-            taken,
-            selectors: _,
-        } => Stands::Emoji { number, taken },
-        Match::Nothing => look_alone(words, ix, rest[0]),
+        Some(m) => Stands::Emoji {
+            number: m.number,
+            taken: m.taken,
+        },
+        None => look_alone(words, ix, rest[0]),
     }
 }
 
@@ -78,6 +76,7 @@ pub fn token_end(words: &[u32], ix: Sections, rest: &[u32]) -> Extent
     let mut kind = NONE;
     let mut number = 0;
     let mut i = 0;
+    // by hand: a step takes what its token is long, and the place goes on by it
     while i < rest.len() {
         let here = look(words, ix, &rest[i..]);
         match here {

@@ -8,14 +8,14 @@ returns-in_default c = told-fault _ _ (c.layout-laid.ensures.fault c.in_default.
 pub find-found-requires : goal.find-found-requires
 find-found-requires c = c.layout-laid.ensures.found _ c.in-Found.is
 
-pub returns-in-Found-found : goal.returns-in-Found-found
-returns-in-Found-found c =
+pub returns-in-Some : goal.returns-in-Some
+returns-in-Some c =
     let f = c in
     let l = f in
-    told-found _ _ _ (l.layout-laid.ensures.found _ l.in-Found.is) _ f.find-found.ensures _ _ _ _ c.in-Found-found.is
+    told-found _ _ _ (l.layout-laid.ensures.found _ l.in-Found.is) _ f.find-found.ensures _ c.in-Some.is
 
-pub returns-in-Nothing : goal.returns-in-Nothing
-returns-in-Nothing c =
+pub returns-in-None : goal.returns-in-None
+returns-in-None c =
     let f = c in
     let l = f in
-    told-nothing _ _ _ (l.layout-laid.ensures.found _ l.in-Found.is) _ f.find-found.ensures c.in-Nothing.is
+    told-nothing _ _ _ (l.layout-laid.ensures.found _ l.in-Found.is) _ f.find-found.ensures c.in-None.is

@@ -1,17 +1,18 @@
-use Prim.Native.Nat.{◌-◌}
+use native.Mathlib.Omega.{arith}
 use Rattle.laying.proofs.Texts.{items_start, items_more, items_stop}
 use Rattle.laying.proofs.put_items.Goals as goal
 
-pub loop-i-init : goal.loop-i-init
-loop-i-init c = items_start _ _ _ _ _ c.requires.least_work_in_bounds.1.filled
+pub of-c-items-requires : goal.of-c-items-requires
+of-c-items-requires c = let r = c.requires.least_work_in_bounds.1 in record { ordered = omega (arith, r.filled); inside = r.inside }
 
-pub loop-i-preserved : goal.loop-i-preserved
-loop-i-preserved c =
-    let l = c in
-    items_more _ _ _ _ _ _ _ _ _ _ l.requires.least_work_in_bounds.1.inside l.loop-i.invariant c.loop-i-test.true c.put_text-r.ensures
+pub loop-c-init : goal.loop-c-init
+loop-c-init c = items_start _ _ _ _
+
+pub loop-c-preserved : goal.loop-c-preserved
+loop-c-preserved c = items_more _ _ _ _ _ _ _ c.loop-c.invariant _ _ c.loop-c-test.true c.put_text-r.ensures
 
 pub shape_of-w : goal.shape_of-w
-shape_of-w c = c.loop-i.invariant.same
+shape_of-w c = c.loop-c.invariant.same
 
 pub returns : goal.returns
-returns c = items_stop _ _ _ _ _ _ _ _ c.loop-i.invariant c.loop-i-test.false
+returns c = rw (← c.of-c-items.ensures) (items_stop _ _ _ _ _ _ _ c.loop-c.invariant c.loop-c-test.false)

@@ -6,16 +6,16 @@ pub put_emoji-requires : goal.put_emoji-requires
 put_emoji-requires c =
     let d = c in
     let p = d.requires in
-    (p.least_work_in_bounds.0, step_sequence _ _ _ _ d.find-found.ensures _ _ _ _ d.in-Found.is)
+    (p.least_work_in_bounds.0, step_sequence _ _ _ _ d.find-found.ensures _ d.in-Some.is)
 
-pub returns-in-Found : goal.returns-in-Found
-returns-in-Found c =
+pub returns-in-Some : goal.returns-in-Some
+returns-in-Some c =
     let e = c in
     let f = e in
-    step_emoji _ _ _ _ f.requires.least_work_in_bounds.1 f.find-found.ensures _ _ _ _ e.in-Found.is _ _ _ _ c.put_emoji.ensures
+    step_emoji _ _ _ _ f.requires.least_work_in_bounds.1 f.find-found.ensures _ e.in-Some.is _ _ _ _ c.put_emoji.ensures
 
-pub returns-in-Nothing : goal.returns-in-Nothing
-returns-in-Nothing c =
+pub returns-in-None : goal.returns-in-None
+returns-in-None c =
     let e = c in
     let f = e in
-    step_alone _ _ _ _ f.requires.least_work_in_bounds.1 f.find-found.ensures e.in-Nothing.is _ _ _ _ c.take_one.ensures
+    step_alone _ _ _ _ f.requires.least_work_in_bounds.1 f.find-found.ensures e.in-None.is _ _ _ _ c.take_one.ensures

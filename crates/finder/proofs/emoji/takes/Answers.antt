@@ -1,4 +1,3 @@
-use Prim.Native.Nat.{◌-◌}
 use native.Mathlib.Omega.{arith}
 use borrow.Author.Tests.{eqb-true, eqb-false}
 use Rattle.finder.proofs.Taking.{walk_shared, more_equal, more_left, walk_fails, walk_end}
@@ -6,7 +5,7 @@ use Rattle.finder.proofs.emoji.takes.Goals as goal
 use Rattle.finder.proofs.emoji.takes.Goals.{else-at-rest-via-else-at-rest, else-at-rest-via-then-at-rest+else-rest-at}
 
 pub loop-i-init : goal.loop-i-init
-loop-i-init c = walk_shared _ _ _ c.shared-i.ensures
+loop-i-init c = walk_shared _ _ _ c.shared-start.ensures
 
 pub loop-i-preserved-then-rest-at : goal.loop-i-preserved-then-rest-at
 loop-i-preserved-then-rest-at c =
