@@ -9,6 +9,8 @@ use mathlib.Core.Option.{Option, none, some}
 use lib.ListN.{length, get_or, take, drop, set, length-append, length-set, drop_of_length-le, length-map}
 use lib.Seq.{drop-cons, append_snoc, set_at, take_at, get_or_at, split_at, length-take-le, take-length, drop-length}
 use lib.Dec.{leb, ltb, eqb}
+use Rattle.std.specs.Prelude.{not}
+use Rattle.std.specs.List.{prefix_len}
 use borrow.Author.Tests.{eq-eqb, ne_eqb, eqb-true, lt-ltb, ltb-true, leb-true, le-leb}
 use Rattle.lists.specs.Lists.{all}
 use Rattle.table.specs.Table.{Table}
@@ -46,25 +48,15 @@ leading_end t (c ∷ d) = go (eqb (class_of t c) 0) refl (leading_end t d)
     go true e h = sym (rw e)
     go false e h = ap (λ (l : List ℕ). c ∷ l) h
 
--- what the loop that counts them keeps
-module _ (ks : List ℕ) (i : ℕ) (so : leading ks ≡ i + leading (drop i ks)) where
-  pub leading-stop : i < length ks → get_or ks i 0 ≡ 0 → i ≡ leading ks
-  unfolding leading
-  leading-stop h e =
-      let z : leading (drop i ks) ≡ 0 = rw (drop-cons ks i 0 h, e) refl in
-      omega arith
-
-  pub leading_more : i < length ks → (get_or ks i 0 ≡ 0 → ⊥) → leading ks ≡ i + 1 + leading (drop (i + 1) ks)
-  unfolding leading
-  leading_more h n =
-      let z : leading (drop i ks) ≡ suc (leading (drop (suc i) ks)) = rw (drop-cons ks i 0 h, ne_eqb (get_or ks i 0) 0 n) refl in
-      rw (add-one i) (omega arith)
-
-  pub leading-all : length ks ≤ i → i ≡ leading ks
-  unfolding leading
-  leading-all h =
-      let z : leading (drop i ks) ≡ 0 = rw (drop_of_length-le ks h) refl in
-      omega arith
+-- the chain counts the classes before the first 0
+pub leading_prefix : (ks : List ℕ) → prefix_len (λ k. not (eqb k 0)) ks ≡ leading ks
+unfolding leading
+leading_prefix [] = refl
+leading_prefix (k ∷ ks) = go (eqb k 0) (leading_prefix ks)
+  where
+    go : (b : Bool) → prefix_len (λ j. not (eqb j 0)) ks ≡ leading ks → cond (not b) (1 + prefix_len (λ j. not (eqb j 0)) ks) zero ≡ cond b zero (suc (leading ks))
+    go true e = refl
+    go false e = omega (arith, e)
 
 -- marks: what is kept of their classes is the last
 pub free_more : (last k : ℕ) → last ≤ k → 0 < k → (j : ℕ) → (free last j && ltb k j) ≡ free k j

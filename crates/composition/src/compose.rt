@@ -8,7 +8,7 @@ ghost use Rattle.composition.specs.Work.{free, leading, Ready, ComposedInto};
 ghost use Rattle.unpaired.specs.Unpaired.{Unpaired};
 ghost use Rattle.pairs.specs.Found.{PairFound};
 
-use pairs::{Composed, pair_of};
+use pairs::pair_of;
 use sections::Sections;
 
 // What c of the given class composes to with the starter s, unless the marks between, of which the last has the class `last`, block it.
@@ -20,32 +20,22 @@ fn taken_up(
     c: u32,
     last: u32,
     class: u32,
-) -> Composed
+) -> Option<u32>
     requires laid { Laid words.now ix }
     requires unpaired { Unpaired (the_table words.now) unpaired.old }
     ensures { PairFound (the_table words.now) unpaired.new (cond (free last class) (pair (the_table words.now) s c) none) result }
 {
-    if last == 0 {
+    if last == 0 || last < class {
         return pair_of(words, ix, s, unpaired, c);
     }
-    if last < class {
-        return pair_of(words, ix, s, unpaired, c);
-    }
-    Composed::Nothing
+    None
 }
 
 // How many classes stand before the first 0.
 fn lead(classes: &[u32]) -> usize
     ensures { result ≡ leading classes.now }
 {
-    let mut i = 0;
-    while i < classes.len() {
-        if classes[i] == 0 {
-            return i;
-        }
-        i += 1;
-    }
-    i
+    classes.iter().take_while(|&&k| k != 0).count()
 }
 
 // Composes the text from its first starter on.
@@ -66,18 +56,16 @@ fn compose_from(
 {
     let mut start = first;
     let mut put = first + 1;
-    let mut i = first + 1;
     let mut last: u32 = 0;
-    while i < text.len() {
+    for i in first + 1..text.len() {
         let c = text[i];
         let class = classes[i];
         let s = text[start];
-        i += 1;
         match taken_up(words, ix, unpaired, s, c, last, class) {
-            Composed::To(h) => {
+            Some(h) => {
                 text[start] = h;
             }
-            Composed::Nothing => {
+            None => {
                 text[put] = c;
                 let here = put;
                 put += 1;

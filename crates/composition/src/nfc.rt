@@ -17,10 +17,8 @@ pub fn put_classes(words: &[u32], ix: Sections, text: &[u32], classes: &mut [u32
     requires text_len { length text.now ≡ length classes.old }
     ensures { classes.new ≡ map (class_of (the_table words.now)) text.now }
 {
-    let mut i = 0;
-    while i < text.len() {
-        classes[i] = class::class_of(words, ix, text[i]);
-        i += 1;
+    for (i, &c) in text.iter().enumerate() {
+        classes[i] = class::class_of(words, ix, c);
     }
 }
 

@@ -8,7 +8,6 @@ use mathlib.Core.List.{List, [], ◌∷◌}
 use lib.ListN.{length, get_or, take, drop, set, length-take, length-drop, length-set}
 use lib.Seq.{take_all, take-suc-set, take-suc, get_or-take, get_or-drop}
 use lib.Dec.{eqb}
-use borrow.Author.Tests.{eq-eqb, ne_eqb}
 use Rattle.table.specs.declared.Span.{Span}
 use Rattle.std.specs.declared.option.Option as rust
 use Rattle.std.specs.declared.option.Option.TheVariants.{Some, None}
@@ -34,33 +33,6 @@ abbrev three : ℕ → List ℕ
 three s = (0x1100 + s / 588) ∷ (0x1161 + s % 588 / 28) ∷ (0x11A7 + s % 28) ∷ []
 
 module _ (s : ℕ) where
-  pub jamo_first : 0x1100 + s / 588 ≡ get_or (jamo_of s) 0 0
-  jamo_first = go (eqb (s % 28) 0)
-    where
-      go : (b : Bool) → 0x1100 + s / 588 ≡ get_or (cond b (two s) (three s)) 0 0
-      go true = refl
-      go false = refl
-
-  pub jamo_second : 0x1161 + s % 588 / 28 ≡ get_or (jamo_of s) 1 0
-  jamo_second = go (eqb (s % 28) 0)
-    where
-      go : (b : Bool) → 0x1161 + s % 588 / 28 ≡ get_or (cond b (two s) (three s)) 1 0
-      go true = refl
-      go false = refl
-
-  pub jamo_third : (i : ℕ) → (i ≡ 0 → ⊥) → (i ≡ 1 → ⊥) → i < length (jamo_of s) → 0x11A7 + s % 28 ≡ get_or (jamo_of s) i 0
-  jamo_third i p q h = go (eqb (s % 28) 0) h
-    where
-      go : (b : Bool) → i < length (cond b (two s) (three s)) → 0x11A7 + s % 28 ≡ get_or (cond b (two s) (three s)) i 0
-      go true k = absurd (omega arith)
-      go false k = let e : i ≡ 2 = omega arith in rw e
-
-  pub jamo_two : s % 28 ≡ 0 → 2 ≡ length (jamo_of s)
-  jamo_two z = rw (eq-eqb (s % 28) 0 z)
-
-  pub jamo_three : (s % 28 ≡ 0 → ⊥) → 3 ≡ length (jamo_of s)
-  jamo_three z = rw (ne_eqb (s % 28) 0 z)
-
   jamo_some : (c : ℕ) → or_itself c (jamo_of s) ≡ jamo_of s
   jamo_some c = go (eqb (s % 28) 0)
     where

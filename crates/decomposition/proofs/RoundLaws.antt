@@ -142,17 +142,6 @@ module _ (n : ℕ) (items : List ℕ) (c : ℕ) where
           ends true = refl
           ends false = refl
 
-  pub alone_one : 1 ≤ length items → n ≡ 1 → eqb (get_or items 0 0) c ≡ same_list (take n items) (c ∷ [])
-  alone_one h e = rw e (go items h)
-    where
-      go : (l : List ℕ) → 1 ≤ length l → eqb (get_or l 0 0) c ≡ same_list (take 1 l) (c ∷ [])
-      go [] k = absurd (omega arith)
-      go (x ∷ l) k = ends (eqb x c)
-        where
-          ends : (b : Bool) → b ≡ b && true
-          ends true = refl
-          ends false = refl
-
 -- one round more than the items of the single replacement got
 pub expanded_more : (t : Table) (n k c : ℕ) (items out out' : List ℕ) (at j to : ℕ) → n ≡ suc k → Expanding t k items out out' at j to
     → take j items ≡ single t c → j ≤ 4 → Expanded t n c out out' at to

@@ -22,7 +22,7 @@ pub enum Replacement {
     Jamo(u32),
 }
 
-// At most four codepoints: the first `count` of the items.
+// At most four codepoints: the first `count` of the items. A length beside an array: no heap.
 #[derive(Clone, Copy)]
 pub struct Parts {
     pub count: usize,
@@ -47,10 +47,7 @@ pub fn single(words: &[u32], ix: Sections, c: u32) -> Replacement
 fn jamo_count(s: u32) -> usize
     ensures { result ≡ length (jamo_of s) }
 {
-    if s % 28 == 0 {
-        return 2;
-    }
-    3
+    if s % 28 == 0 { 2 } else { 3 }
 }
 
 // The jamo at i of the syllable number s.
@@ -58,13 +55,11 @@ fn jamo_at(s: u32, i: usize) -> u32
     requires { (s < syllable_count) × (i < length (jamo_of s)) }
     ensures { result ≡ get_or (jamo_of s) i 0 }
 {
-    if i == 0 {
-        return 0x1100 + s / 588;
+    match i {
+        0 => 0x1100 + s / 588,
+        1 => 0x1161 + s % 588 / 28,
+        _ => 0x11A7 + s % 28,
     }
-    if i == 1 {
-        return 0x1161 + s % 588 / 28;
-    }
-    0x11A7 + s % 28
 }
 
 // How many codepoints a replacement puts; 0 where the codepoint stays.
@@ -105,15 +100,10 @@ pub fn replaced(words: &[u32], ix: Sections, c: u32) -> Parts
         };
     }
     let mut items: [u32; 4] = [0; 4];
-    let mut i = 0;
-    while i < n {
+    for i in 0..n {
         items[i] = item(words, by, i);
-        i += 1;
     }
-    Parts {
-        count: n,
-        items: items,
-    }
+    Parts { count: n, items }
 }
 
 // Writes c at `at`, if there is room, and answers the next place.
@@ -133,11 +123,7 @@ pub fn is_alone(parts: Parts, c: u32) -> bool
     requires { (parts.count ≤ 4) × (length parts.items ≡ 4) }
     ensures { result ≡ same_list (take parts.count parts.items) (c ∷ []) }
 {
-    let items = parts.items;
-    if parts.count != 1 {
-        return false;
-    }
-    items[0] == c
+    parts.count == 1 && parts.items[0] == c
 }
 
 // Writes c with so many rounds of replacement at `at`, as far as there is room, and answers the place behind it. What one round leaves as
@@ -156,11 +142,9 @@ fn expand(words: &[u32], ix: Sections, out: &mut [u32], at: usize, c: u32, round
         return put(out, at, c);
     }
     let mut to = at;
-    let mut i = 0;
-    while i < n {
+    for i in 0..n {
         let d = item(words, by, i);
         to = expand(words, ix, out, to, d, rounds - 1);
-        i += 1;
     }
     to
 }

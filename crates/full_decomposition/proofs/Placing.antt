@@ -15,9 +15,9 @@ use Rattle.ordering.specs.Sorting.{sort_by}
 use Rattle.ordering.proofs.SortingLaws.{length_sort, map_sort, order_sort, sort_in_order}
 use Rattle.decomposition.specs.Rounds.{Appended}
 use Rattle.composition.specs.Work.{Ready}
-use Rattle.full_decomposition.specs.declared.FormAnswer.{FormAnswer}
-use Rattle.full_decomposition.specs.declared.FormAnswer.TheVariants.{Formed, WorkedTooLong, WorkAreaTooSmall, BufferTooSmall}
-use Rattle.full_decomposition.specs.Within.{form_within}
+use Rattle.std.specs.Prelude.{Ok}
+use Rattle.full_decomposition.specs.declared.FormError.TheVariants.{WorkedTooLong, WorkAreaTooSmall, BufferTooSmall}
+use Rattle.full_decomposition.specs.Within.{FormAnswer, form_within}
 use Rattle.full_decomposition.specs.Promise.{Arranged, Ordered, RefusedAs, Standing}
 
 -- the text and its classes, sorted by these, are the text in order with its own classes
@@ -87,7 +87,7 @@ ordered t text answer out work part classes n short w hw ho a =
     }
 
 -- NFD stands there, once the answer is known
-pub standing_formed : (t : Table) (text answer answer' work work' : List ℕ) (r : FormAnswer) (n : ℕ) → r ≡ Formed n → Standing t text answer answer' work work' r
+pub standing_formed : (t : Table) (text answer answer' work work' : List ℕ) (r : FormAnswer) (n : ℕ) → r ≡ Ok n → Standing t text answer answer' work work' r
     → Ordered t text answer answer' work work' n
 standing_formed t text answer answer' work work' r n e o = subst (λ (x : FormAnswer). Standing t text answer answer' work work' x) e o
 

@@ -1,5 +1,5 @@
 -- What the functions of this crate promise, in the terms of Within.antt.
-use Rattle.std.specs.Prelude.{ℕ, ◌≤◌, ◌<◌, ◌≡◌, List, length, take}
+use Rattle.std.specs.Prelude.{ℕ, ◌≤◌, ◌<◌, ◌≡◌, List, length, take, Ok, Err}
 use Rattle.limits.specs.Limits.{most_worked}
 use Rattle.answers.specs.Verdict.{accepted, refused}
 use Rattle.table.specs.Table.{Table}
@@ -7,9 +7,9 @@ use Rattle.text.specs.Ordering.{order, nfd}
 use Rattle.text.specs.Decomposition.{four_rounds}
 use Rattle.decomposition.specs.Rounds.{Appended}
 use Rattle.composition.specs.Work.{Ready}
-use Rattle.full_decomposition.specs.declared.FormAnswer.{FormAnswer}
-use Rattle.full_decomposition.specs.declared.FormAnswer.TheVariants.{Formed, LayoutFault, WorkedTooLong, WorkAreaTooSmall, BufferTooSmall}
-use Rattle.full_decomposition.specs.Within.{form_values, form_within}
+use Rattle.full_decomposition.specs.declared.FormError.{FormError}
+use Rattle.full_decomposition.specs.declared.FormError.TheVariants.{LayoutFault, WorkedTooLong, WorkAreaTooSmall, BufferTooSmall}
+use Rattle.full_decomposition.specs.Within.{FormAnswer, form_number, form_within}
 
 -- the four rounds of the text stand at the front of the buffer, if they fit, and r is their length; past the worked limit r only says so, and the words are open
 pub record Decomposes (t : Table) (text out out' : List ℕ) (r : ℕ) : Type 0 where
@@ -34,14 +34,14 @@ pub record Ordered (t : Table) (text answer answer' work work' : List ℕ) (n : 
   pub room : n ≤ length answer'
   pub work-room : n ≤ length work'
 
--- any form is refused with the number of r
-abbrev pub RefusedAs : Table → List ℕ → ℕ → ℕ → FormAnswer → Type 0
-RefusedAs t text room work r = (form : Table → List ℕ → List ℕ) → form_within form t text room work ≡ refused (form_values r).number 0
+-- any form is refused with the number of e
+abbrev pub RefusedAs : Table → List ℕ → ℕ → ℕ → FormError → Type 0
+RefusedAs t text room work e = (form : Table → List ℕ → List ℕ) → form_within form t text room work ≡ refused (form_number e) 0
 
 -- what an answer says of full decomposition, by a table that is laid out
 abbrev pub Standing : Table → List ℕ → List ℕ → List ℕ → List ℕ → List ℕ → FormAnswer → Type 0
-Standing t text answer answer' work work' (Formed n) = Ordered t text answer answer' work work' n
-Standing t text answer answer' work work' LayoutFault = ⊥
-Standing t text answer answer' work work' WorkedTooLong = RefusedAs t text (length answer) (length work) WorkedTooLong
-Standing t text answer answer' work work' WorkAreaTooSmall = RefusedAs t text (length answer) (length work) WorkAreaTooSmall
-Standing t text answer answer' work work' BufferTooSmall = RefusedAs t text (length answer) (length work) BufferTooSmall
+Standing t text answer answer' work work' (Ok n) = Ordered t text answer answer' work work' n
+Standing t text answer answer' work work' (Err LayoutFault) = ⊥
+Standing t text answer answer' work work' (Err WorkedTooLong) = RefusedAs t text (length answer) (length work) WorkedTooLong
+Standing t text answer answer' work work' (Err WorkAreaTooSmall) = RefusedAs t text (length answer) (length work) WorkAreaTooSmall
+Standing t text answer answer' work work' (Err BufferTooSmall) = RefusedAs t text (length answer) (length work) BufferTooSmall

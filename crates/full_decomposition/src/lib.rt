@@ -11,10 +11,9 @@ use decomposition::append_decomposed;
 use limits::MOST_WORKED;
 use sections::Sections;
 
-// The length of the form, or why there is none.
+// Why there is no form.
 #[derive(Clone, Copy)]
-pub enum FormAnswer {
-    Formed(usize),
+pub enum FormError {
     LayoutFault,
     WorkedTooLong,
     WorkAreaTooSmall,
@@ -28,13 +27,11 @@ fn decompose_into(words: &[u32], ix: Sections, text: &[u32], out: &mut [u32]) ->
     ensures { Decomposes (the_table words.now) text.now out.old out.new result }
 {
     let mut to = 0;
-    let mut i = 0;
-    while i < text.len() {
-        to = append_decomposed(words, ix, out, to, text[i]);
+    for &c in text {
+        to = append_decomposed(words, ix, out, to, c);
         if to > MOST_WORKED {
             return to;
         }
-        i += 1;
     }
     to
 }
@@ -49,27 +46,27 @@ fn arrange(words: &[u32], ix: Sections, text: &mut [u32], classes: &mut [u32])
     ordering::order(text, classes);
 }
 
-// NFD at the front of `answer`, with its classes at the front of `work`.
+// NFD at the front of `answer`, with its classes at the front of `work`: its length, or why there is none.
 pub fn decomposed(
     words: &[u32],
     ix: Sections,
     text: &[u32],
     answer: &mut [u32],
     work: &mut [u32],
-) -> FormAnswer
+) -> Result<usize, FormError>
     requires { Laid words.now ix }
     ensures { Standing (the_table words.now) text.now answer.old answer.new work.old work.new result }
 {
     let n = decompose_into(words, ix, text, answer);
     if n > MOST_WORKED {
-        return FormAnswer::WorkedTooLong;
+        return Err(FormError::WorkedTooLong);
     }
     if n > work.len() {
-        return FormAnswer::WorkAreaTooSmall;
+        return Err(FormError::WorkAreaTooSmall);
     }
     if n > answer.len() {
-        return FormAnswer::BufferTooSmall;
+        return Err(FormError::BufferTooSmall);
     }
     arrange(words, ix, &mut answer[..n], &mut work[..n]);
-    FormAnswer::Formed(n)
+    Ok(n)
 }

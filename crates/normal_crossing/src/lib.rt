@@ -3,12 +3,12 @@
 #![tactic(auto)]
 
 ghost use Rattle.std.specs.Prelude.{◌≡◌};
-ghost use Rattle.full_decomposition.specs.Within.{form_values};
+ghost use Rattle.full_decomposition.specs.Within.{form_number, form_values};
 ghost use Rattle.normal_forms.specs.Forms.{nfd_call, nfc_call};
 ghost use Rattle.normal_forms.specs.Promise.{Forms};
 ghost use Rattle.normal_crossing.specs.NormalCrossing.{form_fields};
 
-use full_decomposition::FormAnswer;
+use full_decomposition::FormError;
 
 // The refusal number, 0 where there is none, and the length of the form.
 #[repr(C)]
@@ -18,26 +18,26 @@ pub struct WanlophengForm {
     pub length: usize,
 }
 
+// The number of each refusal.
+fn form_number(e: FormError) -> u32
+    ensures { result ≡ form_number e }
+{
+    match e {
+        FormError::LayoutFault => 1,
+        FormError::WorkedTooLong => 50,
+        FormError::WorkAreaTooSmall => 51,
+        FormError::BufferTooSmall => 52,
+    }
+}
+
 // An answer as plain numbers.
-fn form_fields(answer: FormAnswer) -> WanlophengForm
+fn form_fields(answer: Result<usize, FormError>) -> WanlophengForm
     ensures { form_fields result ≡ form_values answer }
 {
     match answer {
-        FormAnswer::Formed(length) => WanlophengForm { number: 0, length },
-        FormAnswer::LayoutFault => WanlophengForm {
-            number: 1,
-            length: 0,
-        },
-        FormAnswer::WorkedTooLong => WanlophengForm {
-            number: 50,
-            length: 0,
-        },
-        FormAnswer::WorkAreaTooSmall => WanlophengForm {
-            number: 51,
-            length: 0,
-        },
-        FormAnswer::BufferTooSmall => WanlophengForm {
-            number: 52,
+        Ok(length) => WanlophengForm { number: 0, length },
+        Err(e) => WanlophengForm {
+            number: form_number(e),
             length: 0,
         },
     }

@@ -8,8 +8,7 @@ use Rattle.table.specs.Table.{Table}
 use Rattle.table.specs.Layout.{parse}
 use Rattle.text.specs.Ordering.{nfd}
 use Rattle.text.specs.Composition.{nfc}
-use Rattle.full_decomposition.specs.declared.FormAnswer.{FormAnswer}
-use Rattle.full_decomposition.specs.Within.{FormValues, form_values, form_within}
+use Rattle.full_decomposition.specs.Within.{FormAnswer, FormValues, form_values, form_within}
 
 -- the length of the form, 0 beside a refusal
 abbrev pub length_of : FormAnswer → ℕ

@@ -2,8 +2,7 @@
 use Rattle.std.specs.Prelude.{ℕ, ◌≤◌, ◌≡◌, List, length}
 use Rattle.ending.specs.Ends.{Ends, Told}
 use Rattle.table.specs.Table.{Table}
-use Rattle.full_decomposition.specs.declared.FormAnswer.{FormAnswer}
-use Rattle.full_decomposition.specs.Within.{FormValues, form_values}
+use Rattle.full_decomposition.specs.Within.{FormAnswer, FormValues, form_values}
 use Rattle.normal_forms.specs.Forms.{length_of, form_by, form_answering, Forming}
 
 -- The call for a form: the values v that it answers, and every word of the answer buffer and of the work area, before the call and after it (').

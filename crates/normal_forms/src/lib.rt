@@ -5,74 +5,78 @@ ghost use Rattle.std.specs.Prelude.{◌≡◌, length};
 ghost use Rattle.text.specs.Ordering.{nfd};
 ghost use Rattle.text.specs.Composition.{nfc};
 ghost use Rattle.full_decomposition.specs.Within.{form_values};
-ghost use Rattle.normal_forms.specs.Forms.{length_of, nfd_call, nfc_call};
+ghost use Rattle.normal_forms.specs.Forms.{nfd_call, nfc_call};
 ghost use Rattle.normal_forms.specs.Promise.{Stands, Forms};
 
 use composition::compose::compose;
 use ending::finish;
-use full_decomposition::{FormAnswer, decomposed};
+use full_decomposition::{FormError, decomposed};
 use sections::Layout;
 use unpaired::KNOWN_WORDS;
 use unpaired::index::index_pairs;
 
 // NFD at the front of `answer`.
-fn nfd_front(text: &[u32], words: &[u32], answer: &mut [u32], work: &mut [u32]) -> FormAnswer
+fn nfd_front(
+    text: &[u32],
+    words: &[u32],
+    answer: &mut [u32],
+    work: &mut [u32],
+) -> Result<usize, FormError>
     ensures { Stands nfd text.now words.now answer.old answer.new (length work.old) result }
 {
     let found = layout::layout(words);
     match found {
-        Layout::Fault => FormAnswer::LayoutFault,
+        Layout::Fault => Err(FormError::LayoutFault),
         Layout::Found(ix) => decomposed(words, ix, text, answer, work),
     }
 }
 
 // NFC at the front of `answer`.
-fn nfc_front(text: &[u32], words: &[u32], answer: &mut [u32], work: &mut [u32]) -> FormAnswer
+fn nfc_front(
+    text: &[u32],
+    words: &[u32],
+    answer: &mut [u32],
+    work: &mut [u32],
+) -> Result<usize, FormError>
     ensures { Stands nfc text.now words.now answer.old answer.new (length work.old) result }
 {
     let found = layout::layout(words);
     let Layout::Found(ix) = found else {
-        return FormAnswer::LayoutFault;
+        return Err(FormError::LayoutFault);
     };
-    let arranged = decomposed(words, ix, text, answer, work);
-    let FormAnswer::Formed(n) = arranged else {
-        return arranged;
-    };
+    let n = decomposed(words, ix, text, answer, work)?;
     let mut unpaired = [0u32; KNOWN_WORDS];
     index_pairs(words, ix, &mut unpaired);
     let left = compose(words, ix, &mut unpaired, &mut answer[..n], &work[..n]);
-    FormAnswer::Formed(left)
-}
-
-// The length of the form, 0 where there is none.
-fn length_of(found: FormAnswer) -> usize
-    ensures { result ≡ length_of found }
-{
-    match found {
-        FormAnswer::Formed(n) => n,
-        FormAnswer::LayoutFault => 0,
-        FormAnswer::WorkedTooLong => 0,
-        FormAnswer::WorkAreaTooSmall => 0,
-        FormAnswer::BufferTooSmall => 0,
-    }
+    Ok(left)
 }
 
 // NFD of the text into `answer`; zeros follow, and a refusal leaves zeros alone. The work area is zeros in the end.
-pub fn nfd(text: &[u32], words: &[u32], answer: &mut [u32], work: &mut [u32]) -> FormAnswer
+pub fn nfd(
+    text: &[u32],
+    words: &[u32],
+    answer: &mut [u32],
+    work: &mut [u32],
+) -> Result<usize, FormError>
     ensures { Forms nfd_call text.now words.now answer.old answer.new work.old work.new (form_values result) }
 {
     let found = nfd_front(text, words, answer, work);
-    let n = length_of(found);
+    let n = found.unwrap_or(0);
     finish(answer, work, n);
     found
 }
 
 // NFC of the text into `answer`; zeros follow, and a refusal leaves zeros alone. The work area is zeros in the end.
-pub fn nfc(text: &[u32], words: &[u32], answer: &mut [u32], work: &mut [u32]) -> FormAnswer
+pub fn nfc(
+    text: &[u32],
+    words: &[u32],
+    answer: &mut [u32],
+    work: &mut [u32],
+) -> Result<usize, FormError>
     ensures { Forms nfc_call text.now words.now answer.old answer.new work.old work.new (form_values result) }
 {
     let found = nfc_front(text, words, answer, work);
-    let n = length_of(found);
+    let n = found.unwrap_or(0);
     finish(answer, work, n);
     found
 }

@@ -16,6 +16,7 @@ fn enter_run(part: &[u32], unpaired: &mut [u32], n: usize, from: usize) -> usize
     requires { Entering part.now unpaired.old from × (length part.now ≤ 65535) }
     ensures { Entering part.now unpaired.new result × (from ≤ result) }
 {
+    // by hand: a record's length is its own, and the place goes on by it
     let mut i = from;
     while i < part.len() {
         if part[i + 1] as usize != n {
@@ -33,6 +34,7 @@ pub fn enter_all(part: &[u32], unpaired: &mut [u32])
     requires unpaired_value { unpaired.old ≡ replicate known_words 0 }
     ensures { Filled (part_records part.now) unpaired.new }
 {
+    // by hand: a record's length is its own, and the place goes on by it
     let mut i: usize = 0;
     while i < part.len() {
         let n = part[i + 1] as usize;

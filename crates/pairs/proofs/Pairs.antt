@@ -21,14 +21,14 @@ use Rattle.table.proofs.Records.{headed_step}
 use Rattle.table.specs.declared.Span.{Span}
 use Rattle.sections.proofs.SectionLaws.{laid_small}
 use Rattle.sections.specs.declared.Sections.{Sections}
-use Rattle.pairs.specs.declared.Composed.TheVariants.{To, Nothing}
+use Rattle.std.specs.Prelude.{Some, None}
+use Rattle.std.specs.Prelude as std
 use Rattle.text.specs.Composition.{is_two, is_pair, table_pair, pair}
 use Rattle.pair_index.specs.Index.{words_of, EachFrom, StandsIn, Bounds}
 use Rattle.unpaired.specs.Unpaired.{may_compose, pair_places, record_at, is_pair_at, Unpaired, Asked}
 use Rattle.pair_entering.proofs.Each.{each_map, each_past}
 use Rattle.unpaired.proofs.Places.{walk_past, record_past, part_walk, part_words}
 use Rattle.pairs.specs.Found.{headed_at, is_pair_of, pair_at, composed_to, PairFound}
-use Rattle.pairs.specs.declared.Composed.{Composed}
 use Rattle.text.specs.Hangul.{hangul_pair}
 
 and_true : (b : Bool) → (b && true) ≡ b
@@ -167,7 +167,7 @@ pair_start ws ix part s a b set laid e u bounds =
     }
 
 module _ (t : Table) (part : List ℕ) (a b to at : ℕ) (set : List ℕ) (w : PairWalk t part a b to at set) where
-  pub pair-stop : to ≤ at → PairFound t set (table_pair t a b) Nothing
+  pub pair-stop : to ≤ at → PairFound t set (table_pair t a b) None
   pair-stop h = record { is = sym (w.so ∙ rw (pass_behind t a b to at w.left h w.each)); unpaired = w.unpaired }
 
   module _ (more : at < to) where
@@ -199,7 +199,7 @@ module _ (t : Table) (part : List ℕ) (a b to at : ℕ) (set : List ℕ) (w : P
     found = ap (first_with (is_pair_of t a b)) here.split ∙ ap (λ (r : Headed). cond (is_pair_of t a b r) (some r) (first_with (is_pair_of t a b) here.rest)) first_is
 
     module _ (set' : List ℕ) (r : Bool) (q : Asked t set' (pair_at t part at a b) r) where
-      pub pair_hit : r ≡ true → PairFound t set' (table_pair t a b) (To (get_or part at 0))
+      pub pair_hit : r ≡ true → PairFound t set' (table_pair t a b) (Some (get_or part at 0))
       pair_hit e = record { is = sym (w.so ∙ rw (found, ← q.is, e)); unpaired = q.unpaired }
 
       pub pair_on : (next : ℕ) → next ≡ at + 2 + get_or part (at + 1) 0 → r ≡ false → PairWalk t part a b to next set'
@@ -220,10 +220,10 @@ module _ (t : Table) (part : List ℕ) (a b to at : ℕ) (set : List ℕ) (w : P
           }
 
 -- Hangul comes first, then the table
-pub pair_hangul : (t : Table) (a b h : ℕ) (r : Composed) → composed_to r ≡ hangul_pair a b → r ≡ To h → some h ≡ pair t a b
+pub pair_hangul : (t : Table) (a b h : ℕ) (r : std.Option ℕ) → composed_to r ≡ hangul_pair a b → r ≡ Some h → some h ≡ pair t a b
 unfolding pair
 pair_hangul t a b h r e q = rw (← e, q)
 
-pub pair-table : (t : Table) (a b : ℕ) (r : Composed) → composed_to r ≡ hangul_pair a b → r ≡ Nothing → table_pair t a b ≡ pair t a b
+pub pair-table : (t : Table) (a b : ℕ) (r : std.Option ℕ) → composed_to r ≡ hangul_pair a b → r ≡ None → table_pair t a b ≡ pair t a b
 unfolding pair
 pair-table t a b r e q = rw (← e, q)

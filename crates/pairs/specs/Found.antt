@@ -1,17 +1,16 @@
 -- Composition pairs of two codepoints among the records, and what the code that finds them answers.
-use Rattle.std.specs.Prelude.{ℕ, ◌+◌, ◌≡◌, Bool, ◌&&◌, List, [], ◌∷◌, get_or, take, drop}
+use Rattle.std.specs.Prelude.{ℕ, ◌+◌, ◌≡◌, Bool, ◌&&◌, List, [], ◌∷◌, get_or, take, drop, Some, None}
+use Rattle.std.specs.Prelude as std
 use Rattle.std.proofs.Math.Option.{Option, none, some}
 use Rattle.table.specs.Table.{Table, Headed}
-use Rattle.pairs.specs.declared.Composed.{Composed}
 use Rattle.text.specs.Composition.{is_pair}
 use Rattle.unpaired.specs.Unpaired.{Unpaired}
 use Rattle.lists.specs.Lists.{same_list}
-use Rattle.pairs.specs.declared.Composed.TheVariants.{To, Nothing}
 
 -- what two codepoints were found to compose to
-abbrev pub composed_to : Composed → Option ℕ
-composed_to (To h) = some h
-composed_to Nothing = none
+abbrev pub composed_to : std.Option ℕ → Option ℕ
+composed_to (Some h) = some h
+composed_to None = none
 
 -- the record head, count, items at the place `at` of a part
 abbrev pub headed_at : List ℕ → ℕ → Headed
@@ -27,6 +26,6 @@ unfolding is_pair
 pair_at t part at a b = is_pair_of t a b (headed_at part at)
 
 -- o was to be found, and the set is `set` then
-pub record PairFound (t : Table) (set : List ℕ) (o : Option ℕ) (r : Composed) : Type 0 where
+pub record PairFound (t : Table) (set : List ℕ) (o : Option ℕ) (r : std.Option ℕ) : Type 0 where
   pub is : composed_to r ≡ o
   pub unpaired : Unpaired t set

@@ -17,24 +17,17 @@ use text::hangul;
 use unpaired::index::bounds_of;
 use unpaired::is_pair;
 
-// What two codepoints compose to.
-#[derive(Clone, Copy)]
-pub enum Composed {
-    To(u32),
-    Nothing,
-}
-
 // The syllable of a leading consonant and a vowel, or of an open syllable and a trailing consonant.
-pub fn hangul_pair(a: u32, b: u32) -> Composed
+pub fn hangul_pair(a: u32, b: u32) -> Option<u32>
     ensures { composed_to result ≡ hangul_pair a b }
 {
     if hangul::makes_open(a, b) {
-        return Composed::To(0xAC00 + ((a - 0x1100) * 21 + (b - 0x1161)) * 28);
+        return Some(0xAC00 + ((a - 0x1100) * 21 + (b - 0x1161)) * 28);
     }
     if hangul::makes_closed(a, b) {
-        return Composed::To(a + (b - 0x11A7));
+        return Some(a + (b - 0x11A7));
     }
-    Composed::Nothing
+    None
 }
 
 // Whether the record at `at` is a composition pair of a and b.
@@ -82,45 +75,46 @@ fn pair_in(
     s: Span,
     a: u32,
     b: u32,
-) -> Composed
+) -> Option<u32>
     requires laid { Laid words.now ix }
     requires unpaired { Unpaired (the_table words.now) unpaired.old }
     requires part_value { part.now ≡ within ix.decompositions words.now }
     requires bounds { Bounds (the_table words.now).decompositions a b s }
     ensures { PairFound (the_table words.now) unpaired.new (table_pair (the_table words.now) a b) result }
 {
+    // by hand: a record's length is its own, and the place goes on by it
     let to = s.to;
     let mut at = s.from;
     while at < to {
         if pair_at(words, ix, unpaired, part, at, a, b) {
-            return Composed::To(part[at]);
+            return Some(part[at]);
         }
         at = behind(part, at);
     }
-    Composed::Nothing
+    None
 }
 
 // What the table composes a and b to, by the index of the call.
-fn table_pair(words: &[u32], ix: Sections, unpaired: &mut [u32], a: u32, b: u32) -> Composed
+fn table_pair(words: &[u32], ix: Sections, unpaired: &mut [u32], a: u32, b: u32) -> Option<u32>
     requires laid { Laid words.now ix }
     requires unpaired { Unpaired (the_table words.now) unpaired.old }
     ensures { PairFound (the_table words.now) unpaired.new (table_pair (the_table words.now) a b) result }
 {
-    let from = ix.decompositions.from;
-    let to = ix.decompositions.to;
-    let s = bounds_of(unpaired, to - from, a, b);
-    pair_in(words, ix, unpaired, &words[from..to], s, a, b)
+    let part = ix.decompositions.of(words);
+    let s = bounds_of(unpaired, part.len(), a, b);
+    pair_in(words, ix, unpaired, part, s, a, b)
 }
 
 // What a and b compose to: Hangul first, then the table's pairs. The two do not stand side by side among the arguments: what is spilled of them on
 // the stack would.
-pub fn pair_of(words: &[u32], ix: Sections, a: u32, unpaired: &mut [u32], b: u32) -> Composed
+pub fn pair_of(words: &[u32], ix: Sections, a: u32, unpaired: &mut [u32], b: u32) -> Option<u32>
     requires laid { Laid words.now ix }
     requires unpaired { Unpaired (the_table words.now) unpaired.old }
     ensures { PairFound (the_table words.now) unpaired.new (pair (the_table words.now) a b) result }
 {
+    // by hand: the closure of an `or_else` would hold a and b side by side
     match hangul_pair(a, b) {
-        Composed::To(h) => Composed::To(h),
-        Composed::Nothing => table_pair(words, ix, unpaired, a, b),
+        Some(h) => Some(h),
+        None => table_pair(words, ix, unpaired, a, b),
     }
 }

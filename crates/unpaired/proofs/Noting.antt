@@ -6,28 +6,14 @@ use mathlib.Core.Bool.{Bool, true, false, ◌||◌, false≢true}
 use mathlib.Core.List.{List}
 use lib.ListN.{get_or, replicate, length-replicate}
 use lib.Dec.{eqb}
-use borrow.Author.Tests.{eq-eqb, ne_eqb, eqb-true}
-use Rattle.lists.specs.Lists.{mem}
+use borrow.Author.Tests.{eqb-true}
 use Rattle.table.specs.Table.{Table, Headed}
 use Rattle.bit_sets.specs.Sets.{has}
 use Rattle.bit_sets.proofs.PutLaws.{empty_has}
-use Rattle.text.specs.Decomposition.{class_of}
 use Rattle.pair_index.specs.Index.{known_words, made_place, seconds_place, slot_place, Listed, Entered, Indexed, BitPut, Filled}
 use Rattle.pair_index.proofs.Bits.{bit_kept, bit-second}
 use Rattle.pair_entering.proofs.Each.{each_map}
-use Rattle.unpaired.specs.Unpaired.{may_compose, pair_places, is_pair_at, QuickHolds, Unpaired, Asked}
-
--- what is asked of a head and a first item, in turn
-module _ (t : Table) (head a : ℕ) where
-  pub may_excluded : (x : Bool) → x ≡ mem head t.exclusions → x ≡ true → false ≡ may_compose t head a
-  may_excluded x e q = rw (← e, q)
-
-  module _ (x : Bool) (e : x ≡ mem head t.exclusions) (n : x ≡ false) (k : ℕ) (ke : k ≡ class_of t head) where
-    pub may_head : (k ≡ 0 → ⊥) → false ≡ may_compose t head a
-    may_head z = rw (← e, n, ← ke, ne_eqb k 0 z)
-
-    pub may_first : (j : ℕ) → k ≡ 0 → j ≡ class_of t a → eqb j 0 ≡ may_compose t head a
-    may_first j z je = rw (← e, n, ← ke, eq-eqb k 0 z, ← je)
+use Rattle.unpaired.specs.Unpaired.{pair_places, is_pair_at, QuickHolds, Unpaired, Asked}
 
 -- another bit leaves the index as it is
 module _ (old new : List ℕ) (d : ℕ) (p : BitPut old new d) where

@@ -88,6 +88,3 @@ module _ (ws : List ℕ) (ix : Sections) (l : Laid ws ix) where
   pub part_is : part_records (within ix.decompositions ws) ≡ (the_table ws).decompositions
   unfolding records_in
   part_is = rw (laid_reads ws ix l).decompositions
-
-  pub part_short : ix.decompositions.to - ix.decompositions.from ≤ 65535 → length (within ix.decompositions ws) ≤ 65535
-  part_short h = simp (length-take, length-drop) (omega arith)

@@ -25,12 +25,11 @@ pub fn index_pairs(words: &[u32], ix: Sections, unpaired: &mut [u32])
     requires unpaired_value { unpaired.old ≡ replicate known_words 0 }
     ensures { Unpaired (the_table words.now) unpaired.new }
 {
-    let from = ix.decompositions.from;
-    let to = ix.decompositions.to;
-    if MOST_INDEXED < to - from {
+    let part = ix.decompositions.of(words);
+    if MOST_INDEXED < part.len() {
         return;
     }
-    enter_all(&words[from..to], unpaired);
+    enter_all(part, unpaired);
     put_bit(unpaired, MADE_PLACE);
 }
 

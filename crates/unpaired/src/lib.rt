@@ -26,13 +26,9 @@ pub fn may_compose(head: u32, words: &[u32], ix: Sections, a: u32) -> bool
     requires { Laid words.now ix }
     ensures { result ≡ may_compose (the_table words.now) head a }
 {
-    if sections::lookup::is_excluded(words, ix, head) {
-        return false;
-    }
-    if class::class_of(words, ix, head) != 0 {
-        return false;
-    }
-    class::class_of(words, ix, a) == 0
+    !sections::lookup::is_excluded(words, ix, head)
+        && class::class_of(words, ix, head) == 0
+        && class::class_of(words, ix, a) == 0
 }
 
 // The same of the record with the bit `number`, which is asked for once if it is none.

@@ -11,6 +11,3 @@ decreases-expand l = l.rounds
 abbrev pub invariant-loop-i : goal.invariant-loop-i
 invariant-loop-i l =
     (l.i ≤ l.n) × Expanding (the_table l.words) (l.rounds - 1) (items_by l.words l.by) l.initial.out l.out l.at l.i l.to
-
-abbrev pub decreases-loop-i : goal.decreases-loop-i
-decreases-loop-i l = l.n - l.i

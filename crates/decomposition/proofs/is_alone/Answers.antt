@@ -1,14 +1,9 @@
 -- `decomposition::is_alone` meets its contract.
 use native.Mathlib.Omega.{arith}
-use Rattle.decomposition.proofs.RoundLaws.{alone_other, alone_one}
+use borrow.Author.Tests.{ne_eqb}
+use Rattle.decomposition.proofs.RoundLaws.{alone_other}
 use Rattle.decomposition.proofs.is_alone.Goals as goal
 
-pub returns-then-parts-ne1 : goal.returns-then-parts-ne1
-returns-then-parts-ne1 c =
-    let s = c in
-    alone_other _ _ _ (omega (arith, s.requires.0, s.requires.1)) c.if-parts-ne1.true
-
-pub returns : goal.returns
-returns c =
-    let s = c in
-    alone_one _ _ _ (omega (arith, s.requires.1)) c.if-parts-ne1.false
+pub returns-else-parts-eq1 : goal.returns-else-parts-eq1
+returns-else-parts-eq1 c =
+    rw (ne_eqb c.args.parts.count 1 c.if-parts-eq1.false) (alone_other _ _ _ (omega (arith, c.requires.0, c.requires.1)) c.if-parts-eq1.false)

@@ -1,11 +1,7 @@
-use Prim.Native.Nat.{◌-◌}
 use mathlib.Core.Path.{refl, sym}
 use native.Mathlib.Omega.{arith}
 use Rattle.decomposition.proofs.Replacing.{by_none, copy_start, copy_more, copied}
 use Rattle.decomposition.proofs.replaced.Goals as goal
-
-pub count-n-requires : goal.count-n-requires
-count-n-requires c = c.single-by.ensures.fits
 
 pub returns-then-n-eq0 : goal.returns-then-n-eq0
 returns-then-n-eq0 c =

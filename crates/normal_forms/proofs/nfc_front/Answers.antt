@@ -2,39 +2,41 @@
 use native.Mathlib.Omega.{arith}
 use mathlib.Core.Path.{refl, sym}
 use lib.Seq.{length-take-le}
+use Rattle.std.proofs.Common.{rules, Err, ◌≡◌}
 use Rattle.table.specs.Layout.{the_table}
 use Rattle.text.specs.Composition.{nfc}
 use Rattle.full_decomposition.specs.Promise.{Ordered}
 use Rattle.full_decomposition.proofs.Placing.{standing_formed, ordered_ready}
 use Rattle.normal_forms.proofs.Answer.{fault_stands, refused_stands, composed_stands}
-use borrow.Enum.Refused.{opened}
 use Rattle.normal_forms.proofs.nfc_front.Goals as goal
 use Rattle.normal_forms.proofs.nfc_front.Goals.{After-compose-arg-1, After-slice_known-5-1, After-unpaired-3-1}
 
 -- NFD and its classes stand there-at-After-unpaired-3-1, once the match has said so
-there-at-After-unpaired-3-1 : (c : After-unpaired-3-1) → let a = c.args in let d = c.decomposed-arranged in
-    Ordered (the_table a.words.now) a.text.now a.answer.now d.new.answer a.work.now d.new.work c.in-Formed.n
-there-at-After-unpaired-3-1 c = standing_formed _ _ _ _ _ _ _ _ c.in-Formed.is c.decomposed-arranged.ensures
+there-at-After-unpaired-3-1 : (c : After-unpaired-3-1) → let a = c.args in let d = c.decomposed in
+    Ordered (the_table a.words.now) a.text.now a.answer.now d.new.answer a.work.now d.new.work c.in_ok-n.n
+there-at-After-unpaired-3-1 c = standing_formed _ _ _ _ _ _ _ _ c.in_ok-n.was c.decomposed.ensures
 
 -- NFD and its classes stand there-at-After-compose-arg-1, once the match has said so
-there-at-After-compose-arg-1 : (c : After-compose-arg-1) → let a = c.args in let d = c.decomposed-arranged in
-    Ordered (the_table a.words.now) a.text.now a.answer.now d.new.answer a.work.now d.new.work c.in-Formed.n
-there-at-After-compose-arg-1 c = standing_formed _ _ _ _ _ _ _ _ c.in-Formed.is c.decomposed-arranged.ensures
+there-at-After-compose-arg-1 : (c : After-compose-arg-1) → let a = c.args in let d = c.decomposed in
+    Ordered (the_table a.words.now) a.text.now a.answer.now d.new.answer a.work.now d.new.work c.in_ok-n.n
+there-at-After-compose-arg-1 c = standing_formed _ _ _ _ _ _ _ _ c.in_ok-n.was c.decomposed.ensures
 
 -- NFD and its classes stand there-at-After-slice_known-5-1, once the match has said so
-there-at-After-slice_known-5-1 : (c : After-slice_known-5-1) → let a = c.args in let d = c.decomposed-arranged in
-    Ordered (the_table a.words.now) a.text.now a.answer.now d.new.answer a.work.now d.new.work c.in-Formed.n
-there-at-After-slice_known-5-1 c = standing_formed _ _ _ _ _ _ _ _ c.in-Formed.is c.decomposed-arranged.ensures
+there-at-After-slice_known-5-1 : (c : After-slice_known-5-1) → let a = c.args in let d = c.decomposed in
+    Ordered (the_table a.words.now) a.text.now a.answer.now d.new.answer a.work.now d.new.work c.in_ok-n.n
+there-at-After-slice_known-5-1 c = standing_formed _ _ _ _ _ _ _ _ c.in_ok-n.was c.decomposed.ensures
 
 pub returns-in_default : goal.returns-in_default
 returns-in_default c = fault_stands _ _ _ _ _ (c.layout-found.ensures.fault c.in_default.is)
 
-pub decomposed-arranged-requires : goal.decomposed-arranged-requires
-decomposed-arranged-requires c = c.layout-found.ensures.found _ c.in-Found.is
+pub decomposed-requires : goal.decomposed-requires
+decomposed-requires c = c.layout-found.ensures.found _ c.in-Found.is
 
-pub returns-in_default-arranged : goal.returns-in_default-arranged
-returns-in_default-arranged c =
-    refused_stands _ _ _ _ _ _ _ (c.layout-found.ensures.found _ c.in-Found.is) nfc _ (opened c.in_default-arranged.in_default-arranged-own.keys2) (omega arith) c.decomposed-arranged.ensures
+pub returns-in_err-n : goal.returns-in_err-n
+returns-in_err-n c =
+    let told = refused_stands _ _ _ _ _ _ _ (c.layout-found.ensures.found _ c.in-Found.is) nfc _ _ c.in_err-n.was (omega arith) c.decomposed.ensures in
+    let same : c.from_residual.result ≡ Err c.in_err-n.field-0.0 = search rules in
+    rw same told
 
 pub index_pairs-requires : goal.index_pairs-requires
 index_pairs-requires c = record { laid = c.layout-found.ensures.found _ c.in-Found.is; unpaired_value = refl }

@@ -1,4 +1,3 @@
-use Prim.Native.Nat.{◌-◌}
 use mathlib.Core.Path.{sym, ◌∙◌}
 use native.Mathlib.Omega.{arith}
 use Rattle.pairs.proofs.Pairs.{pair_start, pair_fits, pair-number, pair_numbered, pair_hit, pair_on, pair-stop}

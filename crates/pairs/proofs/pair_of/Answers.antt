@@ -3,13 +3,13 @@ use mathlib.Core.Path.{◌∙◌}
 use Rattle.pairs.proofs.Pairs.{pair_hangul, pair-table}
 use Rattle.pairs.proofs.pair_of.Goals as goal
 
-pub returns-in-To : goal.returns-in-To
-returns-in-To c =
+pub returns-in-Some : goal.returns-in-Some
+returns-in-Some c =
     let p = c.hangul_pair in
-    record { is = pair_hangul _ _ _ _ _ p.ensures c.in-To.is; unpaired = c.requires.unpaired }
+    record { is = pair_hangul _ _ _ _ _ p.ensures c.in-Some.is; unpaired = c.requires.unpaired }
 
-pub returns-in-Nothing : goal.returns-in-Nothing
-returns-in-Nothing c =
+pub returns-in-None : goal.returns-in-None
+returns-in-None c =
     let p = c.hangul_pair in
     let q = c.table_pair.ensures in
-    record { is = q.is ∙ pair-table _ _ _ _ p.ensures c.in-Nothing.is; unpaired = q.unpaired }
+    record { is = q.is ∙ pair-table _ _ _ _ p.ensures c.in-None.is; unpaired = q.unpaired }

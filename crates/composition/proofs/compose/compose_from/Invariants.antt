@@ -1,6 +1,4 @@
 -- `compose::compose_from` meets its contract, by what the loop keeps.
-use Prim.Native.Nat.{◌-◌}
-use lib.ListN.{length}
 use Rattle.table.specs.Layout.{the_table}
 use Rattle.unpaired.specs.Unpaired.{Unpaired}
 use Rattle.composition.proofs.Composing.{Composing}
@@ -8,6 +6,3 @@ use Rattle.composition.proofs.compose.compose_from.Given as goal
 
 abbrev pub invariant-loop-i : goal.invariant-loop-i
 invariant-loop-i l = Composing (the_table l.words) l.initial.text l.classes l.text l.start l.put l.i l.last × Unpaired (the_table l.words) l.unpaired
-
-abbrev pub decreases-loop-i : goal.decreases-loop-i
-decreases-loop-i l = length l.initial.text - l.i

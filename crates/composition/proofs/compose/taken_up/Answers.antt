@@ -2,16 +2,15 @@
 use mathlib.Core.Path.{refl}
 use borrow.Author.Tests.{eq-eqb, ne_eqb, lt-ltb, le-ltb}
 use Rattle.composition.proofs.compose.taken_up.Goals as goal
+use Rattle.composition.proofs.compose.taken_up.Goals.{then-last-eq0-via-then-last-eq0, then-last-eq0-via-else-last-eq0+then-last-class}
 
 pub returns-then-last-eq0 : goal.returns-then-last-eq0
 returns-then-last-eq0 c =
     let a = c.args in
-    rw (eq-eqb a.last 0 c.if-last-eq0.true) c.pair_of.ensures
-
-pub returns-then-last-class : goal.returns-then-last-class
-returns-then-last-class c =
-    let a = c.args in
-    rw (ne_eqb a.last 0 c.if-last-eq0.false, lt-ltb a.last a.class c.if-last-class.true) c.pair_of-then-last-class.ensures
+    elim c.then-last-eq0.branch [
+      | then-last-eq0-via-then-last-eq0 w ↦ rw (eq-eqb a.last 0 w.if-last-eq0.true) c.pair_of.ensures
+      | then-last-eq0-via-else-last-eq0+then-last-class w ↦ rw (ne_eqb a.last 0 w.if-last-eq0.false, lt-ltb a.last a.class w.if-last-class.true) c.pair_of.ensures
+    ]
 
 pub returns : goal.returns
 returns c =
