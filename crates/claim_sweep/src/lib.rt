@@ -16,17 +16,15 @@ pub fn sweep(xs: &[u32], ends: &[u64; BATCH], owners: &[u8; BATCH], k: &mut [u32
 {
     let mut end: u64 = 0;
     let mut last: usize = 0;
-    let mut q: usize = 0;
-    while q < xs.len() {
+    for (q, &x) in xs.iter().enumerate() {
         let next = ends[q];
         let owner = owners[q] as usize;
-        if (xs[q] as u64) < end && 0 < next {
+        if (x as u64) < end && 0 < next {
             unite(k, last, owner);
         }
         if end < next {
             end = next;
             last = owner;
         }
-        q += 1;
     }
 }

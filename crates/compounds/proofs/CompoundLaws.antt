@@ -1,6 +1,5 @@
 -- Laws of refusal 16: of the walks over a text, over a list and to the list of a group.
 use Prim.Native.Nat.{ℕ, zero, suc, ◌+◌, ◌-◌, ◌<◌, ◌≤◌}
-use native.Mathlib.Numerals.{add-one}
 use native.Mathlib.Omega.{arith}
 use mathlib.Core.Path.{◌≡◌, refl, sym, ◌∙◌, ap}
 use mathlib.Core.Bool.{Bool, true, false, not, ◌&&◌, ◌||◌, cond}
@@ -9,11 +8,13 @@ use mathlib.Core.Option.{Option, none, some}
 use lib.ListN.{length, get_or, take, drop, length-drop, drop_of_length-le}
 use lib.Seq.{drop-drop}
 use lib.Dec.{leb}
+use Rattle.std.specs.Bool.{then_some}
+use Rattle.std.specs.Option.{MatchOption}
 use Rattle.lists.specs.Lists.{all, is_empty, is_some, same_list, and_then}
 use Rattle.table.specs.declared.Span.{Span}
 use Rattle.table.specs.declared.GroupRecord.{GroupRecord}
 use Rattle.table.specs.Table.{Range, Group, Table}
-use Rattle.table.specs.Layout.{most_flags, only_if, in_front, ranges, sequences, is_whitelisted, has_list, flags_fit, group, GroupEnd, group_end, groups, the_table}
+use Rattle.table.specs.Layout.{most_flags, in_front, ranges, sequences, is_whitelisted, has_list, flags_fit, group, GroupEnd, group_end, groups, the_table}
 use Rattle.table.specs.Spans.{Fits, within}
 use Rattle.table.specs.Part.{SequencesAt, SequenceHere, records_in, counted_at}
 use Rattle.table.specs.GroupPart.{groups_in, GroupsPart, group_at, ListHere}
@@ -25,6 +26,7 @@ use Rattle.sections.specs.declared.Sections.{Sections}
 use Rattle.sections.specs.Laid.{Laid}
 use Rattle.sections.proofs.SectionLaws.{laid_reads}
 use Rattle.spelling.specs.Spelling.{is_mark}
+use Rattle.compounds.specs.ListAt.{ListAt}
 use Rattle.compounds.specs.Compounds.{marks_of, compounds, in_list, compounds_fit, one_fits, list_of}
 
 -- The marks in front: the first n codepoints are marks.
@@ -47,10 +49,10 @@ module _ (t : Table) (s : List ℕ) where
         let none_left : length (marks_of t s) ≡ n + 0 = rw (drop-next s n h, e) at w.count in
         omega arith
 
-    pub marks_end : length s ≤ n → n ≡ length (marks_of t s)
+    pub marks_end : length s ≤ n → length s ≡ length (marks_of t s)
     marks_end h =
         let none_left : length (marks_of t s) ≡ n + 0 = rw (drop_of_length-le s h) at w.count in
-        omega arith
+        omega (arith, w.inside)
 
 pub marks-behind : (t : Table) (s : List ℕ) (at n : ℕ) → n ≡ length (marks_of t (take (length s - at) (drop at s))) → n ≡ length (marks_of t (drop at s))
 marks-behind t s at n e = rw (rest_of s at) at e
@@ -204,11 +206,9 @@ module _ (part : List ℕ) (number : ℕ) where
   to_start g = group_start part (ListLeft part number number) g refl
 
   module _ (n at : ℕ) (w : GroupWalk part 0 at (ListLeft part number n)) where
-    pub to_stop : length part ≤ at → ListHere part false (record { from = 0; to = 0 }) (list_of (groups_in part) number)
-    unfolding list_of sequences records_in
-    to_stop h =
-        rw (group-stop part 0 at (ListLeft part number n) w h)
-        (record { fits = record { ordered = omega arith; inside = omega arith }; holds = refl; same = refl })
+    pub to_stop : length part ≤ at → list_of (groups_in part) number ≡ none
+    unfolding list_of
+    to_stop h = rw (group-stop part 0 at (ListLeft part number n) w h)
 
     module _ (h : at < length part) (v : GroupRecord) (e : v ≡ group_at part at) where
       pub to_here : n ≡ 0 → ListHere part v.listed v.list (list_of (groups_in part) number)
@@ -232,9 +232,15 @@ module _ (part : List ℕ) (number : ℕ) where
           less zero i rest = absurd (i refl)
           less (suc k) i rest = let j : suc k - 1 ≡ k = omega arith in rw j
 
+-- the list of a group, by its flag and its place
+module _ (ws : List ℕ) (s : Span) (list : Option (List (List ℕ))) where
+  pub list-told : (b : Bool) → ListHere ws b s list → MatchOption (then_some b s) (list ≡ none) (λ r. ListAt ws r list)
+  list-told true h = record { fits = h.fits; holds = h.holds; same = h.same }
+  list-told false h = h.same
+
 -- the list of a part of the words, by its place among all
-pub list-behind : (ws : List ℕ) (s t : Span) (b : Bool) (list : Option (List (List ℕ))) → Fits ws s → ListHere (within s ws) b t list → ListHere ws b (behind s.from t) list
-list-behind ws s t b list f h =
+pub list-behind : (ws : List ℕ) (s t : Span) (list : Option (List (List ℕ))) → Fits ws s → ListAt (within s ws) t list → ListAt ws (behind s.from t) list
+list-behind ws s t list f h =
     let same : within t (within s ws) ≡ within (behind s.from t) ws = within-within ws s t f h.fits in
     record { fits = behind-fits ws s t f h.fits; holds = rw same at h.holds; same = rw same at h.same }
 
@@ -247,14 +253,14 @@ pub fits-asked : (white b : Bool) → not white ≡ false → b ≡ (not white |
 fits-asked true b e = refl
 fits-asked false b e = absurd (false_true (sym e))
 
-module _ (t : Table) (ws : List ℕ) (b : Bool) (s : Span) (list : Option (List (List ℕ))) (l : ListHere ws b s list) (text : List ℕ) where
-  pub fits_unlisted : b ≡ false → true ≡ compounds_fit t list text
+module _ (t : Table) (list : Option (List (List ℕ))) (text : List ℕ) where
+  pub fits_unlisted : list ≡ none → true ≡ compounds_fit t list text
   unfolding compounds_fit
-  fits_unlisted e = rw (l.same, e)
+  fits_unlisted e = rw e
 
-  pub fits-listed : b ≡ true → all (in_list (records_in sequences (within s ws))) (compounds t text) ≡ compounds_fit t list text
+  pub fits-listed : (ws : List ℕ) (s : Span) → ListAt ws s list → all (in_list (records_in sequences (within s ws))) (compounds t text) ≡ compounds_fit t list text
   unfolding compounds_fit
-  fits-listed e = rw (l.same, e)
+  fits-listed ws s l = rw l.same
 
 -- "flag 4, allowed only beside flag 2": a group with a list is whitelisted, in every table that is read from words
 abbrev pub listed_white : Group → Bool

@@ -1,2 +1,3 @@
 pub mod Compounds
 pub mod Tokens
+pub mod ListAt

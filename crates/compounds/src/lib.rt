@@ -1,14 +1,16 @@
 // Refusal 16: the compound sequences of a text, each asked for in the list of the text's group.
 #![tactic(auto)]
 
-ghost use Rattle.std.specs.Prelude.{◌≡◌, ◌<◌, true, not, ◌||◌, length};
+ghost use Rattle.std.specs.Prelude.{◌≡◌, ◌<◌, true, not, ◌||◌, length, MatchOption};
+ghost use Rattle.std.proofs.Math.Option.{none};
 ghost use Rattle.lists.specs.Lists.{all, is_some};
 ghost use Rattle.table.specs.Layout.{sequences, the_table};
 ghost use Rattle.table.specs.Spans.{Fits, within};
 ghost use Rattle.table.specs.Part.{records_in};
-ghost use Rattle.table.specs.GroupPart.{GroupsPart, groups_in, ListHere};
+ghost use Rattle.table.specs.GroupPart.{GroupsPart, groups_in};
 ghost use Rattle.sections.specs.Laid.{Laid};
 ghost use Rattle.compounds.specs.Compounds.{marks_of, compounds, in_list, compounds_fit, one_fits, list_of};
+ghost use Rattle.compounds.specs.ListAt.{ListAt};
 
 use buffers::same;
 use sections::Sections;
@@ -16,26 +18,17 @@ use sections::lookup::is_mark;
 use table::Span;
 use table::lookup::{counted, group_at};
 
-// Where the records of a group's list stand, if it has one.
-#[derive(Clone, Copy)]
-struct GroupList {
-    listed: bool,
-    records: Span,
-}
-
 // The number of marks that the text begins with.
 fn marks_in_front(words: &[u32], ix: Sections, text: &[u32]) -> usize
     requires { Laid words.now ix }
     ensures { result ≡ length (marks_of (the_table words.now) text.now) }
 {
-    let mut n: usize = 0;
-    while n < text.len() {
-        if !is_mark(words, ix, text[n]) {
+    for (n, &c) in text.iter().enumerate() {
+        if !is_mark(words, ix, c) {
             return n;
         }
-        n += 1;
     }
-    n
+    text.len()
 }
 
 // Whether a list has the sequence.
@@ -43,15 +36,14 @@ fn in_list(list: &[u32], run: &[u32]) -> bool
     requires { is_some (sequences (length list.now) list.now) ≡ true }
     ensures { result ≡ in_list (records_in sequences list.now) run.now }
 {
+    // by hand: a record's length is its own, and the place goes on by it
     let mut at: usize = 0;
     while at < list.len() {
         let items = counted(list, at);
-        let from = items.from;
-        let to = items.to;
-        if same(run, &list[from..to]) {
+        if same(run, items.of(list)) {
             return true;
         }
-        at = to;
+        at = items.to;
     }
     false
 }
@@ -68,9 +60,7 @@ fn one_fits(words: &[u32], ix: Sections, list: Span, run: &[u32]) -> bool
     if is_mark(words, ix, run[0]) {
         return true;
     }
-    let from = list.from;
-    let to = list.to;
-    in_list(&words[from..to], run)
+    in_list(list.of(words), run)
 }
 
 // Whether the list has every compound sequence of the text.
@@ -79,6 +69,7 @@ fn all_listed(words: &[u32], ix: Sections, list: Span, text: &[u32]) -> bool
     requires words_value { is_some (sequences (length (within list words.now)) (within list words.now)) ≡ true }
     ensures { result ≡ all (in_list (records_in sequences (within list words.now))) (compounds (the_table words.now) text.now) }
 {
+    // by hand: the place goes on behind the marks
     let mut i: usize = 0;
     while i < text.len() {
         let behind = i + 1;
@@ -91,47 +82,36 @@ fn all_listed(words: &[u32], ix: Sections, list: Span, text: &[u32]) -> bool
     true
 }
 
-// The list of the group of this number.
-fn list_in(part: &[u32], number: usize) -> GroupList
+// Where the records of the list of the group of this number stand, if it has one.
+fn list_in(part: &[u32], number: usize) -> Option<Span>
     requires { GroupsPart part.now }
-    ensures { ListHere part.now result.listed result.records (list_of (groups_in part.now) number) }
+    ensures { MatchOption result (list_of (groups_in part.now) number ≡ none) (λ s. ListAt part.now s (list_of (groups_in part.now) number)) }
 {
+    // by hand: a record's length is its own, and the place goes on by it
     let mut left = number;
     let mut at: usize = 0;
     while at < part.len() {
         let group = group_at(part, at);
-        let records = group.list;
         if left == 0 {
-            return GroupList {
-                listed: group.listed,
-                records: records,
-            };
+            return group.listed.then_some(group.list);
         }
         left -= 1;
         at = group.next;
     }
-    GroupList {
-        listed: false,
-        records: Span { from: 0, to: 0 },
-    }
+    None
 }
 
-fn list_of(words: &[u32], ix: Sections, number: usize) -> GroupList
+fn list_of(words: &[u32], ix: Sections, number: usize) -> Option<Span>
     requires { Laid words.now ix }
-    ensures { ListHere words.now result.listed result.records (list_of (the_table words.now).groups number) }
+    ensures { MatchOption result (list_of (the_table words.now).groups number ≡ none)
+        (λ s. ListAt words.now s (list_of (the_table words.now).groups number)) }
 {
     let s = ix.groups;
-    let from = s.from;
-    let to = s.to;
-    let found = list_in(&words[from..to], number);
-    let records = found.records;
-    GroupList {
-        listed: found.listed,
-        records: Span {
-            from: from + records.from,
-            to: from + records.to,
-        },
-    }
+    let list = list_in(s.of(words), number)?;
+    Some(Span {
+        from: s.from + list.from,
+        to: s.from + list.to,
+    })
 }
 
 // Whether the group of this number, where it has a list, permits the text. Only a whitelisted group has one.
@@ -148,9 +128,8 @@ pub fn compounds_fit(
     if !whitelisted {
         return true;
     }
-    let list = list_of(words, ix, number);
-    if !list.listed {
-        return true;
+    match list_of(words, ix, number) {
+        Some(list) => all_listed(words, ix, list, text),
+        None => true,
     }
-    all_listed(words, ix, list.records, text)
 }

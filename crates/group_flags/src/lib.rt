@@ -18,6 +18,7 @@ fn flag_in(part: &[u32], sorted: bool, flags: &mut [u32; 256], m: u32)
     requires flags_len { length flags.old ≡ most_groups }
     ensures { flags.new ≡ flagged m (groups_in part.now) flags.old }
 {
+    // by hand: a record's length is its own, and the place goes on by it
     let mut n: usize = 0;
     let mut at: usize = 0;
     while at < part.len() {
@@ -36,12 +37,10 @@ pub fn keep_both(flags: &mut [u32; 256], others: &[u32; 256])
     requires others_len { length others.now ≡ most_groups }
     ensures { flags.new ≡ kept flags.old others.now }
 {
-    let mut i: usize = 0;
-    while i < 256 {
-        if others[i] == 0 {
+    for (i, &other) in others.iter().enumerate() {
+        if other == 0 {
             flags[i] = 0;
         }
-        i += 1;
     }
 }
 
@@ -50,14 +49,7 @@ pub fn any_set(flags: &[u32; 256]) -> bool
     requires { length flags.now ≡ most_groups }
     ensures { result ≡ any_set flags.now }
 {
-    let mut i: usize = 0;
-    while i < 256 {
-        if flags[i] != 0 {
-            return true;
-        }
-        i += 1;
-    }
-    false
+    flags.iter().any(|&f| f != 0)
 }
 
 // Sets the flags of the groups of a table that hold m.
@@ -66,10 +58,7 @@ pub fn flag_holders(words: &[u32], ix: Sections, flags: &mut [u32; 256], m: u32)
     requires flags_len { length flags.old ≡ most_groups }
     ensures { flags.new ≡ flagged m (the_table words.now).groups flags.old }
 {
-    let s = ix.groups;
-    let from = s.from;
-    let to = s.to;
-    flag_in(&words[from..to], ix.sorted.groups, flags, m);
+    flag_in(ix.groups.of(words), ix.sorted.groups, flags, m);
 }
 
 // Keeps the flags of the groups whose component, by its number, is there and is not that of `own`.
@@ -78,12 +67,10 @@ pub fn keep_apart(flags: &mut [u32; 256], k: &[u32], own: u32)
     requires k_len { length k.now ≡ most_groups }
     ensures { flags.new ≡ kept flags.old (apart own k.now) }
 {
-    let mut i: usize = 0;
-    while i < 256 {
-        if k[i] == 0 || k[i] == own {
+    for (i, &x) in k.iter().enumerate() {
+        if x == 0 || x == own {
             flags[i] = 0;
         }
-        i += 1;
     }
 }
 
@@ -93,6 +80,7 @@ fn own_number(part: &[u32], sorted: bool, k: &[u32], c: u32) -> u32
     requires k_len { length k.now ≡ most_groups }
     ensures { OwnNumber (groups_in part.now) k.now c result }
 {
+    // by hand: a record's length is its own, and the place goes on by it
     let mut n: usize = 0;
     let mut at: usize = 0;
     while at < part.len() {
@@ -114,9 +102,6 @@ pub fn keep_outside(words: &[u32], ix: Sections, flags: &mut [u32; 256], k: &[u3
     requires k_len { length k.now ≡ most_groups }
     ensures { KeepsOutside (the_table words.now).groups k.now c flags.old flags.new }
 {
-    let s = ix.groups;
-    let from = s.from;
-    let to = s.to;
-    let own = own_number(&words[from..to], ix.sorted.groups, k, c);
+    let own = own_number(ix.groups.of(words), ix.sorted.groups, k, c);
     keep_apart(flags, k, own);
 }

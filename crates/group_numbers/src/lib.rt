@@ -12,12 +12,10 @@ pub const BATCH: usize = 1024;
 fn relabel(k: &mut [u32], a: u32, b: u32)
     ensures { k.new ≡ relabelled a b k.old }
 {
-    let mut i: usize = 0;
-    while i < k.len() {
-        if k[i] == a {
-            k[i] = b;
+    for x in k.iter_mut() {
+        if *x == a {
+            *x = b;
         }
-        i += 1;
     }
 }
 

@@ -20,12 +20,10 @@ fn take_text(words: &[u32], ix: Sections, w: &mut [u32], text: &[u32]) -> bool
     requires sized { Sized w.old }
     ensures { Taken (the_table words.now) w.old w.new (four_rounds (the_table words.now) text.now) result }
 {
-    let mut i = 0;
-    while i < text.len() {
-        if !take_rounds(words, ix, w, text[i], 4) {
+    for &c in text {
+        if !take_rounds(words, ix, w, c, 4) {
             return false;
         }
-        i += 1;
     }
     true
 }

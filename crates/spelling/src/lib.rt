@@ -17,12 +17,10 @@ use table::lookup::mem_in;
 pub fn low_line(s: &[u32]) -> bool
     ensures { result ≡ spelling.low_line s.now }
 {
-    let mut i: usize = 0;
-    while i < s.len() {
-        if s[i] != 0x5F {
+    for (i, &c) in s.iter().enumerate() {
+        if c != 0x5F {
             return mem_in(&s[i..], 0x5F);
         }
-        i += 1;
     }
     false
 }
@@ -31,27 +29,14 @@ pub fn low_line(s: &[u32]) -> bool
 pub fn hyphens(s: &[u32]) -> bool
     ensures { result ≡ spelling.hyphens s.now }
 {
-    if s.len() < 4 {
-        return false;
-    }
-    if s[2] != 0x2D {
-        return false;
-    }
-    s[3] == 0x2D
+    s.len() >= 4 && s[2] == 0x2D && s[3] == 0x2D
 }
 
 // Whether every character is below 80 hex.
 pub fn all_ascii(s: &[u32]) -> bool
     ensures { result ≡ spelling.all_ascii s.now }
 {
-    let mut i: usize = 0;
-    while i < s.len() {
-        if 0x80 <= s[i] {
-            return false;
-        }
-        i += 1;
-    }
-    true
+    s.iter().all(|&c| c < 0x80)
 }
 
 // 10: a fenced character is first, last or beside another. `beside` says that the character before is fenced; nothing counts as
@@ -64,14 +49,12 @@ pub fn fenced(words: &[u32], ix: Sections, s: &[u32]) -> bool
         return false;
     }
     let mut beside = true;
-    let mut i: usize = 0;
-    while i < s.len() {
-        let here = is_fenced(words, ix, s[i]);
+    for &c in s {
+        let here = is_fenced(words, ix, c);
         if beside && here {
             return true;
         }
         beside = here;
-        i += 1;
     }
     beside
 }
@@ -83,14 +66,11 @@ pub fn leading_mark(words: &[u32], ix: Sections, w: &[u32], n: usize) -> bool
     requires n_le_most_worked { n ≤ most_worked }
     ensures { result ≡ leading_at (the_table words.now) (codes_in w.now n) (tags_in w.now n) }
 {
-    let mut i: usize = 0;
-    while i < n {
-        if w[MOST_WORKED + i] == 1 {
-            if is_mark(words, ix, w[i]) {
-                return true;
-            }
+    let tags = &w[MOST_WORKED..MOST_WORKED + n];
+    for (&c, &tag) in w[..n].iter().zip(tags) {
+        if tag == 1 && is_mark(words, ix, c) {
+            return true;
         }
-        i += 1;
     }
     false
 }

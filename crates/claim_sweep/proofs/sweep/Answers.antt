@@ -1,11 +1,10 @@
 use mathlib.Core.Path.{sym, ◌∙◌}
-use Prim.Native.Nat.{◌-◌}
 use native.Mathlib.Omega.{arith}
 use mathlib.Core.Logic.{inl, inr}
 use borrow.Author.Tests.{ltb-true, ltb-false}
 use Rattle.claim_sweep.proofs.SweepLaws.{sweep_start, sweep_stop, turn_none, turn_met, sweep_on}
 use Rattle.claim_sweep.proofs.sweep.Goals as goal
-use Rattle.claim_sweep.proofs.sweep.Goals.{else-end-next, else-xs-q, else-xs-q-via-else-xs-q, else-xs-q-via-then-xs-q+else-next-gt0, then-end-next, then-xs-q+then-next-gt0}
+use Rattle.claim_sweep.proofs.sweep.Goals.{else-end-next, else-x-end, else-x-end-via-else-x-end, else-x-end-via-then-x-end+else-next-gt0, then-end-next, then-x-end+then-next-gt0}
 
 pub loop-q-init : goal.loop-q-init
 loop-q-init c = sweep_start _ _ _ _ c.requires.claims
@@ -13,8 +12,8 @@ loop-q-init c = sweep_start _ _ _ _ c.requires.claims
 pub overflow_cast-owner : goal.overflow_cast-owner
 overflow_cast-owner c = omega (arith, c.requires.claims.few c.loop-q.q)
 
-pub overflow_cast-xs : goal.overflow_cast-xs
-overflow_cast-xs c = omega (arith, c.type_inv.xs c.loop-q.q)
+pub overflow_cast-x : goal.overflow_cast-x
+overflow_cast-x c = omega (arith, c.type_inv.xs c.loop-q.q)
 
 pub unite-requires : goal.unite-requires
 unite-requires c =
@@ -26,11 +25,11 @@ pub loop-q-preserved : goal.loop-q-preserved
 loop-q-preserved c =
     let p = c.loop-q in
     let a = c.requires in
-    sweep_on _ _ _ _ _ _ _ p.q a.xs_value a.claims p.invariant (omega arith) _
-    ((elim c.if-xs-q.branch [
-      | then-xs-q+then-next-gt0 w ↦ rw w.k-is (turn_met _ _ _ _ _ _ _ p.q a.xs_value a.claims p.invariant (omega arith) w.if-xs-q.true (ltb-true _ _ w.if-next-gt0.true-raw) _ w.unite.ensures)
-      | else-xs-q w ↦ rw w.k-is (turn_none _ _ _ _ _ _ _ p.q a.xs_value a.claims p.invariant
-          ((elim w.else-xs-q.branch [ else-xs-q-via-then-xs-q+else-next-gt0 u ↦ inr (ltb-false _ _ u.if-next-gt0.false-raw) | else-xs-q-via-else-xs-q u ↦ inl u.if-xs-q.false ])))
+    sweep_on _ _ _ _ _ _ _ p.q a.xs_value a.claims p.invariant c.loop-q-test.true _
+    ((elim c.if-x-end.branch [
+      | then-x-end+then-next-gt0 w ↦ rw w.k-is (turn_met _ _ _ _ _ _ _ p.q a.xs_value a.claims p.invariant c.loop-q-test.true w.if-x-end.true (ltb-true _ _ w.if-next-gt0.true-raw) _ w.unite.ensures)
+      | else-x-end w ↦ rw w.k-is (turn_none _ _ _ _ _ _ _ p.q a.xs_value a.claims p.invariant
+          ((elim w.else-x-end.branch [ else-x-end-via-then-x-end+else-next-gt0 u ↦ inr (ltb-false _ _ u.if-next-gt0.false-raw) | else-x-end-via-else-x-end u ↦ inl u.if-x-end.false ])))
     ])) _ _
     ((elim c.if-end-next.branch [ then-end-next u ↦ inl (u.if-end-next.true, u.end-is, u.last-is) | else-end-next u ↦ inr (u.if-end-next.false, u.end-is, u.last-is) ]))
 

@@ -1,7 +1,6 @@
-use Prim.Native.Nat.{◌-◌}
 use native.Mathlib.Omega.{arith}
 use Rattle.table.proofs.GroupWalks.{group-room, next_more, next_inside}
-use Rattle.compounds.proofs.CompoundLaws.{to_start, to_stop, to_here, to_on}
+use Rattle.compounds.proofs.CompoundLaws.{to_start, to_stop, to_here, to_on, list-told}
 use Rattle.compounds.proofs.list_in.Goals as goal
 
 pub loop-at-init : goal.loop-at-init
@@ -12,7 +11,8 @@ group_at-group-requires c = group-room _ _ c.loop-at.at _ c.loop-at.invariant c.
 
 pub returns-then-left-eq0 : goal.returns-then-left-eq0
 returns-then-left-eq0 c =
-    to_here _ _ c.loop-at.left c.loop-at.at c.loop-at.invariant c.loop-at-test.true _ c.group_at-group.ensures c.if-left-eq0.true
+    rw c.then_some.ensures
+    (list-told _ _ _ _ (to_here _ _ c.loop-at.left c.loop-at.at c.loop-at.invariant c.loop-at-test.true _ c.group_at-group.ensures c.if-left-eq0.true))
 
 pub loop-at-smaller : goal.loop-at-smaller
 loop-at-smaller c =

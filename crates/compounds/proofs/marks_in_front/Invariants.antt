@@ -1,12 +1,7 @@
 -- `compounds::marks_in_front` meets its contract.
-use Prim.Native.Nat.{◌-◌}
-use lib.ListN.{length}
 use Rattle.table.specs.Layout.{the_table}
 use Rattle.compounds.proofs.CompoundLaws.{Marks}
 use Rattle.compounds.proofs.marks_in_front.Given as goal
 
 abbrev pub invariant-loop-n : goal.invariant-loop-n
 invariant-loop-n l = Marks (the_table l.words) l.text l.n
-
-abbrev pub decreases-loop-n : goal.decreases-loop-n
-decreases-loop-n l = length l.text - l.n

@@ -1,7 +1,6 @@
 use Rattle.table.proofs.GroupWalks.{group_few, group-room, pairs_fit, next_more, next_inside}
 use Rattle.sections.proofs.SortedGroups.{sorted_start, sorted_pairs, sorted_on}
 use Rattle.group_flags.proofs.FlagWalks.{flag_start, flag_stop, flag_set, flag_keep}
-use Prim.Native.Nat.{◌-◌}
 use native.Mathlib.Omega.{arith}
 use mathlib.Core.Path.{◌∙◌, sym}
 use Rattle.group_flags.proofs.flag_in.Goals as goal

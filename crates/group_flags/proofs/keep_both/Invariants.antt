@@ -1,10 +1,6 @@
 -- `keep_both` meets its contract, by the laws of a walk over two lists of flags.
 use Rattle.group_flags.proofs.FlagWalks.{KeepWalk}
-use Prim.Native.Nat.{◌-◌}
 use Rattle.group_flags.proofs.keep_both.Given as goal
 
 abbrev pub invariant-loop-i : goal.invariant-loop-i
 invariant-loop-i l = KeepWalk l.initial.flags l.others l.flags l.i
-
-abbrev pub decreases-loop-i : goal.decreases-loop-i
-decreases-loop-i l = 256 - l.i

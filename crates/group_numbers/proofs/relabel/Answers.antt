@@ -1,20 +1,20 @@
-use Prim.Native.Nat.{◌-◌}
 use native.Mathlib.Omega.{arith}
+use lib.Seq.{set-get_or}
 use Rattle.group_numbers.proofs.NumberLaws.{relabel_start, relabel_stop, relabel_put, relabel_leave}
 use Rattle.group_numbers.proofs.relabel.Goals as goal
-use Rattle.group_numbers.proofs.relabel.Goals.{else-k-i, then-k-i}
+use Rattle.group_numbers.proofs.relabel.Goals.{else-x-a, then-x-a}
 
-pub loop-i-init : goal.loop-i-init
-loop-i-init c = relabel_start _ _ _
+pub loop-x-init : goal.loop-x-init
+loop-x-init c = relabel_start _ _ _
 
-pub loop-i-preserved : goal.loop-i-preserved
-loop-i-preserved c =
-    let p = c.loop-i in
-    let h = p.invariant.size in
-    (elim c.if-k-i.branch [ then-k-i w ↦ rw w.k-is (relabel_put _ _ _ _ p.i p.invariant (omega arith) w.if-k-i.true) | else-k-i w ↦ rw w.k-is (relabel_leave _ _ _ _ p.i p.invariant (omega arith) w.if-k-i.false) ])
+pub loop-x-preserved : goal.loop-x-preserved
+loop-x-preserved c =
+    let p = c.loop-x in
+    let h = c.loop-x-test.true in
+    (elim c.if-x-a.branch [ then-x-a w ↦ rw w.k-is (relabel_put _ _ _ _ p.x-index p.invariant h w.if-x-a.true) | else-x-a w ↦ rw (w.k-is, set-get_or p.k p.x-index 0) (relabel_leave _ _ _ _ p.x-index p.invariant h w.if-x-a.false) ])
 
 pub returns : goal.returns
 returns c =
-    let p = c.loop-i in
+    let p = c.loop-x in
     let h = p.invariant.size in
-    relabel_stop _ _ _ _ p.i p.invariant (omega arith)
+    relabel_stop _ _ _ _ p.x-index p.invariant (omega arith)

@@ -1,22 +1,11 @@
-use Prim.Native.Nat.{◌-◌}
-use native.Mathlib.Omega.{arith}
-use mathlib.Core.Path.{sym}
-use borrow.Author.Tests.{lt-ltb, le-ltb}
-use Rattle.table.proofs.Lookups.{walk_start, all_on, all_not, all-stop}
+-- `spelling::all_ascii` meets its contract.
+use Rattle.std.proofs.Common.{ltb, rules, tests, ◌∙◌}
+use Rattle.std.proofs.lemmas.Iterator.{YieldsList-from_slice}
+use Rattle.std.proofs.lemmas.Iterator.Search.{all_from_yields_List}
+use Rattle.spelling.proofs.SpellingLaws.{every_item}
 use Rattle.spelling.proofs.all_ascii.Goals as goal
 
-pub loop-i-init : goal.loop-i-init
-loop-i-init c = walk_start _ _
-
-pub returns-then-s-i-ge128 : goal.returns-then-s-i-ge128
-returns-then-s-i-ge128 c =
-    let p = c.loop-i in
-    sym (all_not _ _ p.i p.invariant (omega arith) (le-ltb _ _ c.if-s-i-ge128.true))
-
-pub loop-i-preserved : goal.loop-i-preserved
-loop-i-preserved c =
-    let p = c.loop-i in
-    all_on _ _ p.i p.invariant (omega arith) (lt-ltb _ _ c.if-s-i-ge128.false)
-
 pub returns : goal.returns
-returns c = sym (all-stop _ _ c.loop-i.i c.loop-i.invariant c.loop-i-test.false)
+returns c =
+    let s = c.args.s.now in
+    all_from_yields_List (λ x. ltb x 0x80) _ _ c.all.result c.all.ensures.ran (YieldsList-from_slice s cc) (λ x b q k. search (rules, tests)) ∙ every_item _ s

@@ -1,12 +1,7 @@
 -- `spelling::low_line` meets its contract, by the laws of a walk over the low lines at the start.
-use Prim.Native.Nat.{◌-◌}
-use lib.ListN.{length}
 use Rattle.table.proofs.Lookups.{Walk}
 use Rattle.spelling.specs.Spelling.{low_line}
 use Rattle.spelling.proofs.low_line.Given as goal
 
 abbrev pub invariant-loop-i : goal.invariant-loop-i
 invariant-loop-i l = Walk low_line l.s l.i
-
-abbrev pub decreases-loop-i : goal.decreases-loop-i
-decreases-loop-i l = length l.s - l.i
