@@ -11,7 +11,8 @@ ghost use Rattle.table.specs.Part.{records_in};
 ghost use Rattle.sound_parts.specs.Parts.{Holds, as_headed, scalar_whole};
 
 use scalar::is_scalar;
-use scalar_runs::{scalar_items_of, scalar_pairs_of};
+use scalar_runs::{scalar_items, scalar_pairs};
+use sound_parts::records::{all_heads, all_sequences};
 use table::Span;
 use table::lookup::{counted, group_at};
 
@@ -20,18 +21,7 @@ fn scalar_heads(part: &[u32]) -> bool
     requires { Holds as_headed part.now }
     ensures { result ≡ scalar_headed (records_in as_headed part.now) }
 {
-    let mut i: usize = 0;
-    while i < part.len() {
-        let items = counted(part, i + 1);
-        if !is_scalar(part[i]) {
-            return false;
-        }
-        if !scalar_items_of(part, items) {
-            return false;
-        }
-        i = items.to;
-    }
-    true
+    all_heads(part, |head, items| is_scalar(head) && scalar_items(items))
 }
 
 // Whether the items of records count, items are scalar values.
@@ -39,15 +29,7 @@ fn scalar_sequences(part: &[u32]) -> bool
     requires { Holds sequences part.now }
     ensures { result ≡ all (all is_scalar) (records_in sequences part.now) }
 {
-    let mut i: usize = 0;
-    while i < part.len() {
-        let items = counted(part, i);
-        if !scalar_items_of(part, items) {
-            return false;
-        }
-        i = items.to;
-    }
-    true
+    all_sequences(part, scalar_items)
 }
 
 // Whether the pairs of groups and the items of their lists are scalar values.
@@ -55,13 +37,14 @@ fn scalar_groups(part: &[u32]) -> bool
     requires { Holds groups part.now }
     ensures { result ≡ all scalar_group (records_in groups part.now) }
 {
+    // by hand: a record's length is its own, and the place goes on by it
     let mut i: usize = 0;
     while i < part.len() {
         let group = group_at(part, i);
-        if !scalar_pairs_of(part, group.pairs) {
+        if !scalar_pairs(group.pairs.of(part)) {
             return false;
         }
-        if !scalar_sequences_of(part, group.list) {
+        if !scalar_sequences(group.list.of(part)) {
             return false;
         }
         i = group.next;
@@ -74,15 +57,15 @@ fn scalar_wholes(part: &[u32]) -> bool
     requires { Holds wholes part.now }
     ensures { result ≡ all scalar_whole (records_in wholes part.now) }
 {
+    // by hand: a record's length is its own, and the place goes on by it
     let mut i: usize = 0;
     while i < part.len() {
         let valid = counted(part, i);
-        let at = valid.to;
-        let confused = counted(part, at);
-        if !scalar_items_of(part, valid) {
+        let confused = counted(part, valid.to);
+        if !scalar_items(valid.of(part)) {
             return false;
         }
-        if !scalar_items_of(part, confused) {
+        if !scalar_items(confused.of(part)) {
             return false;
         }
         i = confused.to;
@@ -96,9 +79,7 @@ pub fn scalar_headed_of(words: &[u32], s: Span) -> bool
     requires holds { Holds as_headed (within s words.now) }
     ensures { result ≡ scalar_headed (records_in as_headed (within s words.now)) }
 {
-    let from = s.from;
-    let to = s.to;
-    scalar_heads(&words[from..to])
+    scalar_heads(s.of(words))
 }
 
 pub fn scalar_sequences_of(words: &[u32], s: Span) -> bool
@@ -106,9 +87,7 @@ pub fn scalar_sequences_of(words: &[u32], s: Span) -> bool
     requires holds { Holds sequences (within s words.now) }
     ensures { result ≡ all (all is_scalar) (records_in sequences (within s words.now)) }
 {
-    let from = s.from;
-    let to = s.to;
-    scalar_sequences(&words[from..to])
+    scalar_sequences(s.of(words))
 }
 
 pub fn scalar_groups_of(words: &[u32], s: Span) -> bool
@@ -116,9 +95,7 @@ pub fn scalar_groups_of(words: &[u32], s: Span) -> bool
     requires holds { Holds groups (within s words.now) }
     ensures { result ≡ all scalar_group (records_in groups (within s words.now)) }
 {
-    let from = s.from;
-    let to = s.to;
-    scalar_groups(&words[from..to])
+    scalar_groups(s.of(words))
 }
 
 pub fn scalar_wholes_of(words: &[u32], s: Span) -> bool
@@ -126,7 +103,5 @@ pub fn scalar_wholes_of(words: &[u32], s: Span) -> bool
     requires holds { Holds wholes (within s words.now) }
     ensures { result ≡ all scalar_whole (records_in wholes (within s words.now)) }
 {
-    let from = s.from;
-    let to = s.to;
-    scalar_wholes(&words[from..to])
+    scalar_wholes(s.of(words))
 }

@@ -9,101 +9,55 @@ ghost use Rattle.soundness.specs.Scalars.{scalars_between};
 ghost use Rattle.sound_parts.specs.Parts.{all_pairs, all_triples, scalar_triple, behind_count, ExcludedFits};
 
 use scalar::is_scalar;
+use sound_parts::records::{all_pairs, all_triples};
 use table::Span;
 
 // Whether every codepoint from first to last is a scalar value.
 fn scalars_between(first: u32, last: u32) -> bool
     ensures { result ≡ scalars_between first last }
 {
-    if 0x10FFFF < last {
-        return false;
-    }
-    if last < 0xD800 {
-        return true;
-    }
-    0xDFFF < first
+    last <= 0x10FFFF && (last < 0xD800 || 0xDFFF < first)
 }
 
 // Whether the pairs first, last are of scalar values.
-fn scalar_pairs(part: &[u32]) -> bool
+pub fn scalar_pairs(part: &[u32]) -> bool
     ensures { result ≡ all_pairs scalars_between part.now }
 {
-    let mut i: usize = 0;
-    while 1 < part.len() - i {
-        if !scalars_between(part[i], part[i + 1]) {
-            return false;
-        }
-        i += 2;
-    }
-    true
+    all_pairs(part, scalars_between)
 }
 
 // Whether the triples first, last, class are of scalar values.
 fn scalar_triples(part: &[u32]) -> bool
     ensures { result ≡ all_triples scalar_triple part.now }
 {
-    let mut i: usize = 0;
-    while 2 < part.len() - i {
-        if !scalars_between(part[i], part[i + 1]) {
-            return false;
-        }
-        i += 3;
-    }
-    true
+    all_triples(part, |first, last, _| scalars_between(first, last))
 }
 
 // Whether the items are scalar values.
-fn scalar_items(items: &[u32]) -> bool
+pub fn scalar_items(items: &[u32]) -> bool
     ensures { result ≡ all is_scalar items.now }
 {
-    let mut i: usize = 0;
-    while i < items.len() {
-        if !is_scalar(items[i]) {
-            return false;
-        }
-        i += 1;
-    }
-    true
+    items.iter().all(|&c| is_scalar(c))
 }
 
-// The same of the items and of the pairs of a part.
-pub fn scalar_items_of(words: &[u32], s: Span) -> bool
-    requires { Fits words.now s }
-    ensures { result ≡ all is_scalar (within s words.now) }
-{
-    let from = s.from;
-    let to = s.to;
-    scalar_items(&words[from..to])
-}
-
+// The same of the pairs of a part, and of the exclusions behind their count and the classes.
 pub fn scalar_pairs_of(words: &[u32], s: Span) -> bool
     requires { Fits words.now s }
     ensures { result ≡ all_pairs scalars_between (within s words.now) }
 {
-    let from = s.from;
-    let to = s.to;
-    scalar_pairs(&words[from..to])
+    scalar_pairs(s.of(words))
 }
 
-// The exclusions behind their count, and the classes.
 pub fn scalar_excluded(words: &[u32], s: Span) -> bool
     requires { ExcludedFits words.now s }
     ensures { result ≡ all is_scalar (within (behind_count s) words.now) }
 {
-    scalar_items_of(
-        words,
-        Span {
-            from: s.from + 1,
-            to: s.to,
-        },
-    )
+    scalar_items(&words[s.from + 1..s.to])
 }
 
 pub fn scalar_classes(words: &[u32], s: Span) -> bool
     requires { Fits words.now s }
     ensures { result ≡ all_triples scalar_triple (within s words.now) }
 {
-    let from = s.from;
-    let to = s.to;
-    scalar_triples(&words[from..to])
+    scalar_triples(s.of(words))
 }

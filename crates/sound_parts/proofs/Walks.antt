@@ -3,12 +3,13 @@ use Prim.Native.Nat.{ℕ, zero, suc, ◌+◌, ◌-◌, ◌<◌, ◌≤◌}
 use native.Mathlib.Omega.{arith}
 use mathlib.Core.Path.{◌≡◌, refl, sym, ◌∙◌, ap}
 use mathlib.Core.Bool.{Bool, true, false, ◌&&◌}
-use mathlib.Core.List.{List, [], ◌∷◌}
+use mathlib.Core.List.{List, [], ◌∷◌, ◌++◌}
 use mathlib.Core.Option
 use mathlib.Core.Option.{Option, none, some}
-use lib.ListN.{length, get_or, take, drop, length-drop, drop_of_length-le}
+use lib.ListN.{length, get_or, take, drop, length-drop}
 use lib.Seq.{take_all}
 use lib.Dec.{leb}
+use Rattle.std.specs.List.{list_all}
 use Rattle.lists.specs.Lists.{all, any, is_some}
 use Rattle.table.specs.declared.Span.{Span}
 use Rattle.table.specs.declared.GroupRecord.{GroupRecord}
@@ -17,7 +18,7 @@ use Rattle.table.specs.Layout.{only_if, in_front, count_fits, headed, ranges, cl
 use Rattle.table.specs.Spans.{within, Fits}
 use Rattle.table.specs.Part.{RecordsAt, HeadedAt, SequencesAt, GroupsAt, WholesAt, HeadedHere, SequenceHere, WholeHere, counted_at, confused_at, records_in}
 use Rattle.table.specs.GroupPart.{list_at, group_at, ListHere, GroupHere}
-use Rattle.table.proofs.Lookups.{only_if-some, in_front-some, drop-next, drop-two, drop-three, Walk, walk_on}
+use Rattle.table.proofs.Lookups.{only_if-some, in_front-some}
 use Rattle.table.proofs.Records.{records_start, headed_step, headed_end, sequences_step, sequences_end, groups_step, groups_end, wholes_step, wholes_end, within_count, sequence-fits, sequence_items, group-fits, group_reads}
 use Rattle.sound_parts.specs.Parts.{all_pairs, all_triples, Holds, as_headed}
 
@@ -42,55 +43,42 @@ triples_all p (a ∷ b ∷ k ∷ ws) rs h =
     let q = in_front-some (record { first = a; last = b; class = k }) (class_ranges ws) rs m.1 in
     rw (q.2, triples_all p ws q.0 q.1)
 
--- Over pairs: the walk has come to i.
-module _ (p : ℕ → ℕ → Bool) (ws : List ℕ) (i : ℕ) (w : Walk (all_pairs p) ws i) where
-  pub pairs_broken : 1 < length ws - i → p (get_or ws i 0) (get_or ws (i + 1) 0) ≡ false → false ≡ all_pairs p ws
-  unfolding all_pairs
-  pairs_broken h e = rw (w.same, drop-two ws i h, e)
+-- A walk over pairs takes the pair x off the front of ws, which leaves `rest`.
+pub pairs_front : (p : ℕ → ℕ → Bool) (x ws rest : List ℕ) (b : Bool) → ws ≡ x ++ rest → length x ≡ 2 → p (get_or x 0 0) (get_or x 1 0) ≡ b
+    → all_pairs p ws ≡ b && all_pairs p rest
+unfolding all_pairs
+pairs_front p [] ws rest b e n k = absurd (omega arith)
+pairs_front p (a ∷ []) ws rest b e n k = absurd (omega arith)
+pairs_front p (a ∷ c ∷ []) ws rest b e n k = rw (e, k)
+pairs_front p (a ∷ c ∷ d ∷ x) ws rest b e n k = absurd (omega arith)
 
-  pub pairs_on : 1 < length ws - i → p (get_or ws i 0) (get_or ws (i + 1) 0) ≡ true → Walk (all_pairs p) ws (i + 2)
-  unfolding all_pairs
-  pairs_on h e = walk_on _ _ i 2 w (omega arith) (rw (drop-two ws i h, e))
+pub pairs_end : (p : ℕ → ℕ → Bool) (ws : List ℕ) → length ws < 2 → all_pairs p ws ≡ true
+unfolding all_pairs
+pairs_end p [] h = refl
+pairs_end p (a ∷ []) h = refl
+pairs_end p (a ∷ b ∷ ws) h = absurd (omega arith)
 
-  pub pairs_done : length ws - i ≤ 1 → true ≡ all_pairs p ws
-  unfolding all_pairs
-  pairs_done h = rw w.same (go (drop i ws) (simp length-drop h))
-    where
-      go : (vs : List ℕ) → length vs ≤ 1 → true ≡ all_pairs p vs
-      go [] k = refl
-      go (a ∷ []) k = refl
-      go (a ∷ b ∷ vs) k = absurd (omega arith)
+-- The same of triples.
+pub triples_front : (p : ℕ → ℕ → ℕ → Bool) (x ws rest : List ℕ) (b : Bool) → ws ≡ x ++ rest → length x ≡ 3 → p (get_or x 0 0) (get_or x 1 0) (get_or x 2 0) ≡ b
+    → all_triples p ws ≡ b && all_triples p rest
+unfolding all_triples
+triples_front p [] ws rest b e n k = absurd (omega arith)
+triples_front p (a ∷ []) ws rest b e n k = absurd (omega arith)
+triples_front p (a ∷ c ∷ []) ws rest b e n k = absurd (omega arith)
+triples_front p (a ∷ c ∷ d ∷ []) ws rest b e n k = rw (e, k)
+triples_front p (a ∷ c ∷ d ∷ f ∷ x) ws rest b e n k = absurd (omega arith)
 
--- Over triples.
-module _ (p : ℕ → ℕ → ℕ → Bool) (ws : List ℕ) (i : ℕ) (w : Walk (all_triples p) ws i) where
-  pub triples_broken : 2 < length ws - i → p (get_or ws i 0) (get_or ws (i + 1) 0) (get_or ws (i + 2) 0) ≡ false → false ≡ all_triples p ws
-  unfolding all_triples
-  triples_broken h e = rw (w.same, drop-three ws i h, e)
+pub triples_end : (p : ℕ → ℕ → ℕ → Bool) (ws : List ℕ) → length ws < 3 → all_triples p ws ≡ true
+unfolding all_triples
+triples_end p [] h = refl
+triples_end p (a ∷ []) h = refl
+triples_end p (a ∷ b ∷ []) h = refl
+triples_end p (a ∷ b ∷ c ∷ ws) h = absurd (omega arith)
 
-  pub triples_on : 2 < length ws - i → p (get_or ws i 0) (get_or ws (i + 1) 0) (get_or ws (i + 2) 0) ≡ true → Walk (all_triples p) ws (i + 3)
-  unfolding all_triples
-  triples_on h e = walk_on _ _ i 3 w (omega arith) (rw (drop-three ws i h, e))
-
-  pub triples_done : length ws - i ≤ 2 → true ≡ all_triples p ws
-  unfolding all_triples
-  triples_done h = rw w.same (go (drop i ws) (simp length-drop h))
-    where
-      go : (vs : List ℕ) → length vs ≤ 2 → true ≡ all_triples p vs
-      go [] k = refl
-      go (a ∷ []) k = refl
-      go (a ∷ b ∷ []) k = refl
-      go (a ∷ b ∷ c ∷ vs) k = absurd (omega arith)
-
--- Over items.
-module _ (p : ℕ → Bool) (ws : List ℕ) (i : ℕ) where
-  pub items_broken : Walk (all p) ws i → i < length ws → p (get_or ws i 0) ≡ false → false ≡ all p ws
-  items_broken w h e = rw (w.same, drop-next ws i h, e)
-
-  pub items_on : Walk (all p) ws i → i < length ws → p (get_or ws i 0) ≡ true → Walk (all p) ws (i + 1)
-  items_on w h e = walk_on _ _ i 1 w (omega arith) (rw (drop-next ws i h, e))
-
-  pub items_done : Walk (all p) ws i → length ws ≤ i → true ≡ all p ws
-  items_done w h = rw (w.same, drop_of_length-le ws h)
+-- that every item passes, in std's words and in those of `lists`
+pub every_item : (p : ℕ → Bool) (s : List ℕ) → list_all p s ≡ all p s
+every_item p [] = refl
+every_item p (x ∷ s) = ap (λ (b : Bool). p x && b) (every_item p s)
 
 -- Over records: the walk has come to `at`, and f gives for the records left what it gives for all.
 pub record Through {X A : Type 0} (f : List X → A) (reader : ℕ → List ℕ → Option (List X)) (part : List ℕ) (at : ℕ) : Type 0 where

@@ -1,10 +1,13 @@
-use Prim.Native.Nat.{ℕ, ◌-◌}
+use Prim.Native.Nat.{ℕ}
 use mathlib.Core.Path.{◌≡◌, sym, ◌∙◌, ap}
 use mathlib.Core.List.{List}
 use borrow.Author.Tests.{not-true, not-false}
 use Rattle.lists.specs.Lists.{all}
 use Rattle.scalar.specs.Scalar.{is_scalar}
 use Rattle.soundness.specs.Scalars.{scalars_between, scalar_group}
+use Rattle.table.specs.Layout.{sequences}
+use Rattle.table.specs.Part.{records_in}
+use Rattle.sound_parts.specs.Parts.{all_pairs}
 use Rattle.sound_parts.proofs.Walks.{pairs-all, through_start, group-room, group_in, group-listed, group_less, groups_broken, groups_on, groups_done}
 use native.Mathlib.Omega.{arith}
 use Rattle.scalar_parts.proofs.scalar_groups.Goals as goal
@@ -19,24 +22,26 @@ loop-i-init c = through_start _ _ _ c.requires
 pub group_at-group-requires : goal.group_at-group-requires
 group_at-group-requires c = group-room _ _ c.loop-i.i c.loop-i.invariant c.loop-i-test.true
 
-pub scalar_pairs_of-requires : goal.scalar_pairs_of-requires
-scalar_pairs_of-requires c = group_in _ _ c.loop-i.i c.loop-i.invariant c.loop-i-test.true _ c.group_at-group.ensures
+pub of-requires : goal.of-requires
+of-requires c = group_in _ _ c.loop-i.i c.loop-i.invariant c.loop-i-test.true _ c.group_at-group.ensures
 
-pub returns-then-not-scalar_pairs_of : goal.returns-then-not-scalar_pairs_of
-returns-then-not-scalar_pairs_of c =
+pub returns-then-not-scalar_pairs : goal.returns-then-not-scalar_pairs
+returns-then-not-scalar_pairs c =
     groups_broken scalar_group _ c.loop-i.i c.loop-i.invariant c.loop-i-test.true _ c.group_at-group.ensures
-    (λ rs list e k. rw (sym (pairs-all scalars_between _ rs e) ∙ sym c.scalar_pairs_of.ensures ∙ not-true _ c.if-not-scalar_pairs_of.true-raw))
+    (λ rs list e k. rw (sym (pairs-all scalars_between _ rs e) ∙ ap (all_pairs scalars_between) (sym c.of.ensures) ∙ sym c.scalar_pairs.ensures ∙ not-true _ c.if-not-scalar_pairs.true-raw))
 
-pub scalar_sequences_of-requires : goal.scalar_sequences_of-requires
-scalar_sequences_of-requires c =
-    let l = group-listed _ _ c.loop-i.i c.loop-i.invariant c.loop-i-test.true _ c.group_at-group.ensures in
-    record { fits = l.fits; holds = l.holds }
+pub of-requires-in-loop-i : goal.of-requires-in-loop-i
+of-requires-in-loop-i c = (group-listed _ _ c.loop-i.i c.loop-i.invariant c.loop-i-test.true _ c.group_at-group.ensures).fits
 
-pub returns-then-not-scalar_sequences_of : goal.returns-then-not-scalar_sequences_of
-returns-then-not-scalar_sequences_of c =
+pub scalar_sequences-requires : goal.scalar_sequences-requires
+scalar_sequences-requires c =
+    rw (c.of-in-loop-i.ensures) (group-listed _ _ c.loop-i.i c.loop-i.invariant c.loop-i-test.true _ c.group_at-group.ensures).holds
+
+pub returns-then-not-scalar_sequences : goal.returns-then-not-scalar_sequences
+returns-then-not-scalar_sequences c =
     groups_broken scalar_group _ c.loop-i.i c.loop-i.invariant c.loop-i-test.true _ c.group_at-group.ensures
-    (λ rs list e k. rw (sym (pairs-all scalars_between _ rs e) ∙ sym c.scalar_pairs_of.ensures ∙ not-false _ c.if-not-scalar_pairs_of.false-raw)
-    (lists_same _ _ k ∙ sym c.scalar_sequences_of.ensures ∙ not-true _ c.if-not-scalar_sequences_of.true-raw))
+    (λ rs list e k. rw (sym (pairs-all scalars_between _ rs e) ∙ ap (all_pairs scalars_between) (sym c.of.ensures) ∙ sym c.scalar_pairs.ensures ∙ not-false _ c.if-not-scalar_pairs.false-raw)
+    (lists_same _ _ (k ∙ ap (records_in sequences) (sym c.of-in-loop-i.ensures)) ∙ sym c.scalar_sequences.ensures ∙ not-true _ c.if-not-scalar_sequences.true-raw))
 
 pub loop-i-smaller : goal.loop-i-smaller
 loop-i-smaller c = omega (arith, group_less _ _ c.loop-i.i c.loop-i.invariant c.loop-i-test.true _ c.group_at-group.ensures)
@@ -44,8 +49,8 @@ loop-i-smaller c = omega (arith, group_less _ _ c.loop-i.i c.loop-i.invariant c.
 pub loop-i-preserved : goal.loop-i-preserved
 loop-i-preserved c =
     groups_on scalar_group _ c.loop-i.i c.loop-i.invariant c.loop-i-test.true _ c.group_at-group.ensures
-    (λ rs list e k. rw (sym (pairs-all scalars_between _ rs e) ∙ sym c.scalar_pairs_of.ensures ∙ not-false _ c.if-not-scalar_pairs_of.false-raw)
-    (lists_same _ _ k ∙ sym c.scalar_sequences_of.ensures ∙ not-false _ c.if-not-scalar_sequences_of.false-raw))
+    (λ rs list e k. rw (sym (pairs-all scalars_between _ rs e) ∙ ap (all_pairs scalars_between) (sym c.of.ensures) ∙ sym c.scalar_pairs.ensures ∙ not-false _ c.if-not-scalar_pairs.false-raw)
+    (lists_same _ _ (k ∙ ap (records_in sequences) (sym c.of-in-loop-i.ensures)) ∙ sym c.scalar_sequences.ensures ∙ not-false _ c.if-not-scalar_sequences.false-raw))
 
 pub returns : goal.returns
 returns c = groups_done scalar_group _ c.loop-i.i c.loop-i.invariant c.loop-i-test.false

@@ -1,8 +1,8 @@
-use Prim.Native.Nat.{◌-◌}
-use mathlib.Core.Path.{sym, ◌∙◌}
+use mathlib.Core.Path.{sym, ◌∙◌, ap}
 use borrow.Author.Tests.{not-true, not-false}
 use Rattle.sound_parts.specs.Parts.{scalar_lists}
 use Rattle.sound_parts.proofs.Walks.{through_start, whole_room, whole-room_2, whole-valid_in, whole-confused_in, whole_less, wholes_broken, wholes_on, wholes_done}
+use Rattle.lists.specs.Lists.{all}
 use Rattle.lists.specs.Tests.{all_both}
 use Rattle.scalar.specs.Scalar.{is_scalar}
 use native.Mathlib.Omega.{arith}
@@ -18,23 +18,23 @@ pub counted-confused-requires : goal.counted-confused-requires
 counted-confused-requires c =
     whole-room_2 _ _ c.loop-i.i c.loop-i.invariant c.loop-i-test.true c.counted-valid.result c.counted-valid.result c.counted-valid.ensures
 
-pub scalar_items_of-requires : goal.scalar_items_of-requires
-scalar_items_of-requires c =
+pub of-requires : goal.of-requires
+of-requires c =
     whole-valid_in _ _ c.loop-i.i c.loop-i.invariant c.loop-i-test.true c.counted-valid.result c.counted-confused.result c.counted-valid.ensures c.counted-confused.ensures
 
-pub returns-then-not-scalar_items_of : goal.returns-then-not-scalar_items_of
-returns-then-not-scalar_items_of c =
+pub returns-then-not-scalar_items : goal.returns-then-not-scalar_items
+returns-then-not-scalar_items c =
     wholes_broken scalar_lists _ c.loop-i.i c.loop-i.invariant c.loop-i-test.true c.counted-valid.result c.counted-confused.result c.counted-valid.ensures c.counted-confused.ensures
-    (rw (all_both is_scalar _ _, sym c.scalar_items_of.ensures ∙ not-true _ c.if-not-scalar_items_of.true-raw))
+    (rw (all_both is_scalar _ _, ap (all is_scalar) (sym c.of.ensures) ∙ sym c.scalar_items.ensures ∙ not-true _ c.if-not-scalar_items.true-raw))
 
-pub scalar_items_of-requires-in-loop-i : goal.scalar_items_of-requires-in-loop-i
-scalar_items_of-requires-in-loop-i c =
+pub of-requires-in-loop-i : goal.of-requires-in-loop-i
+of-requires-in-loop-i c =
     whole-confused_in _ _ c.loop-i.i c.loop-i.invariant c.loop-i-test.true c.counted-valid.result c.counted-confused.result c.counted-valid.ensures c.counted-confused.ensures
 
-pub returns-then-not-scalar_items_of-2 : goal.returns-then-not-scalar_items_of-2
-returns-then-not-scalar_items_of-2 c =
+pub returns-then-not-scalar_items-2 : goal.returns-then-not-scalar_items-2
+returns-then-not-scalar_items-2 c =
     wholes_broken scalar_lists _ c.loop-i.i c.loop-i.invariant c.loop-i-test.true c.counted-valid.result c.counted-confused.result c.counted-valid.ensures c.counted-confused.ensures
-    (rw (all_both is_scalar _ _, sym c.scalar_items_of.ensures ∙ not-false _ c.if-not-scalar_items_of.false-raw, sym c.scalar_items_of-in-loop-i.ensures ∙ not-true _ c.if-not-scalar_items_of-2.true-raw))
+    (rw (all_both is_scalar _ _, ap (all is_scalar) (sym c.of.ensures) ∙ sym c.scalar_items.ensures ∙ not-false _ c.if-not-scalar_items.false-raw, ap (all is_scalar) (sym c.of-in-loop-i.ensures) ∙ sym c.scalar_items-in-loop-i.ensures ∙ not-true _ c.if-not-scalar_items-2.true-raw))
 
 pub loop-i-smaller : goal.loop-i-smaller
 loop-i-smaller c =
@@ -43,7 +43,7 @@ loop-i-smaller c =
 pub loop-i-preserved : goal.loop-i-preserved
 loop-i-preserved c =
     wholes_on scalar_lists _ c.loop-i.i c.loop-i.invariant c.loop-i-test.true c.counted-valid.result c.counted-confused.result c.counted-valid.ensures c.counted-confused.ensures
-    (rw (all_both is_scalar _ _, sym c.scalar_items_of.ensures ∙ not-false _ c.if-not-scalar_items_of.false-raw, sym c.scalar_items_of-in-loop-i.ensures ∙ not-false _ c.if-not-scalar_items_of-2.false-raw))
+    (rw (all_both is_scalar _ _, ap (all is_scalar) (sym c.of.ensures) ∙ sym c.scalar_items.ensures ∙ not-false _ c.if-not-scalar_items.false-raw, ap (all is_scalar) (sym c.of-in-loop-i.ensures) ∙ sym c.scalar_items-in-loop-i.ensures ∙ not-false _ c.if-not-scalar_items-2.false-raw))
 
 pub returns : goal.returns
 returns c = wholes_done scalar_lists _ c.loop-i.i c.loop-i.invariant c.loop-i-test.false

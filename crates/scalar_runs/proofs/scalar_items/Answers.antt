@@ -1,24 +1,12 @@
-use Prim.Native.Nat.{◌-◌}
-use mathlib.Core.Path.{sym, ◌∙◌}
-use borrow.Author.Tests.{not-true, not-false}
-use Rattle.table.proofs.Lookups.{walk_start}
+-- `scalar_runs::scalar_items` meets its contract.
+use Rattle.std.proofs.Common.{rules, tests, ◌∙◌}
+use Rattle.std.proofs.lemmas.Iterator.{YieldsList-from_slice}
+use Rattle.std.proofs.lemmas.Iterator.Search.{all_from_yields_List}
 use Rattle.scalar.specs.Scalar.{is_scalar}
-use Rattle.sound_parts.proofs.Walks.{items_broken, items_on, items_done}
-use native.Mathlib.Omega.{arith}
+use Rattle.sound_parts.proofs.Walks.{every_item}
 use Rattle.scalar_runs.proofs.scalar_items.Goals as goal
 
-pub loop-i-init : goal.loop-i-init
-loop-i-init c = walk_start _ _
-
-pub returns-then-not-is_scalar : goal.returns-then-not-is_scalar
-returns-then-not-is_scalar c =
-    let l = c.loop-i in
-    items_broken _ _ l.i l.invariant (omega arith) (sym c.is_scalar.ensures ∙ not-true _ c.if-not-is_scalar.true-raw)
-
-pub loop-i-preserved : goal.loop-i-preserved
-loop-i-preserved c =
-    let l = c.loop-i in
-    items_on _ _ l.i l.invariant (omega arith) (sym c.is_scalar.ensures ∙ not-false _ c.if-not-is_scalar.false-raw)
-
 pub returns : goal.returns
-returns c = items_done _ _ c.loop-i.i c.loop-i.invariant c.loop-i-test.false
+returns c =
+    let s = c.args.items.now in
+    all_from_yields_List is_scalar _ _ c.all.result c.all.ensures.ran (YieldsList-from_slice s cc) (λ x b q k. search (rules, tests)) ∙ every_item is_scalar s
