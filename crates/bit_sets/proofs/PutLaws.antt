@@ -2,19 +2,22 @@
 use Prim.Native.Nat.{ℕ, zero, suc, ◌+◌, ◌-◌, ◌*◌, ◌/◌, ◌%◌, ◌^◌, ◌<◌, ◌≤◌}
 use native.Mathlib.Nat.{one-mul}
 use native.Mathlib.Omega.{arith}
-use mathlib.Core.Path.{◌≡◌, refl, sym, ◌∙◌, ap}
+use mathlib.Core.Path.{◌≡◌, refl, sym, ◌∙◌, ap, subst}
 use mathlib.Core.Bool.{Bool, true, false, ◌&&◌, ◌||◌}
 use mathlib.Core.List.{List, [], ◌∷◌}
-use lib.ListN.{length, get_or, set, drop, replicate, length-set, length-drop}
-use lib.Seq.{get_or-set_same, get_or-set_other}
+use lib.ListN.{length, get_or, set, replicate, length-set}
+use Rattle.std.specs.Prelude.{◌++◌}
+use Rattle.std.proofs.lemmas.List.{get_or-replicate, length-replicate}
+use Rattle.std.proofs.lemmas.Slice.{put_mid-paste}
+use borrow.Rule.Slice.PartMut.{put_mid}
+use lib.Seq.{get_or-set_same, get_or-set_other, paste, paste-zero, paste-suc}
 use lib.Bits.{bit_or}
 use lib.Pow.{shl_exact}
 use lib.Dec.{leb, ltb, eqb, lit≤}
 use borrow.Author.Tests.{eq-eqb, ne_eqb, eqb-true, eqb-false, le-leb, lt-leb, lt-ltb, le-ltb, leb-true, leb-false, ltb-true}
-use Rattle.lists.specs.Laws.{both, both_left, both_right}
+use Rattle.lists.specs.Laws.{both_left, both_right}
 use Rattle.lists.specs.Tests.{agree, not_so}
 use Rattle.table.specs.Part.{in_pairs}
-use Rattle.table.proofs.Lookups.{drop-two}
 use Rattle.bit_sets.specs.Sets.{bit, has, SetOf, Put, window_words, LowEnd, HighEnd}
 use Rattle.bit_sets.proofs.BitLaws.{bit_shifted, bit_set, bit-none, bit_full}
 
@@ -196,6 +199,34 @@ run-three x y z w a m n b h i j p q r =
     (λ d k. sym (or_false _)) r in
     putting_done (λ d. leb a d && ltb d b) x (λ d. false) w three (λ d k. refl)
 
+-- the set after its words from a up to b were filled
+pub put_filled : (s ys : List ℕ) (a b : ℕ) → a ≤ b → b ≤ length s → ys ≡ replicate (b - a) 0xFFFFFFFF
+    → Put s (put_mid a (b - a) s ys) (λ d. leb (a * 32) d && ltb d (b * 32))
+put_filled s ys a b h k e =
+    let all : a + (b - a) ≡ b = omega (arith, h) in
+    rw (← put_mid-paste a (b - a) s ys full (b - a) e refl (sym len), all) at (go (b - a) (omega arith))
+  where
+    full : List ℕ
+    full = replicate (b - a) 0xFFFFFFFF
+
+    len : length full ≡ b - a
+    len = length-replicate {A = ℕ} (b - a) 0xFFFFFFFF
+
+    go : (j : ℕ) → j ≤ b - a → Put s (paste s a full j) (λ d. leb (a * 32) d && ltb d ((a + j) * 32))
+    go zero i =
+        subst (λ (x : List ℕ). Put s x (λ d. leb (a * 32) d && ltb d ((a + 0) * 32))) (paste-zero s a full)
+        (put_none s _ (λ d k. run_none (a * 32) ((a + 0) * 32) d (omega arith)))
+    go (suc j) i =
+        let before = go j (omega (arith, i)) in
+        let room : length (paste s a full j) ≡ length s = before.room in
+        let more : set (paste s a full j) (a + j) (get_or full j 0) ≡ paste s a full (suc j)
+        = paste-suc s a full j 0 (omega (arith, k, i)) (rw len (omega (arith, i))) in
+        let word = rw (get_or-replicate {A = ℕ} (b - a) j 0xFFFFFFFF 0 (omega (arith, i))) at more in
+        let next : a + j + 1 ≡ a + suc j = omega arith in
+        let after = rw (word, next) at (put_word (paste s a full j) (a + j) (omega (arith, room, k, i))) in
+        run-three s s (paste s a full j) (paste s a full (suc j)) (a * 32) (a * 32) ((a + j) * 32) ((a + suc j) * 32) (omega arith) (omega arith)
+        (omega arith) (put_none s _ (λ d k. run_none (a * 32) (a * 32) d (omega arith))) before after
+
 -- a codepoint and its place in a window
 pub point_place : (base c d : ℕ) → base ≤ c → eqb d (c - base) ≡ eqb (base + d) c
 point_place base c d h =
@@ -271,18 +302,18 @@ module _ (base : ℕ) where
     pub range_none : to ≤ from → Put old old (λ d. leb first (base + d) && leb (base + d) last)
     range_none h = put_none old _ (λ d k. range_place d k ∙ run_none from to d h)
 
--- the pairs of a part, from i on
-module _ (c : ℕ) (part : List ℕ) (i : ℕ) where
-  pub pairs_next : 1 < length part - i
-      → in_pairs c (drop i part) ≡ leb (get_or part i 0) c && leb c (get_or part (i + 1) 0) || in_pairs c (drop (i + 2) part)
+-- the first pair of a part, and a part with none
+module _ (c : ℕ) where
+  pub pairs_next : (whole pair rest : List ℕ) → whole ≡ pair ++ rest → length pair ≡ 2
+      → in_pairs c whole ≡ leb (get_or pair 0 0) c && leb c (get_or pair 1 0) || in_pairs c rest
   unfolding in_pairs
-  pairs_next h = rw (drop-two part i h)
+  pairs_next whole [] rest e h = absurd (omega (arith, h))
+  pairs_next whole (a ∷ []) rest e h = absurd (omega (arith, h))
+  pairs_next whole (a ∷ b ∷ []) rest e h = rw e
+  pairs_next whole (a ∷ b ∷ x ∷ xs) rest e h = absurd (omega (arith, h))
 
-  pub pairs-none : length part - i ≤ 1 → in_pairs c (drop i part) ≡ false
+  pub pairs-none : (part : List ℕ) → length part < 2 → in_pairs c part ≡ false
   unfolding in_pairs
-  pairs-none h = go (drop i part) (simp length-drop h)
-    where
-      go : (vs : List ℕ) → length vs ≤ 1 → in_pairs c vs ≡ false
-      go [] k = refl
-      go (a ∷ []) k = refl
-      go (a ∷ b ∷ vs) k = absurd (omega arith)
+  pairs-none [] k = refl
+  pairs-none (a ∷ []) k = refl
+  pairs-none (a ∷ b ∷ vs) k = absurd (omega (arith, k))

@@ -46,9 +46,7 @@ pub fn put_points(set: &mut [u32], base: u32, items: &[u32])
     requires { length set.old ≡ window_words }
     ensures { Put set.old set.new (λ d. mem (base + d) items.now) }
 {
-    let mut i: usize = 0;
-    while i < items.len() {
-        put_point(set, base, items[i]);
-        i += 1;
+    for &c in items {
+        put_point(set, base, c);
     }
 }

@@ -12,22 +12,8 @@ fn put_places(set: &mut [u32], from: u32, to: u32)
     requires { to ≤ length set.old * 32 }
     ensures { Put set.old set.new (λ d. leb from d && ltb d to) }
 {
-    let mut d = from;
-    while d < to {
+    for d in from..to {
         put(set, d);
-        d += 1;
-    }
-}
-
-// Puts the places of the words from `from` up to `to` into the set.
-fn fill_words(set: &mut [u32], from: usize, to: usize)
-    requires { to ≤ length set.old }
-    ensures { Put set.old set.new (λ d. leb (from * 32) d && ltb d (to * 32)) }
-{
-    let mut i = from;
-    while i < to {
-        set[i] = 0xFFFFFFFF;
-        i += 1;
     }
 }
 
@@ -45,7 +31,7 @@ fn put_run(set: &mut [u32], from: u32, to: u32)
         return;
     }
     put_places(set, from, a * 32);
-    fill_words(set, a as usize, b as usize);
+    set[a as usize..b as usize].fill(0xFFFFFFFF);
     put_places(set, b * 32, to);
 }
 
@@ -94,9 +80,7 @@ pub fn put_pairs(set: &mut [u32], base: u32, part: &[u32])
     requires { length set.old ≡ window_words }
     ensures { Put set.old set.new (λ d. in_pairs (base + d) part.now) }
 {
-    let mut i: usize = 0;
-    while 1 < part.len() - i {
-        put_range(set, base, part[i], part[i + 1]);
-        i += 2;
+    for pair in part.chunks_exact(2) {
+        put_range(set, base, pair[0], pair[1]);
     }
 }

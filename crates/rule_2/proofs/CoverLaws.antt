@@ -3,7 +3,7 @@ use Prim.Native.Nat.{ℕ, zero, suc, ◌+◌, ◌-◌, ◌/◌, ◌<◌, ◌≤�
 use native.Mathlib.Omega.{arith}
 use mathlib.Core.Path.{◌≡◌, refl, sym, ◌∙◌, ap}
 use mathlib.Core.Bool.{Bool, true, false, not, ◌&&◌, ◌||◌}
-use mathlib.Core.List.{List, [], ◌∷◌, ◌++◌}
+use mathlib.Core.List.{List, [], ◌∷◌}
 use mathlib.Core.Option
 use mathlib.Core.Option.{Option, none, some}
 use lib.ListN.{length, get_or, take, drop}
@@ -11,7 +11,7 @@ use lib.Bits.{bit_or}
 use lib.Dec.{leb, ltb}
 use borrow.Author.Tests.{le-leb, lt-leb, lt-ltb, leb-true, ltb-true, ltb-false}
 use Rattle.lists.specs.Lists.{all, mem, joined_map, and_then}
-use Rattle.lists.specs.Laws.{both, both_left, both_right}
+use Rattle.lists.specs.Laws.{both_left, both_right}
 use Rattle.lists.specs.Tests.{agree, not_so, never, untrue, mem_both, all_both, all-members, member_passes}
 use Rattle.sections.specs.declared.Sections.{Sections}
 use Rattle.table.specs.Table.{Range, ClassRange, Group, Table}
@@ -30,10 +30,8 @@ use Rattle.soundness.specs.Valid.{counted_from, listed, group_characters, spella
 use Rattle.table.specs.Part.{records_in}
 use Rattle.sound_parts.specs.Parts.{is_valid, ranges_scalar, records_scalar, others_scalar, scalar_whole}
 use Rattle.sound_parts.proofs.ScalarLaws.{rule1-first}
-use Rattle.sound_parts.proofs.SectionsHold.{groups_are}
 use Rattle.bit_sets.specs.Sets.{has}
 use Rattle.sound_choices.specs.Rounds.{in_groups, after, start_of, WindowOf, Holding}
-use Rattle.sound_rounds.specs.Reached.{PartsOf}
 use Rattle.sound_choices.proofs.RoundLaws.{mem-counted}
 use Rattle.sound_choices.proofs.WordLaws.{word_both}
 use Rattle.sound_rounds.proofs.ReachLaws.{after-four}

@@ -6,6 +6,9 @@ use mathlib.Core.Bool.{Bool, true, false, false≢true}
 use mathlib.Core.List.{List}
 use lib.ListN.{length, replicate, length-replicate}
 use lib.Dec.{ltb}
+use Rattle.std.specs.Bool.{MatchBool}
+use Rattle.std.specs.List.{AllWithin, HoldsAt, range_with_len}
+use Rattle.std.proofs.lemmas.List.FromFn.{length-range_with_len, get_or-range_with_len}
 use borrow.Author.Tests.{ltb-true, ltb-false}
 use Rattle.table.specs.Table.{Headed, Table}
 use Rattle.soundness.specs.Pairs.{heads}
@@ -20,43 +23,53 @@ use Rattle.rule_2.specs.Windows.{Passes, WordPasses}
 abbrev pub Passed : (ℕ → Bool) → ℕ → Type 0
 Passed p c = (d : ℕ) → d < c → p d ≡ true
 
--- the places of the word i before d pass it
-pub record WordPassed (p : ℕ → Bool) (i d : ℕ) : Type 0 where
-  pub low : i * 32 ≤ d
-  pub each : (e : ℕ) → i * 32 ≤ e → e < d → p e ≡ true
+-- what was asked of the numbers from a on, n of them: all answered yes, or one answered no
+pub record Asking (yes no : ℕ → Type 0) (a n : ℕ) (r : Bool) : Type 0 where
+  pub all : r ≡ true → (d : ℕ) → a ≤ d → d < a + n → yes d
+  pub one : r ≡ false → (d : ℕ) × (a ≤ d) × (d < a + n) × no d
 
-module _ (p : ℕ → Bool) (i : ℕ) where
-  pub word_start : WordPassed p i (i * 32)
-  word_start = record { low = omega arith; each = λ e h k. absurd (omega arith) }
+module _ (yes no : ℕ → Type 0) (a n : ℕ) where
+  pub asking : (r : Bool)
+      → MatchBool r (AllWithin yes (range_with_len a n) 0 (length (range_with_len a n)))
+      ((k : ℕ) × (k < length (range_with_len a n)) × HoldsAt no (range_with_len a n) k)
+      → Asking yes no a n r
+  asking true w =
+      record {
+        all = λ e d h k.
+            let z : a + (d - a) ≡ d = omega arith in
+            let m : d - a < n = omega arith in
+            subst yes (get_or-range_with_len a n (d - a) 0 m ∙ z) (w (d - a) 0 (omega arith) (rw (length-range_with_len a n) m));
+        one = λ e. absurd (false≢true (sym e));
+      }
+  asking false w =
+      let m : w.0 < n = rw (length-range_with_len a n) at w.1 in
+      record {
+        all = λ e. absurd (false≢true e);
+        one = λ e. (a + w.0, omega arith, omega (arith, m), subst no (get_or-range_with_len a n w.0 0 m) (w.2 0));
+      }
 
-  pub word_held : ((d : ℕ) → d / 32 ≡ i → p d ≡ true) → WordPasses p i true
-  word_held f = record { yes = λ e d h. f d h; no = λ e g. false≢true (sym e) }
+module _ (p : ℕ → Bool) where
+  pub word_held : (i : ℕ) → ((d : ℕ) → d / 32 ≡ i → p d ≡ true) → WordPasses p i true
+  word_held i f = record { yes = λ e d h. f d h; no = λ e g. false≢true (sym e) }
 
-  module _ (d : ℕ) (w : WordPassed p i d) where
-    pub word_on : p d ≡ true → WordPassed p i (d + 1)
-    word_on e = record { low = omega (arith, w.low); each = λ c h k. go c h k (ltb c d) refl }
-      where
-        go : (c : ℕ) → i * 32 ≤ c → c < d + 1 → (b : Bool) → ltb c d ≡ b → p c ≡ true
-        go c h k true q = w.each c h (ltb-true c d q)
-        go c h k false q = let z : c ≡ d = omega (arith, ltb-false c d q) in rw z e
+  -- the places of a word, and the words of a set
+  pub word-all : (i : ℕ) (r : Bool) → Asking (λ d. p d ≡ true) (λ d. p d ≡ false) (i * 32) 32 r → WordPasses p i r
+  word-all i r w =
+      record {
+        yes = λ e d h. w.all e d (omega (arith, h)) (omega (arith, h));
+        no = λ e g.
+            let f = w.one e in
+            false≢true (sym f.3 ∙ g f.0 (omega (arith, f.1, f.2)));
+      }
 
-    pub word-all : i * 32 + 32 ≤ d → WordPasses p i true
-    word-all h = word_held (λ c k. w.each c (omega arith) (omega arith))
-
-    pub word_not : d < i * 32 + 32 → p d ≡ false → WordPasses p i false
-    word_not h e = record { yes = λ f c k. absurd (false≢true f); no = λ f g. false≢true (sym e ∙ g d (omega (arith, w.low))) }
-
--- words one after another
-module _ (p : ℕ → Bool) (i : ℕ) (r : Bool) (w : WordPasses p i r) where
-  pub words_on : r ≡ true → Passed p (i * 32) → Passed p ((i + 1) * 32)
-  words_on e v d h = go (ltb d (i * 32)) refl
-    where
-      go : (b : Bool) → ltb d (i * 32) ≡ b → p d ≡ true
-      go true q = v d (ltb-true d (i * 32) q)
-      go false q = w.yes e d (omega (arith, ltb-false d (i * 32) q))
-
-  pub words_not : r ≡ false → i < window_words → Passes p 0x10000 false
-  words_not e h = record { yes = λ f d k. absurd (false≢true f); no = λ f g. w.no e (λ d k. g d (omega arith)) }
+  pub words-all : (r : Bool) → Asking (λ i. WordPasses p i true) (λ i. WordPasses p i false) 0 window_words r → Passes p 0x10000 r
+  words-all r w =
+      record {
+        yes = λ e d h. (w.all e (d / 32) (omega arith) (omega (arith, h))).yes refl d refl;
+        no = λ e g.
+            let f = w.one e in
+            f.3.no refl (λ d k. g d (omega (arith, k, f.2)));
+      }
 
 pub passed_all : (p : ℕ → Bool) (c : ℕ) → Passed p c → (bound : ℕ) → bound ≤ c → Passes p bound true
 passed_all p c w bound h = record { yes = λ e d k. w d (omega arith); no = λ e f. false≢true (sym e) }

@@ -24,6 +24,9 @@ use table::Span;
 
 const WINDOW: u32 = 0x10000;
 
+// The windows of all codepoints.
+const WINDOWS: u32 = 17;
+
 // The words of a window's set.
 const WORDS: u32 = 2048;
 
@@ -34,10 +37,7 @@ fn either_has(a: &[u32], b: &[u32], d: u32) -> bool
     requires d_bound { d < 0x10000 }
     ensures { result ≡ (has a.now d || has b.now d) }
 {
-    if has(a, d) {
-        return true;
-    }
-    has(b, d)
+    has(a, d) || has(b, d)
 }
 
 // Whether the first set holds the place d exactly where one of the others does.
@@ -63,15 +63,7 @@ fn covered_places(valid: &[u32], groups: &[u32], set: &[u32], i: u32) -> bool
     requires i_lt_window_words { i < window_words }
     ensures { WordPasses (covered_at valid.now groups.now set.now) i result }
 {
-    let mut d = i * 32;
-    let end = d + 32;
-    while d < end {
-        if !covered_at(valid, groups, set, d) {
-            return false;
-        }
-        d += 1;
-    }
-    true
+    (i * 32..i * 32 + 32).all(|d| covered_at(valid, groups, set, d))
 }
 
 // The same, at once where the word of the first set is what the others' words are together.
@@ -84,10 +76,7 @@ fn covered_word(valid: &[u32], groups: &[u32], set: &[u32], i: u32) -> bool
 {
     let k = i as usize;
     let spelled = set[k] | groups[k];
-    if valid[k] == spelled {
-        return true;
-    }
-    covered_places(valid, groups, set, i)
+    valid[k] == spelled || covered_places(valid, groups, set, i)
 }
 
 // The same for every word.
@@ -97,14 +86,7 @@ fn covered_in(valid: &[u32], groups: &[u32], set: &[u32]) -> bool
     requires set_len { length set.now ≡ window_words }
     ensures { Passes (covered_at valid.now groups.now set.now) 0x10000 result }
 {
-    let mut i: u32 = 0;
-    while i < WORDS {
-        if !covered_word(valid, groups, set, i) {
-            return false;
-        }
-        i += 1;
-    }
-    true
+    (0..WORDS).all(|i| covered_word(valid, groups, set, i))
 }
 
 // The set of the codepoints of the pairs at s that are in the window takes the place of the set.
@@ -114,9 +96,7 @@ fn pairs_in(words: &[u32], s: Span, base: u32, set: &mut [u32])
     ensures { WindowOf set.new (λ d. in_pairs (base + d) (within s words.now)) }
 {
     clear(set);
-    let from = s.from;
-    let to = s.to;
-    put_pairs(set, base, &words[from..to]);
+    put_pairs(set, base, s.of(words));
 }
 
 // Whether every codepoint is valid exactly where it is a group's character or in the full decomposition of one.
@@ -136,15 +116,14 @@ fn all_covered(
         other.old }
     ensures { Passes (covered (the_table words.now)) 0x110000 result }
 {
-    let mut base: u32 = 0;
-    while base < 0x110000 {
+    for window in 0..WINDOWS {
+        let base = window * WINDOW;
         reach(words, ix, part, gs, false, 4, base, rows, heads, set, other);
         groups_in(gs, base, other);
         pairs_in(words, ix.valid, base, heads);
         if !covered_in(heads, other, set) {
             return false;
         }
-        base += WINDOW;
     }
     true
 }
@@ -180,9 +159,5 @@ pub fn keeps_rule2(words: &[u32], ix: Sections) -> bool
     requires words_value { rule1 (the_table words.now) ≡ true }
     ensures { result ≡ rule2 (the_table words.now) }
 {
-    let a = ix.decompositions.from;
-    let b = ix.decompositions.to;
-    let c = ix.groups.from;
-    let d = ix.groups.to;
-    valid_fits(words, ix, &words[a..b], &words[c..d])
+    valid_fits(words, ix, ix.decompositions.of(words), ix.groups.of(words))
 }

@@ -42,6 +42,7 @@ fn first_in(part: &[u32], sorted: bool, c: u32) -> bool
     requires firsts_steady { sorted ≡ true → FirstsSteady part.now }
     ensures { result ≡ any (starts_with c) (records_in sequences part.now) }
 {
+    // By hand: a record's length is its own, and the place goes on by it.
     let mut i: usize = 0;
     while i < part.len() {
         let first = part[i + 1];
@@ -63,11 +64,14 @@ fn any_first(ix: Sections, emoji: &[u32], c: u32) -> bool
     requires firsts_known { FirstsKnown emoji.now ix.sorted.emoji ix.starts.emoji ix.starts.numbers }
     ensures { result ≡ any (starts_with c) (records_in sequences emoji.now) }
 {
-    let sorted = ix.sorted;
-    let starts = ix.starts;
-    let start = seek(emoji, sorted.emoji, starts.emoji, starts.numbers, c);
-    let at = start.place;
-    first_in(&emoji[at..], sorted.emoji, c)
+    let start = seek(
+        emoji,
+        ix.sorted.emoji,
+        ix.starts.emoji,
+        ix.starts.numbers,
+        c,
+    );
+    first_in(&emoji[start.place..], ix.sorted.emoji, c)
 }
 
 // Whether c is valid or first of any sequence.
@@ -76,10 +80,7 @@ fn can_start(words: &[u32], ix: Sections, emoji: &[u32], c: u32) -> bool
     requires emoji_known { EmojiKnown (the_table words.now) ix emoji.now }
     ensures { result ≡ can_start (the_table words.now) c }
 {
-    if is_valid(words, ix, c) {
-        return true;
-    }
-    any_first(ix, emoji, c)
+    is_valid(words, ix, c) || any_first(ix, emoji, c)
 }
 
 // Whether one of the sequences is equal to the items when stripped.
@@ -88,15 +89,18 @@ fn is_sequence(ix: Sections, emoji: &[u32], items: &[u32]) -> bool
     requires firsts_known { FirstsKnown emoji.now ix.sorted.emoji ix.starts.emoji ix.starts.numbers }
     ensures { result ≡ any (same_stripped items.now) (records_in sequences emoji.now) }
 {
-    let sorted = ix.sorted;
-    let starts = ix.starts;
-    if !is_bounded(sorted.emoji, items) {
-        return any_same(emoji, sorted.emoji, items);
+    if !is_bounded(ix.sorted.emoji, items) {
+        return any_same(emoji, ix.sorted.emoji, items);
     }
     let first = first_of(items);
-    let start = seek(emoji, sorted.emoji, starts.emoji, starts.numbers, first);
-    let at = start.place;
-    any_same(&emoji[at..], sorted.emoji, items)
+    let start = seek(
+        emoji,
+        ix.sorted.emoji,
+        ix.starts.emoji,
+        ix.starts.numbers,
+        first,
+    );
+    any_same(&emoji[start.place..], ix.sorted.emoji, items)
 }
 
 // Whether the stripped items are a stripped sequence or one valid codepoint.
@@ -105,10 +109,7 @@ fn stands_alone(words: &[u32], ix: Sections, emoji: &[u32], items: &[u32]) -> bo
     requires emoji_known { EmojiKnown (the_table words.now) ix emoji.now }
     ensures { result ≡ stands_alone (the_table words.now) items.now }
 {
-    if is_sequence(ix, emoji, items) {
-        return true;
-    }
-    one_valid(words, ix, items)
+    is_sequence(ix, emoji, items) || one_valid(words, ix, items)
 }
 
 // Whether the start before k stands alone and the item at k can start, which is asked first: it is cheaper.
@@ -118,10 +119,7 @@ fn parts_at(words: &[u32], ix: Sections, emoji: &[u32], items: &[u32], k: usize)
     requires k_in_bounds { k < length items.now }
     ensures { result ≡ (stands_alone (the_table words.now) (take k items.now) && can_start (the_table words.now) (get_or items.now k 0)) }
 {
-    if can_start(words, ix, emoji, items[k]) {
-        return stands_alone(words, ix, emoji, &items[..k]);
-    }
-    false
+    can_start(words, ix, emoji, items[k]) && stands_alone(words, ix, emoji, &items[..k])
 }
 
 // Whether no proper start of the stripped items that stands alone is followed by what can start.
@@ -134,6 +132,7 @@ fn keeps_apart(words: &[u32], ix: Sections, emoji: &[u32], items: &[u32]) -> boo
     if items.len() <= first {
         return true;
     }
+    // By hand: the place goes on to the next item that is no FE0F.
     let mut i = next_item(items, first + 1);
     while i < items.len() {
         if parts_at(words, ix, emoji, items, i) {
@@ -156,27 +155,17 @@ fn sequence_apart(words: &[u32], ix: Sections, emoji: &[u32], items: &[u32]) -> 
     keeps_apart(words, ix, emoji, items)
 }
 
-fn sequence_apart_of(words: &[u32], ix: Sections, emoji: &[u32], s: Span) -> bool
-    requires laid { Laid words.now ix }
-    requires emoji_known { EmojiKnown (the_table words.now) ix emoji.now }
-    requires fits { Fits emoji.now s }
-    ensures { result ≡ keeps_apart (the_table words.now) (within s emoji.now) }
-{
-    let from = s.from;
-    let to = s.to;
-    sequence_apart(words, ix, emoji, &emoji[from..to])
-}
-
 // Rule 5, of every sequence.
 fn sequences_apart(words: &[u32], ix: Sections, emoji: &[u32]) -> bool
     requires laid { Laid words.now ix }
     requires emoji_known { EmojiKnown (the_table words.now) ix emoji.now }
     ensures { result ≡ all (keeps_apart (the_table words.now)) (records_in sequences emoji.now) }
 {
+    // By hand: a record's length is its own, and the place goes on by it.
     let mut i: usize = 0;
     while i < emoji.len() {
         let s = counted(emoji, i);
-        if !sequence_apart_of(words, ix, emoji, s) {
+        if !sequence_apart(words, ix, emoji, s.of(emoji)) {
             return false;
         }
         i = s.to;
@@ -184,21 +173,10 @@ fn sequences_apart(words: &[u32], ix: Sections, emoji: &[u32]) -> bool
     true
 }
 
-fn sequences_apart_of(words: &[u32], ix: Sections, s: Span) -> bool
-    requires laid { Laid words.now ix }
-    requires fits { Fits words.now s }
-    requires emoji_known { EmojiKnown (the_table words.now) ix (within s words.now) }
-    ensures { result ≡ all (keeps_apart (the_table words.now)) (records_in sequences (within s words.now)) }
-{
-    let from = s.from;
-    let to = s.to;
-    sequences_apart(words, ix, &words[from..to])
-}
-
 // Rule 5: no valid codepoint is alone a stripped sequence, and no sequence goes on where a shorter one or a valid codepoint ends and another can start.
 pub fn keeps_rule5(words: &[u32], ix: Sections) -> bool
     requires { Laid words.now ix }
     ensures { result ≡ rule5 (the_table words.now) }
 {
-    sequences_apart_of(words, ix, ix.emoji)
+    sequences_apart(words, ix, ix.emoji.of(words))
 }

@@ -27,6 +27,9 @@ use text::hangul::is_syllable;
 
 const WINDOW: u32 = 0x10000;
 
+// The windows of all codepoints.
+const WINDOWS: u32 = 17;
+
 // The words of a window's set.
 const WORDS: u32 = 2048;
 
@@ -61,39 +64,21 @@ fn head_fits(head: u32, behind: &[u32]) -> bool
     !has_head(behind, head)
 }
 
-fn head_fits_of(part: &[u32], head: u32, s: Span) -> bool
-    requires fits { Fits part.now s }
-    requires holds { Holds as_headed (drop s.to part.now) }
-    ensures { result ≡ head_fits head (records_in as_headed (drop s.to part.now)) }
-{
-    let to = s.to;
-    head_fits(head, &part[to..])
-}
-
 // Whether the heads of the records are plain and distinct.
 fn heads_fit(part: &[u32]) -> bool
     requires { Holds as_headed part.now }
     ensures { result ≡ heads_fit (records_in as_headed part.now) }
 {
+    // By hand: a record's length is its own, and the place goes on by it.
     let mut i: usize = 0;
     while i < part.len() {
         let s = counted(part, i + 1);
-        if !head_fits_of(part, part[i], s) {
+        if !head_fits(part[i], &part[s.to..]) {
             return false;
         }
         i = s.to;
     }
     true
-}
-
-fn heads_fit_of(words: &[u32], s: Span) -> bool
-    requires fits { Fits words.now s }
-    requires holds { Holds as_headed (within s words.now) }
-    ensures { result ≡ heads_fit (records_in as_headed (within s words.now)) }
-{
-    let from = s.from;
-    let to = s.to;
-    heads_fit(&words[from..to])
 }
 
 // Whether a round may change the codepoint at the place d of a window: it is a syllable or a head.
@@ -103,10 +88,7 @@ fn may_change(heads: &[u32], base: u32, d: u32) -> bool
     requires d_bound { d < 0x10000 }
     ensures { result ≡ (is_syllable (base + d) || has heads.now d) }
 {
-    if is_syllable(base + d) {
-        return true;
-    }
-    has(heads, d)
+    is_syllable(base + d) || has(heads, d)
 }
 
 // Whether the codepoint at the place d of a window decomposes no further, where the set holds it.
@@ -136,15 +118,7 @@ fn stable_places(words: &[u32], ix: Sections, heads: &[u32], set: &[u32], base: 
     requires i_lt_window_words { i < window_words }
     ensures { WordPasses (stable_at (the_table words.now) base set.now) i result }
 {
-    let mut d = i * 32;
-    let end = d + 32;
-    while d < end {
-        if !stable_at(words, ix, heads, set, base, d) {
-            return false;
-        }
-        d += 1;
-    }
-    true
+    (i * 32..i * 32 + 32).all(|d| stable_at(words, ix, heads, set, base, d))
 }
 
 // The same, at once where the set holds none of them, or none can change.
@@ -176,14 +150,7 @@ fn stable_in(words: &[u32], ix: Sections, heads: &[u32], set: &[u32], base: u32)
     requires base_bound { base < 0x110000 }
     ensures { Passes (stable_at (the_table words.now) base set.now) 0x10000 result }
 {
-    let mut i: u32 = 0;
-    while i < WORDS {
-        if !stable_word(words, ix, heads, set, base, i) {
-            return false;
-        }
-        i += 1;
-    }
-    true
+    (0..WORDS).all(|i| stable_word(words, ix, heads, set, base, i))
 }
 
 // Whether what is reached from the heads after four rounds decomposes no further.
@@ -203,13 +170,12 @@ fn all_stable(
         other.old }
     ensures { Passes (settled (the_table words.now)) 0x110000 result }
 {
-    let mut base: u32 = 0;
-    while base < 0x110000 {
+    for window in 0..WINDOWS {
+        let base = window * WINDOW;
         reach(words, ix, part, gs, true, 4, base, rows, heads, set, other);
         if !stable_in(words, ix, heads, set, base) {
             return false;
         }
-        base += WINDOW;
     }
     true
 }
@@ -233,18 +199,6 @@ fn decompose_fully(words: &[u32], ix: Sections, part: &[u32], gs: &[u32]) -> boo
     all_stable(words, ix, part, gs, &rows, &mut heads, &mut set, &mut other)
 }
 
-fn decompose_fully_of(words: &[u32], ix: Sections) -> bool
-    requires laid { Laid words.now ix }
-    requires words_value { rule1 (the_table words.now) ≡ true }
-    ensures { result ≡ all (decomposes_fully (the_table words.now)) (heads (the_table words.now)) }
-{
-    let a = ix.decompositions.from;
-    let b = ix.decompositions.to;
-    let c = ix.groups.from;
-    let d = ix.groups.to;
-    decompose_fully(words, ix, &words[a..b], &words[c..d])
-}
-
 // Rule 6: four rounds decompose fully; heads are distinct, and no ASCII, syllable or jamo; no entry gives a jamo or a syllable a class
 // other than 0. Rule 1 holds.
 pub fn keeps_rule6(words: &[u32], ix: Sections) -> bool
@@ -252,10 +206,11 @@ pub fn keeps_rule6(words: &[u32], ix: Sections) -> bool
     requires words_value { rule1 (the_table words.now) ≡ true }
     ensures { result ≡ rule6 (the_table words.now) }
 {
-    if !heads_fit_of(words, ix.decompositions) {
+    let part = ix.decompositions.of(words);
+    if !heads_fit(part) {
         return false;
     }
-    if !decompose_fully_of(words, ix) {
+    if !decompose_fully(words, ix, part, ix.groups.of(words)) {
         return false;
     }
     classes_spare_of(words, ix.classes)

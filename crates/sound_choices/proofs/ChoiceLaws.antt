@@ -4,25 +4,23 @@ use native.Mathlib.Numerals.{add-one}
 use native.Mathlib.Omega.{arith}
 use mathlib.Core.Path.{◌≡◌, refl, sym, ◌∙◌, ap}
 use mathlib.Core.Bool.{Bool, true, false, not, ◌&&◌, ◌||◌}
-use mathlib.Core.List.{List, [], ◌∷◌, ◌++◌, map}
-use mathlib.Core.Option.{some}
-use lib.ListN.{length, get_or, take, drop, length-drop}
+use mathlib.Core.List.{List, [], ◌∷◌}
+use lib.ListN.{length, get_or, take}
 use lib.Seq.{take-suc}
 use lib.Dec.{leb, ltb, eqb}
-use borrow.Author.Tests.{eq-eqb, ne_eqb, eqb-true, eqb-false, le-leb, lt-leb, lt-ltb, le-ltb, leb-true, leb-false, ltb-true, ltb-false}
+use borrow.Author.Tests.{ne_eqb, eqb-true, le-leb, lt-leb, lt-ltb, le-ltb, leb-true, ltb-true, ltb-false}
 use Rattle.lists.specs.Lists.{all, mem}
-use Rattle.lists.specs.Laws.{both, both_left, both_right}
-use Rattle.lists.specs.Tests.{agree, not_so, never, mem_both}
+use Rattle.lists.specs.Laws.{both_left, both_right}
+use Rattle.lists.specs.Tests.{not_so, never, mem_both}
 use Rattle.table.specs.declared.Span.{Span}
 use Rattle.table.specs.Table.{Headed}
-use Rattle.table.specs.Spans.{within}
 use Rattle.table.specs.Part.{counted_at}
 use Rattle.text.specs.Hangul.{is_syllable}
 use Rattle.table.specs.Part.{records_in}
 use Rattle.sound_parts.specs.Parts.{Holds, as_headed}
 use Rattle.bit_sets.specs.Sets.{has, Put, SetOf, window_words}
 use Rattle.bit_sets.proofs.PutLaws.{Putting, putting_start, putting_on, putting_done, put_same, put_none, run-next, run_none, point_place}
-use Rattle.sound_choices.specs.Rounds.{heads_of, head_at, replaces, WindowOf, Holding, row_words, row_places}
+use Rattle.sound_choices.specs.Rounds.{heads_of, head_at, replaces, Holding, row_words, row_places}
 use Rattle.sound_choices.specs.Choices.{is_point, in_window, new_head, Seen, row_of, first_in, FirstsIn, FirstSet, FirstFound, chooses_in}
 use Rattle.sound_choices.proofs.WalkLaws.{Numbered, numbered_start, numbered_in, numbered_head, numbered_on, numbered_end}
 

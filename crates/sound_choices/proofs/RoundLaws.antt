@@ -1,18 +1,18 @@
 -- A round, window by window: what the records replace, the jamo of syllables, and what stays.
-use Prim.Native.Nat.{ℕ, zero, suc, ◌+◌, ◌-◌, ◌/◌, ◌%◌, ◌<◌, ◌≤◌}
+use Prim.Native.Nat.{ℕ, zero, suc, ◌+◌, ◌-◌, ◌/◌, ◌%◌, ◌<◌}
 use native.Mathlib.Omega.{arith}
 use mathlib.Core.Path.{◌≡◌, refl, sym, ◌∙◌, ap}
 use mathlib.Core.Bool.{Bool, true, false, not, ◌&&◌, ◌||◌, cond, false≢true}
-use mathlib.Core.List.{List, [], ◌∷◌, ◌++◌, map}
-use mathlib.Core.Logic.{◌⊎◌, inl, inr, ⊎_elim}
+use mathlib.Core.List.{List, [], ◌∷◌, ◌++◌}
+use mathlib.Core.Logic.{⊎_elim}
 use mathlib.Core.Option
 use mathlib.Core.Option.{Option, none, some, none-ne-some, some-injective}
-use lib.ListN.{length, get_or, take}
+use lib.ListN.{length, take}
 use lib.Dec.{leb, ltb, eqb}
-use borrow.Author.Tests.{eq-eqb, ne_eqb, eqb-true, eqb-false, le-leb, lt-ltb, leb-true, ltb-true}
+use borrow.Author.Tests.{eq-eqb, eqb-true, le-leb, lt-ltb, ltb-true}
 use Rattle.lists.specs.Lists.{mem, first_with, joined_map, is_some}
 use Rattle.lists.specs.Laws.{both, both_left, both_right, either}
-use Rattle.lists.specs.Tests.{agree, not_so, never, untrue, eqb_turn, mem_both}
+use Rattle.lists.specs.Tests.{agree, untrue, eqb_turn, mem_both}
 use Rattle.table.specs.Table.{Headed, Table}
 use Rattle.table.specs.Lookup.{items_of}
 use Rattle.text.specs.Hangul.{first_syllable, syllable_count, is_syllable, jamo_of}

@@ -8,21 +8,21 @@ use mathlib.Core.List.{List, [], ◌∷◌, map, tail-eq_of_cons-eq, head-eq_of_
 use lib.ListN.{length, get_or, drop}
 use lib.Dec.{eqb}
 use borrow.Author.Tests.{eq-eqb, ne_eqb, eqb-true, eqb-false}
-use Rattle.lists.specs.Lists.{any, mem}
+use Rattle.lists.specs.Lists.{mem}
 use Rattle.table.specs.declared.Span.{Span}
 use Rattle.table.specs.Table.{Headed, Group}
-use Rattle.table.specs.Layout.{most_items, ranges, groups, group}
-use Rattle.table.specs.Spans.{within, Fits}
+use Rattle.table.specs.Layout.{most_items, groups}
+use Rattle.table.specs.Spans.{within}
 use Rattle.table.specs.declared.GroupRecord.{GroupRecord}
 use Rattle.table.specs.GroupPart.{group_at}
-use Rattle.table.specs.Part.{RecordsAt, HeadedHere, counted_at, in_pairs}
+use Rattle.table.specs.Part.{HeadedHere, counted_at, in_pairs}
 use Rattle.table.proofs.Lookups.{pairs-ranges}
-use Rattle.table.proofs.Records.{headed_step, headed_end, groups_end}
+use Rattle.table.proofs.Records.{headed_end, groups_end}
 use Rattle.table.specs.Part.{records_in}
 use Rattle.sound_parts.specs.Parts.{Holds, as_headed}
-use Rattle.sound_parts.proofs.Walks.{Through, through_start, head_here, head_fits, head_items, head_next, head_less, group_here_lem, group_is}
+use Rattle.sound_parts.proofs.Walks.{Through, through_start, head_here, head_items, head_next, group_here_lem, group_is}
 use Rattle.sound_parts.proofs.Walks.{group-behind}
-use Rattle.bit_sets.specs.Sets.{has, Put}
+use Rattle.bit_sets.specs.Sets.{Put}
 use Rattle.bit_sets.proofs.PutLaws.{Putting, putting_start, putting_on, putting_done, put_same, put_none}
 use Rattle.sound_choices.specs.Rounds.{heads_of, in_groups, head_at, items_at, chosen_items}
 use Rattle.sound_choices.proofs.RoundLaws.{chosen_step}

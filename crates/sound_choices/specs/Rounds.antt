@@ -1,13 +1,13 @@
 -- Rounds of single replacement of many codepoints at once. Of a list of codepoints two things are kept: for a window of codepoints the set
 -- of those in it, and for each round the decomposition records that replace a codepoint of the list.
-use Rattle.std.specs.Prelude.{ℕ, zero, suc, ◌+◌, ◌*◌, ◌%◌, ◌<◌, ◌≤◌, ◌≡◌, Bool, true, false, not, ◌&&◌, cond, List, [], ◌∷◌, ◌++◌, map, length, get_or, take}
+use Rattle.std.specs.Prelude.{ℕ, zero, suc, ◌+◌, ◌*◌, ◌<◌, ◌≡◌, Bool, not, ◌&&◌, cond, List, [], ◌∷◌, ◌++◌, map, length, get_or, take}
 use Rattle.lists.specs.Lists.{any, mem}
 use Rattle.table.specs.Table.{Headed, Group, Table}
 use Rattle.table.specs.Lookup.{holds}
 use Rattle.text.specs.Hangul.{is_syllable}
 use Rattle.text.specs.Decomposition.{single, round}
 use Rattle.soundness.specs.Valid.{group_characters}
-use Rattle.bit_sets.specs.Sets.{has, SetOf, window_words}
+use Rattle.bit_sets.specs.Sets.{has, window_words}
 
 abbrev pub heads_of : List Headed → List ℕ
 heads_of rs = map (λ (r : Headed). r.head) rs

@@ -17,6 +17,9 @@ use text::hangul::is_syllable;
 
 const WINDOW: u32 = 0x10000;
 
+// The windows of all codepoints.
+const WINDOWS: u32 = 17;
+
 const ROW: u32 = 43712;
 
 // Puts the head h of the record i to those seen, if it is in the window. Chooses the record, if the head was not there before and is no
@@ -52,6 +55,7 @@ fn first_in(part: &[u32], base: u32, seen: &mut [u32], first: &mut [u32])
     ensures { FirstsIn base (records_in as_headed part.now) first.old first.new seen.new }
 {
     clear(seen);
+    // By hand: a record's length is its own, and the place goes on by it.
     let mut at: usize = 0;
     let mut i: u32 = 0;
     while at < part.len() {
@@ -72,10 +76,8 @@ pub fn find_first(part: &[u32], seen: &mut [u32], first: &mut [u32])
     requires set_of { SetOf first.old (λ i. false) }
     ensures { FirstFound (records_in as_headed part.now) first.new seen.new }
 {
-    let mut base: u32 = 0;
-    while base < 0x110000 {
-        first_in(part, base, seen, first);
-        base += WINDOW;
+    for window in 0..WINDOWS {
+        first_in(part, window * WINDOW, seen, first);
     }
 }
 
@@ -115,6 +117,7 @@ pub fn choose_in(part: &[u32], first: &[u32], set: &[u32], base: u32, rows: &mut
     ensures { Put rows.old rows.new (row_of row (records_in as_headed part.now)
         (λ i. chooses_in base (head_at (records_in as_headed part.now) i) i first.now set.now)) }
 {
+    // By hand: a record's length is its own, and the place goes on by it.
     let mut at: usize = 0;
     let mut i: u32 = 0;
     while at < part.len() {
@@ -123,16 +126,6 @@ pub fn choose_in(part: &[u32], first: &[u32], set: &[u32], base: u32, rows: &mut
         at = s.to;
         i += 1;
     }
-}
-
-fn put_points_of(part: &[u32], s: Span, base: u32, set: &mut [u32])
-    requires fits { Fits part.now s }
-    requires set_len { length set.old ≡ window_words }
-    ensures { Put set.old set.new (λ d. mem (base + d) (within s part.now)) }
-{
-    let from = s.from;
-    let to = s.to;
-    put_points(set, base, &part[from..to]);
 }
 
 // Puts the items at s into the set that are in the window, if the place e of the rows is chosen.
@@ -144,7 +137,7 @@ fn put_if_chosen(part: &[u32], s: Span, rows: &[u32], e: u32, base: u32, set: &m
         (within s part.now)) }
 {
     if has(rows, e) {
-        put_points_of(part, s, base, set);
+        put_points(set, base, s.of(part));
     }
 }
 
@@ -158,6 +151,7 @@ pub fn put_chosen(part: &[u32], rows: &[u32], row: u32, base: u32, set: &mut [u3
     ensures { Put set.old set.new
         (λ d. mem (base + d) (chosen_items (λ i. has rows.now (row + i)) 0 (records_in as_headed part.now))) }
 {
+    // By hand: a record's length is its own, and the place goes on by it.
     let mut at: usize = 0;
     let mut i: u32 = 0;
     while at < part.len() {

@@ -14,7 +14,7 @@ use Rattle.lists.specs.Lists.{mem, joined_map}
 use Rattle.lists.specs.Laws.{joined_append}
 use Rattle.lists.specs.Tests.{mem_both}
 use Rattle.table.specs.Table.{Headed, Group, Table}
-use Rattle.table.specs.Layout.{headed, groups}
+use Rattle.table.specs.Layout.{groups}
 use Rattle.text.specs.Hangul.{is_syllable}
 use Rattle.text.specs.Decomposition.{round, four_rounds}
 use Rattle.soundness.specs.Valid.{counted_from}

@@ -1,5 +1,5 @@
 -- What is reached after some rounds, window by window.
-use Rattle.std.specs.Prelude.{ℕ, ◌+◌, ◌*◌, ◌%◌, ◌<◌, ◌≤◌, ◌≡◌, true, false, List, length}
+use Rattle.std.specs.Prelude.{ℕ, ◌*◌, ◌%◌, ◌<◌, ◌≤◌, ◌≡◌, true, false, List, length}
 use Rattle.lists.specs.Lists.{all, mem}
 use Rattle.table.specs.Layout.{most_words, groups}
 use Rattle.table.specs.Table.{Table}

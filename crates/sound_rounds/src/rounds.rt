@@ -21,6 +21,9 @@ use text::hangul::is_syllable;
 
 const WINDOW: u32 = 0x10000;
 
+// The windows of all codepoints.
+const WINDOWS: u32 = 17;
+
 const ROW: u32 = 43712;
 
 // The words of a window's set.
@@ -33,9 +36,7 @@ fn put_replaced(words: &[u32], ix: Sections, c: u32, base: u32, set: &mut [u32])
     ensures { Put set.old set.new (λ d. mem (base + d) (single (the_table words.now) c)) }
 {
     let parts = replaced(words, ix, c);
-    let n = parts.count;
-    let items = parts.items;
-    put_points(set, base, &items[..n]);
+    put_points(set, base, &parts.items[..parts.count]);
 }
 
 // Puts what a round makes of the codepoint at the place d into the second set, if the first one holds it and no record replaces it.
@@ -89,11 +90,8 @@ fn put_places_kept(
         (λ e. mem (base + e) (joined_map (kept_at (the_table words.now) base from.now heads.now)
         (counted_from (i * 32) 32))) }
 {
-    let mut d = i * 32;
-    let end = d + 32;
-    while d < end {
+    for d in i * 32..i * 32 + 32 {
         put_kept(words, ix, heads, from, base, d, to);
-        d += 1;
     }
 }
 
@@ -152,10 +150,8 @@ fn put_all_kept(words: &[u32], ix: Sections, heads: &[u32], from: &[u32], base: 
         (λ e. mem (base + e) (joined_map (kept_at (the_table words.now) base from.now heads.now)
         (counted_from 0 0x10000))) }
 {
-    let mut i: u32 = 0;
-    while i < WORDS {
+    for i in 0..WORDS {
         put_word_kept(words, ix, heads, from, base, i, to);
-        i += 1;
     }
 }
 
@@ -217,10 +213,8 @@ pub fn reach(
 {
     heads_in(part, base, heads);
     start_in(part, gs, headed, base, set);
-    let mut j: u32 = 0;
-    while j < k {
+    for j in 0..k {
         round_in(words, ix, part, gs, rows, j, heads, base, set, other);
-        j += 1;
     }
 }
 
@@ -247,13 +241,12 @@ fn choose_round(
     ensures { RoundsChosen (the_table words.now) (start_of (the_table words.now) headed) (k + 1)
         rows.new heads.new set.new other.new }
 {
-    let mut base: u32 = 0;
-    while base < 0x110000 {
+    for window in 0..WINDOWS {
+        let base = window * WINDOW;
         reach(
             words, ix, part, gs, headed, k, base, rows, heads, set, other,
         );
         choose_in(part, first, set, base, rows, k * ROW);
-        base += WINDOW;
     }
 }
 
@@ -278,11 +271,9 @@ pub fn choose_rounds(
     ensures { RoundsChosen (the_table words.now) (start_of (the_table words.now) headed) 4 rows.new
         heads.new set.new other.new }
 {
-    let mut k: u32 = 0;
-    while k < 4 {
+    for k in 0..4 {
         choose_round(
             words, ix, part, gs, headed, k, first, rows, heads, set, other,
         );
-        k += 1;
     }
 }

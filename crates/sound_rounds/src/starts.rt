@@ -21,6 +21,7 @@ pub fn put_heads(part: &[u32], base: u32, set: &mut [u32])
     requires set_len { length set.old ≡ window_words }
     ensures { Put set.old set.new (λ d. mem (base + d) (heads_of (records_in as_headed part.now))) }
 {
+    // By hand: a record's length is its own, and the place goes on by it.
     let mut i: usize = 0;
     while i < part.len() {
         let s = counted(part, i + 1);
@@ -29,26 +30,17 @@ pub fn put_heads(part: &[u32], base: u32, set: &mut [u32])
     }
 }
 
-fn put_pairs_of(part: &[u32], s: Span, base: u32, set: &mut [u32])
-    requires fits { Fits part.now s }
-    requires set_len { length set.old ≡ window_words }
-    ensures { Put set.old set.new (λ d. in_pairs (base + d) (within s part.now)) }
-{
-    let from = s.from;
-    let to = s.to;
-    put_pairs(set, base, &part[from..to]);
-}
-
 // The same for the groups' characters.
 pub fn put_groups(gs: &[u32], base: u32, set: &mut [u32])
     requires holds { Holds groups gs.now }
     requires set_len { length set.old ≡ window_words }
     ensures { Put set.old set.new (λ d. in_groups (base + d) (records_in groups gs.now)) }
 {
+    // By hand: a record's length is its own, and the place goes on by it.
     let mut i: usize = 0;
     while i < gs.len() {
         let group = group_at(gs, i);
-        put_pairs_of(gs, group.pairs, base, set);
+        put_pairs(set, base, group.pairs.of(gs));
         i = group.next;
     }
 }

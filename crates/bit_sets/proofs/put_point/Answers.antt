@@ -1,5 +1,4 @@
 -- `bit_sets::put_point` meets its contract.
-use native.Mathlib.Omega.{arith}
 use Rattle.bit_sets.proofs.PutLaws.{put_none, put_same, point_place, point_before, point_behind}
 use Rattle.bit_sets.proofs.put_point.Goals as goal
 
@@ -8,12 +7,6 @@ returns-then-c-base c =
     let args' = c.args in
     let if1' = c.if-c-base in
     put_none _ _ (λ d h. point_before args'.base args'.c d if1'.true)
-
-pub put-requires : goal.put-requires
-put-requires c =
-    let pre' = c.requires in
-    let if2' = c.if-d-lt-WINDOW in
-    omega (arith, pre', if2'.true)
 
 pub returns-then-d-lt-WINDOW : goal.returns-then-d-lt-WINDOW
 returns-then-d-lt-WINDOW c =

@@ -1,18 +1,7 @@
-use Prim.Native.Nat.{ℕ, ◌-◌}
-use native.Mathlib.Omega.{arith}
+use Prim.Native.Nat.{ℕ}
 use lib.Dec.{eqb}
-use Rattle.bit_sets.proofs.PutLaws.{putting_start, putting_on, putting_done, run-next, run_none}
+use Rattle.bit_sets.proofs.PutLaws.{putting_on, putting_done, run-next, run_none}
 use Rattle.bit_sets.proofs.ranges.put_places.Goals as goal
-
-pub loop-d-init : goal.loop-d-init
-loop-d-init c = putting_start _ _
-
-pub put-requires : goal.put-requires
-put-requires c =
-    let loop' = c.loop-d in
-    let pre' = c.requires in
-    let loop-test' = c.loop-d-test in
-    omega (arith, loop'.invariant.room, pre', loop-test'.true)
 
 pub loop-d-preserved : goal.loop-d-preserved
 loop-d-preserved c =
@@ -22,11 +11,6 @@ loop-d-preserved c =
     let put' = c.put in
     let d : ℕ = loop'.d in
     putting_on _ _ _ _ loop'.invariant (λ e. eqb e d) _ _ (λ e h. run-next d args'.to e loop-test'.true) put'.ensures
-
-pub shape_of-set : goal.shape_of-set
-shape_of-set c =
-    let loop' = c.loop-d in
-    loop'.invariant.room
 
 pub returns : goal.returns
 returns c =

@@ -2,11 +2,6 @@
 use Rattle.bit_sets.proofs.PutLaws.{range_put, range_none}
 use Rattle.bit_sets.proofs.ranges.put_range.Goals as goal
 
-pub shape_of-set : goal.shape_of-set
-shape_of-set c =
-    let put-run' = c.put_run in
-    put-run'.ensures.room
-
 pub returns-then-from-to : goal.returns-then-from-to
 returns-then-from-to c =
     let low-end' = c.low_end-from in

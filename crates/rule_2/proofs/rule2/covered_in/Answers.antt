@@ -1,34 +1,18 @@
-use Prim.Native.Nat.{◌-◌, ◌*◌}
-use native.Mathlib.Omega.{arith}
-use borrow.Author.Tests.{not-true, not-false}
-use Rattle.rule_2.proofs.WindowLaws.{passed_all, words_on, words_not}
+-- `rule_2::rule2::covered_in` meets its contract: the words of a window.
+use Prim.Native.Nat.{ℕ}
+use mathlib.Core.Path.{refl}
+use mathlib.Core.Bool.{Bool, true, false}
+use Rattle.std.proofs.Common.{rules}
+use Rattle.std.proofs.lemmas.Iterator.{cases_from_all, YieldsList-from_range}
+use Rattle.bit_sets.specs.Sets.{window_words}
+use Rattle.rule_2.specs.Windows.{WordPasses}
+use Rattle.rule_2.specs.Cover.{covered_at}
+use Rattle.rule_2.proofs.WindowLaws.{asking, words-all}
 use Rattle.rule_2.proofs.rule2.covered_in.Goals as goal
-
-pub loop-i-init : goal.loop-i-init
-loop-i-init c = λ d h. absurd (omega arith)
-
-pub covered_word-requires : goal.covered_word-requires
-covered_word-requires c =
-    let pre' = c.requires in
-    let loop-test' = c.loop-i-test in
-    record { valid_len = pre'.valid_len; groups_len = pre'.groups_len; set_len = pre'.set_len; i_lt_window_words = loop-test'.true }
-
-pub returns-then-not-covered_word : goal.returns-then-not-covered_word
-returns-then-not-covered_word c =
-    let covered-word' = c.covered_word in
-    let if1' = c.if-not-covered_word in
-    let loop-test' = c.loop-i-test in
-    words_not _ _ _ covered-word'.ensures (not-true _ if1'.true-raw) loop-test'.true
-
-pub loop-i-preserved : goal.loop-i-preserved
-loop-i-preserved c =
-    let loop' = c.loop-i in
-    let covered-word' = c.covered_word in
-    let if1' = c.if-not-covered_word in
-    words_on _ _ _ covered-word'.ensures (not-false _ if1'.false-raw) loop'.invariant
 
 pub returns : goal.returns
 returns c =
-    let loop' = c.loop-i in
-    let loop-test' = c.loop-i-test in
-    passed_all _ (loop'.i * 32) loop'.invariant 0x10000 (omega (arith, loop-test'.false))
+    let p : ℕ → Bool = covered_at c.args.valid.now c.args.groups.now c.args.set.now in
+    words-all p _ (asking (λ i. WordPasses p i true) (λ i. WordPasses p i false) 0 window_words _ (cases_from_all _ _ _
+    (λ i. WordPasses p i true) (λ i. WordPasses p i false) c.all.ensures.ran (YieldsList-from_range 0 window_words window_words refl refl)
+    (λ x q k. search rules) (λ x q k. search rules)))

@@ -47,12 +47,6 @@ choose_rounds-requires c =
     let rooms = length-replicate {A = ℕ} window_words 0 in
     record { laid = pre'.laid; parts_of = p; first_set = first; rounds_chosen = rounds_start _ _ _ _ _ rooms find-first'.ensures.room rooms }
 
-pub all_covered-requires : goal.all_covered-requires
-all_covered-requires c =
-    let pre' = c.requires in
-    let choose-rounds' = c.choose_rounds in
-    record { laid = pre'.laid; parts_of = pre'.parts_of; rounds_chosen = choose-rounds'.ensures }
-
 pub returns : goal.returns
 returns c =
     let args' = c.args in

@@ -1,4 +1,3 @@
-use Prim.Native.Nat.{◌-◌}
 use mathlib.Core.Path.{sym, ◌∙◌}
 use Rattle.table.specs.Layout.{the_table}
 use Rattle.rule_5.proofs.ApartLaws.{apart_none, apart_start, apart_broken, apart_on, apart_done}
@@ -9,22 +8,13 @@ pub returns-then-items-first : goal.returns-then-items-first
 returns-then-items-first c =
     apart_none (the_table c.args.words.now) c.args.items.now c.next_item-first.result c.next_item-first.ensures c.if-items-first.true
 
-pub next_item-i-requires : goal.next_item-i-requires
-next_item-i-requires c = omega arith
-
 pub loop-i-init : goal.loop-i-init
 loop-i-init c =
     apart_start (the_table c.args.words.now) c.args.items.now c.next_item-first.result c.next_item-i.result c.next_item-first.ensures (omega arith) c.next_item-i.ensures
 
-pub parts_at-requires : goal.parts_at-requires
-parts_at-requires c = record { laid = c.requires.laid; emoji_known = c.requires.emoji_known; k_in_bounds = c.loop-i-test.true }
-
 pub returns-then-parts_at : goal.returns-then-parts_at
 returns-then-parts_at c =
     apart_broken (the_table c.args.words.now) c.args.items.now c.loop-i.i c.loop-i.invariant c.loop-i-test.true (sym c.parts_at.ensures ∙ c.if-parts_at.true)
-
-pub next_item-i-requires-in-loop-i : goal.next_item-i-requires-in-loop-i
-next_item-i-requires-in-loop-i c = omega arith
 
 pub loop-i-smaller : goal.loop-i-smaller
 loop-i-smaller c = omega (arith, c.next_item-i-in-loop-i.ensures.low, c.next_item-i-in-loop-i.ensures.inside)

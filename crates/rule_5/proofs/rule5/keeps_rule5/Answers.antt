@@ -5,9 +5,14 @@ use Rattle.sound_parts.proofs.SectionsHold.{emoji_part}
 use Rattle.rule_5.proofs.ApartLaws.{rule5_is}
 use Rattle.rule_5.proofs.rule5.keeps_rule5.Goals as goal
 
-pub sequences_apart_of-requires : goal.sequences_apart_of-requires
-sequences_apart_of-requires c =
-    record { laid = c.requires; fits = (laid-fits _ _ c.requires).emoji; emoji_known = record { words = emoji_part _ _ c.requires; known = c.requires.known.emoji } }
+pub of-requires : goal.of-requires
+of-requires c = (laid-fits _ _ c.requires).emoji
+
+pub sequences_apart-requires : goal.sequences_apart-requires
+sequences_apart-requires c =
+    let part = emoji_part _ _ c.requires in
+    let known = c.requires.known.emoji in
+    record { laid = c.requires; emoji_known = rw c.of.ensures (record { words = part; known = known }) }
 
 pub returns : goal.returns
-returns c = c.sequences_apart_of.ensures ∙ rule5_is _ _ (emoji_part _ _ c.requires)
+returns c = (rw c.of.ensures at c.sequences_apart.ensures) ∙ rule5_is _ _ (emoji_part _ _ c.requires)

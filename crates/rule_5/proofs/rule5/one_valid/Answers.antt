@@ -8,15 +8,9 @@ use Rattle.rule_5.proofs.rule5.one_valid.Goals as goal
 pub returns-then-items-i : goal.returns-then-items-i
 returns-then-items-i c = one_none (the_table c.args.words.now) c.args.items.now c.next_item-i.result c.next_item-i.ensures c.if-items-i.true
 
-pub next_item-j-requires : goal.next_item-j-requires
-next_item-j-requires c = omega arith
-
 pub returns-then-j-items : goal.returns-then-j-items
 returns-then-j-items c =
     one_more (the_table c.args.words.now) c.args.items.now c.next_item-i.result c.next_item-i.ensures (omega arith) c.next_item-j.result c.next_item-j.ensures c.if-j-items.true
-
-pub is_valid-requires : goal.is_valid-requires
-is_valid-requires c = c.requires
 
 pub returns : goal.returns
 returns c =

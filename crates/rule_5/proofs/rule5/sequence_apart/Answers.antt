@@ -3,15 +3,9 @@ use mathlib.Core.Path.{sym, ◌∙◌}
 use Rattle.rule_5.specs.Apart.{keeps_apart}
 use Rattle.rule_5.proofs.rule5.sequence_apart.Goals as goal
 
-pub one_valid-requires : goal.one_valid-requires
-one_valid-requires c = c.requires.laid
-
 pub returns-then-one_valid : goal.returns-then-one_valid
 unfolding keeps_apart
 returns-then-one_valid c = rw (sym c.one_valid.ensures ∙ c.if-one_valid.true)
-
-pub keeps_apart-requires : goal.keeps_apart-requires
-keeps_apart-requires c = record { laid = c.requires.laid; emoji_known = c.requires.emoji_known }
 
 pub returns : goal.returns
 unfolding keeps_apart

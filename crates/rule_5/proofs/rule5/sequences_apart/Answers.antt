@@ -1,4 +1,3 @@
-use Prim.Native.Nat.{◌-◌}
 use mathlib.Core.Path.{sym, ◌∙◌}
 use borrow.Author.Tests.{not-true, not-false}
 use Rattle.table.specs.Layout.{the_table}
@@ -13,20 +12,19 @@ loop-i-init c = through_start _ _ _ c.requires.emoji_known.words.holds
 pub counted-s-requires : goal.counted-s-requires
 counted-s-requires c = sequence-room _ _ c.loop-i.i c.loop-i.invariant c.loop-i-test.true
 
-pub sequence_apart_of-requires : goal.sequence_apart_of-requires
-sequence_apart_of-requires c =
-    record { laid = c.requires.laid; emoji_known = c.requires.emoji_known; fits = sequence_in _ _ c.loop-i.i c.loop-i.invariant c.loop-i-test.true c.counted-s.result c.counted-s.ensures }
+pub of-requires : goal.of-requires
+of-requires c = sequence_in _ _ c.loop-i.i c.loop-i.invariant c.loop-i-test.true c.counted-s.result c.counted-s.ensures
 
-pub returns-then-not-sequence_apart_of : goal.returns-then-not-sequence_apart_of
-returns-then-not-sequence_apart_of c =
-    sequences_broken (keeps_apart (the_table c.args.words.now)) _ c.loop-i.i c.loop-i.invariant c.loop-i-test.true c.counted-s.result c.counted-s.ensures (sym c.sequence_apart_of.ensures ∙ not-true _ c.if-not-sequence_apart_of.true-raw)
+pub returns-then-not-sequence_apart : goal.returns-then-not-sequence_apart
+returns-then-not-sequence_apart c =
+    sequences_broken (keeps_apart (the_table c.args.words.now)) _ c.loop-i.i c.loop-i.invariant c.loop-i-test.true c.counted-s.result c.counted-s.ensures (sym (rw c.of.ensures at c.sequence_apart.ensures) ∙ not-true _ c.if-not-sequence_apart.true-raw)
 
 pub loop-i-smaller : goal.loop-i-smaller
 loop-i-smaller c = omega (arith, sequence_less _ _ c.loop-i.i c.loop-i.invariant c.loop-i-test.true c.counted-s.result c.counted-s.ensures)
 
 pub loop-i-preserved : goal.loop-i-preserved
 loop-i-preserved c =
-    sequences_on (keeps_apart (the_table c.args.words.now)) _ c.loop-i.i c.loop-i.invariant c.loop-i-test.true c.counted-s.result c.counted-s.ensures (sym c.sequence_apart_of.ensures ∙ not-false _ c.if-not-sequence_apart_of.false-raw)
+    sequences_on (keeps_apart (the_table c.args.words.now)) _ c.loop-i.i c.loop-i.invariant c.loop-i-test.true c.counted-s.result c.counted-s.ensures (sym (rw c.of.ensures at c.sequence_apart.ensures) ∙ not-false _ c.if-not-sequence_apart.false-raw)
 
 pub returns : goal.returns
 returns c = sequences_done (keeps_apart (the_table c.args.words.now)) _ c.loop-i.i c.loop-i.invariant c.loop-i-test.false

@@ -11,12 +11,9 @@ is_sequence-requires c =
 
 pub returns-then-is_sequence : goal.returns-then-is_sequence
 unfolding stands_alone
-returns-then-is_sequence c = rw (sym (stripped_is _ _ c.requires.emoji_known.words _) ∙ sym c.is_sequence.ensures ∙ c.if-is_sequence.true)
+returns-then-is_sequence c = rw (sym (stripped_is _ _ c.requires.emoji_known.words _) ∙ sym c.is_sequence.ensures ∙ c.if-is_sequence.true) c.if-is_sequence.true
 
-pub one_valid-requires : goal.one_valid-requires
-one_valid-requires c = c.requires.laid
-
-pub returns : goal.returns
+pub returns-else-is_sequence : goal.returns-else-is_sequence
 unfolding stands_alone
-returns c =
+returns-else-is_sequence c =
     rw (sym (stripped_is _ _ c.requires.emoji_known.words _) ∙ sym c.is_sequence.ensures ∙ c.if-is_sequence.false) c.one_valid.ensures

@@ -2,12 +2,6 @@
 use Rattle.rule_6.specs.Heads.{is_stable}
 use Rattle.rule_6.proofs.rule6.is_stable.Goals as goal
 
-pub replaced-parts-requires : goal.replaced-parts-requires
-replaced-parts-requires c = c.requires
-
-pub is_alone-requires : goal.is_alone-requires
-is_alone-requires c = (c.replaced-parts.ensures.few, c.replaced-parts.ensures.whole)
-
 pub returns : goal.returns
 unfolding is_stable
 returns c = rw (← c.replaced-parts.ensures.is) c.is_alone.ensures

@@ -6,32 +6,41 @@ use Rattle.sections.proofs.SectionLaws.{laid-fits, laid_reads}
 use Rattle.sound_parts.proofs.SectionsHold.{decompositions_hold, decompositions_are}
 use Rattle.sound_parts.specs.Parts.{spares_triple}
 use Rattle.sound_parts.proofs.Walks.{triples_all}
+use Rattle.rule_2.proofs.PointLaws.{parts_of}
 use Rattle.rule_6.proofs.HeadLaws.{rule6_is}
 use Rattle.rule_6.proofs.rule6.keeps_rule6.Goals as goal
 
-pub heads_fit_of-requires : goal.heads_fit_of-requires
-heads_fit_of-requires c = record { fits = (laid-fits _ _ c.requires.laid).decompositions; holds = decompositions_hold _ _ c.requires.laid }
+pub of-part-requires : goal.of-part-requires
+of-part-requires c = (laid-fits _ _ c.requires.laid).decompositions
 
-pub returns-then-not-heads_fit_of : goal.returns-then-not-heads_fit_of
-returns-then-not-heads_fit_of c =
+pub heads_fit-requires : goal.heads_fit-requires
+heads_fit-requires c = rw c.of-part.ensures (decompositions_hold _ _ c.requires.laid)
+
+pub returns-then-not-heads_fit : goal.returns-then-not-heads_fit
+returns-then-not-heads_fit c =
     rw (
       rule6_is (the_table c.args.words.now) _
           (decompositions_are _ _ c.requires.laid),
-      sym c.heads_fit_of.ensures ∙ not-true _ c.if-not-heads_fit_of.true-raw,
+      sym (rw c.of-part.ensures at c.heads_fit.ensures) ∙ not-true _ c.if-not-heads_fit.true-raw,
     )
 
-pub decompose_fully_of-requires : goal.decompose_fully_of-requires
-decompose_fully_of-requires c = record { laid = c.requires.laid; words_value = c.requires.words_value }
+pub of-requires : goal.of-requires
+of-requires c = (laid-fits _ _ c.requires.laid).groups
 
-pub returns-then-not-decompose_fully_of : goal.returns-then-not-decompose_fully_of
-returns-then-not-decompose_fully_of c =
+pub decompose_fully-requires : goal.decompose_fully-requires
+decompose_fully-requires c =
+    let parts = parts_of _ _ c.requires.laid c.requires.words_value in
+    record { laid = c.requires.laid; parts_of = rw (c.of-part.ensures, c.of.ensures) parts; words_value = c.requires.words_value }
+
+pub returns-then-not-decompose_fully : goal.returns-then-not-decompose_fully
+returns-then-not-decompose_fully c =
     rw (
       rule6_is (the_table c.args.words.now) _
           (decompositions_are _ _ c.requires.laid),
       sym
-          c.heads_fit_of.ensures ∙ not-false _ c.if-not-heads_fit_of.false-raw,
+          (rw c.of-part.ensures at c.heads_fit.ensures) ∙ not-false _ c.if-not-heads_fit.false-raw,
       sym
-          c.decompose_fully_of.ensures ∙ not-true _ c.if-not-decompose_fully_of.true-raw,
+          c.decompose_fully.ensures ∙ not-true _ c.if-not-decompose_fully.true-raw,
     )
 
 pub classes_spare_of-requires : goal.classes_spare_of-requires
@@ -43,9 +52,9 @@ returns c =
       rule6_is (the_table c.args.words.now) _
           (decompositions_are _ _ c.requires.laid),
       sym
-          c.heads_fit_of.ensures ∙ not-false _ c.if-not-heads_fit_of.false-raw,
+          (rw c.of-part.ensures at c.heads_fit.ensures) ∙ not-false _ c.if-not-heads_fit.false-raw,
       sym
-          c.decompose_fully_of.ensures ∙ not-false _ c.if-not-decompose_fully_of.false-raw,
+          c.decompose_fully.ensures ∙ not-false _ c.if-not-decompose_fully.false-raw,
     )
     (c.classes_spare_of.ensures ∙ triples_all spares_triple _ _
     (laid_reads _ _ c.requires.laid).classes)

@@ -1,14 +1,8 @@
 -- `rule_6::rule6::stable_at` meets its contract.
-use native.Mathlib.Omega.{arith}
 use mathlib.Core.Path.{sym, ◌∙◌}
 use borrow.Author.Tests.{not-true, not-false}
 use Rattle.rule_6.proofs.SettledLaws.{stable_free, stable_plain, stable_asked}
 use Rattle.rule_6.proofs.rule6.stable_at.Goals as goal
-
-pub has-requires : goal.has-requires
-has-requires c =
-    let pre' = c.requires in
-    omega (arith, pre'.set_len, pre'.d_bound)
 
 pub returns-then-not-has : goal.returns-then-not-has
 returns-then-not-has c =
@@ -16,22 +10,12 @@ returns-then-not-has c =
     let if1' = c.if-not-has in
     stable_free _ _ _ _ (sym has'.ensures ∙ not-true _ if1'.true-raw)
 
-pub may_change-requires : goal.may_change-requires
-may_change-requires c =
-    let pre' = c.requires in
-    record { heads_len = pre'.holding.room; base_bound = pre'.base_bound; d_bound = pre'.d_bound }
-
 pub returns-then-not-may_change : goal.returns-then-not-may_change
 returns-then-not-may_change c =
     let pre' = c.requires in
     let may-change' = c.may_change in
     let if2' = c.if-not-may_change in
     stable_plain _ _ _ _ _ pre'.holding pre'.d_bound (sym may-change'.ensures ∙ not-true _ if2'.true-raw)
-
-pub overflow_add-base : goal.overflow_add-base
-overflow_add-base c =
-    let pre' = c.requires in
-    omega (arith, pre'.base_bound, pre'.d_bound)
 
 pub returns : goal.returns
 returns c =

@@ -1,34 +1,23 @@
-use Prim.Native.Nat.{◌-◌, ◌*◌}
-use native.Mathlib.Omega.{arith}
-use borrow.Author.Tests.{not-true, not-false}
-use Rattle.rule_2.proofs.WindowLaws.{passed_all, words_on, words_not}
+-- `rule_6::rule6::stable_in` meets its contract: the words of a window.
+use Prim.Native.Nat.{ℕ}
+use mathlib.Core.Path.{refl}
+use mathlib.Core.Bool.{Bool, true, false}
+use Rattle.std.proofs.Common.{rules}
+use Rattle.std.proofs.lemmas.Iterator.{cases_from_all, YieldsList-from_range, serves_from_Range}
+use Rattle.table.specs.Layout.{the_table}
+use Rattle.bit_sets.specs.Sets.{window_words}
+use Rattle.rule_2.specs.Windows.{WordPasses}
+use Rattle.rule_6.specs.Heads.{stable_at}
+use Rattle.rule_2.proofs.WindowLaws.{asking, words-all}
 use Rattle.rule_6.proofs.rule6.stable_in.Goals as goal
 
-pub loop-i-init : goal.loop-i-init
-loop-i-init c = λ d h. absurd (omega arith)
-
-pub stable_word-requires : goal.stable_word-requires
-stable_word-requires c =
-    let pre' = c.requires in
-    let loop-test' = c.loop-i-test in
-    record { laid = pre'.laid; holding = pre'.holding; set_len = pre'.set_len; base_bound = pre'.base_bound; i_lt_window_words = loop-test'.true }
-
-pub returns-then-not-stable_word : goal.returns-then-not-stable_word
-returns-then-not-stable_word c =
-    let stable-word' = c.stable_word in
-    let if1' = c.if-not-stable_word in
-    let loop-test' = c.loop-i-test in
-    words_not _ _ _ stable-word'.ensures (not-true _ if1'.true-raw) loop-test'.true
-
-pub loop-i-preserved : goal.loop-i-preserved
-loop-i-preserved c =
-    let loop' = c.loop-i in
-    let stable-word' = c.stable_word in
-    let if1' = c.if-not-stable_word in
-    words_on _ _ _ stable-word'.ensures (not-false _ if1'.false-raw) loop'.invariant
+pub all-requires-clause-callable : goal.all-requires-clause-callable
+all-requires-clause-callable c =
+    serves_from_Range (λ x q k. search rules) (λ d h k. search rules)
 
 pub returns : goal.returns
 returns c =
-    let loop' = c.loop-i in
-    let loop-test' = c.loop-i-test in
-    passed_all _ (loop'.i * 32) loop'.invariant 0x10000 (omega (arith, loop-test'.false))
+    let p : ℕ → Bool = stable_at (the_table c.args.words.now) c.args.base c.args.set.now in
+    words-all p _ (asking (λ i. WordPasses p i true) (λ i. WordPasses p i false) 0 window_words _ (cases_from_all _ _ _
+    (λ i. WordPasses p i true) (λ i. WordPasses p i false) c.all.ensures.ran (YieldsList-from_range 0 window_words window_words refl refl)
+    (λ x q k. search rules) (λ x q k. search rules)))

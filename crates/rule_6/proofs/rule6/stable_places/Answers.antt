@@ -1,37 +1,22 @@
-use Prim.Native.Nat.{◌-◌}
+-- `rule_6::rule6::stable_places` meets its contract: the 32 places of the word.
+use Prim.Native.Nat.{ℕ, ◌+◌, ◌*◌, ◌<◌}
 use native.Mathlib.Omega.{arith}
-use mathlib.Core.Path.{sym, ◌∙◌}
-use borrow.Author.Tests.{not-true, not-false}
+use mathlib.Core.Path.{◌≡◌, refl}
+use mathlib.Core.Bool.{Bool, true, false}
+use Rattle.std.proofs.Common.{rules}
+use Rattle.std.proofs.lemmas.Iterator.{cases_from_all, YieldsList-from_range, serves_from_Range}
+use Rattle.table.specs.Layout.{the_table}
 use Rattle.rule_6.specs.Heads.{stable_at}
-use Rattle.rule_2.proofs.WindowLaws.{word_start, word_on, word-all, word_not}
+use Rattle.rule_2.proofs.WindowLaws.{asking, word-all}
 use Rattle.rule_6.proofs.rule6.stable_places.Goals as goal
 
-pub loop-d-init : goal.loop-d-init
-loop-d-init c = word_start _ _
-
-pub stable_at-requires : goal.stable_at-requires
-stable_at-requires c =
-    let pre' = c.requires in
-    let loop-test' = c.loop-d-test in
-    record { laid = pre'.laid; holding = pre'.holding; set_len = pre'.set_len; base_bound = pre'.base_bound; d_bound = omega (arith, loop-test'.true, pre'.i_lt_window_words) }
-
-pub returns-then-not-stable_at : goal.returns-then-not-stable_at
-returns-then-not-stable_at c =
-    let loop' = c.loop-d in
-    let stable-at' = c.stable_at in
-    let if1' = c.if-not-stable_at in
-    let loop-test' = c.loop-d-test in
-    word_not _ _ loop'.d loop'.invariant loop-test'.true (sym stable-at'.ensures ∙ not-true _ if1'.true-raw)
-
-pub loop-d-preserved : goal.loop-d-preserved
-loop-d-preserved c =
-    let loop' = c.loop-d in
-    let stable-at' = c.stable_at in
-    let if1' = c.if-not-stable_at in
-    word_on _ _ loop'.d loop'.invariant (sym stable-at'.ensures ∙ not-false _ if1'.false-raw)
+pub all-requires-clause-callable : goal.all-requires-clause-callable
+all-requires-clause-callable c =
+    serves_from_Range (λ x q k. search rules) (λ d h k. let b : d < 0x10000 = omega (arith, k, c.requires.i_lt_window_words) in search rules)
 
 pub returns : goal.returns
 returns c =
-    let loop' = c.loop-d in
-    let loop-test' = c.loop-d-test in
-    word-all _ _ loop'.d loop'.invariant loop-test'.false
+    let i : ℕ = c.args.i in
+    let p : ℕ → Bool = stable_at (the_table c.args.words.now) c.args.base c.args.set.now in
+    word-all p i _ (asking (λ d. p d ≡ true) (λ d. p d ≡ false) (i * 32) 32 _ (cases_from_all _ _ _ (λ d. p d ≡ true) (λ d. p d ≡ false)
+    c.all.ensures.ran (YieldsList-from_range (i * 32) (i * 32 + 32) 32 refl (omega arith)) (λ x q k. search rules) (λ x q k. search rules)))

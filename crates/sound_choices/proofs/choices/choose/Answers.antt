@@ -1,5 +1,4 @@
 -- `sound_choices::choices::choose` meets its contract.
-use native.Mathlib.Omega.{arith}
 use mathlib.Core.Path.{sym, ◌∙◌}
 use borrow.Author.Tests.{not-true, not-false}
 use Rattle.sound_choices.proofs.ChoiceLaws.{window_before, window_behind, choice_out, choice_unless, choice_put, choice_missing}
@@ -15,37 +14,11 @@ returns-then-d-ge-WINDOW c =
     let if2' = c.if-d-ge-WINDOW in
     choice_out _ _ _ _ _ _ _ (window_behind _ _ if2'.true)
 
-pub has-requires : goal.has-requires
-has-requires c =
-    let pre' = c.requires in
-    omega (arith, pre'.first_len, pre'.i_lt_row_places)
-
 pub returns-then-not-has : goal.returns-then-not-has
 returns-then-not-has c =
     let has' = c.has in
     let if3' = c.if-not-has in
     choice_unless _ _ _ _ _ _ _ (sym has'.ensures ∙ not-true _ if3'.true-raw)
-
-pub has-requires-2 : goal.has-requires-2
-has-requires-2 c =
-    let pre' = c.requires in
-    let if2' = c.if-d-ge-WINDOW in
-    omega (arith, pre'.set_len, if2'.false)
-
-pub overflow_add-row : goal.overflow_add-row
-overflow_add-row c =
-    let pre' = c.requires in
-    omega (arith, pre'.i_in_bounds, pre'.rows_len)
-
-pub put-requires : goal.put-requires
-put-requires c =
-    let pre' = c.requires in
-    pre'.i_in_bounds
-
-pub shape_of-rows : goal.shape_of-rows
-shape_of-rows c =
-    let put' = c.put in
-    put'.ensures.room
 
 pub returns-then-has : goal.returns-then-has
 returns-then-has c =

@@ -1,4 +1,3 @@
-use Prim.Native.Nat.{◌-◌}
 use native.Mathlib.Omega.{arith}
 use mathlib.Core.Path.{◌∙◌}
 use Rattle.sound_parts.proofs.Walks.{head_room, head_less}
@@ -24,13 +23,6 @@ choose-requires c =
     let loop-test' = c.loop-at-test in
     let room = loop'.invariant.put.room in record { first_len = pre'.first_len; set_len = pre'.set_len; i_lt_row_places = omega (arith, loop'.invariant.walk.low, loop-test'.true, pre'.part_len_bound); i_in_bounds = omega (arith, loop'.invariant.walk.low, loop-test'.true, pre'.part_len_bound, pre'.row_places_in_bounds, room); rows_len = room ∙ pre'.rows_len }
 
-pub overflow_add-i : goal.overflow_add-i
-overflow_add-i c =
-    let loop' = c.loop-at in
-    let loop-test' = c.loop-at-test in
-    let pre' = c.requires in
-    omega (arith, loop'.invariant.walk.low, loop-test'.true, pre'.part_len_bound)
-
 pub loop-at-smaller : goal.loop-at-smaller
 loop-at-smaller c =
     let loop' = c.loop-at in
@@ -46,11 +38,6 @@ loop-at-preserved c =
     let choose' = c.choose in
     choice_on _ _ _ _ _ loop'.at loop'.i loop'.invariant loop-test'.true counted'.result counted'.ensures _
     (rw (numbered_head _ loop'.at loop'.i loop'.invariant.walk loop-test'.true) choose'.ensures)
-
-pub shape_of-rows : goal.shape_of-rows
-shape_of-rows c =
-    let loop' = c.loop-at in
-    loop'.invariant.put.room
 
 pub returns : goal.returns
 returns c =

@@ -1,14 +1,10 @@
-use Prim.Native.Nat.{◌-◌}
 use native.Mathlib.Omega.{arith}
-use mathlib.Core.Path.{◌∙◌, sym}
+use mathlib.Core.Path.{◌∙◌}
 use Rattle.bit_sets.specs.Sets.{window_words}
 use Rattle.sound_parts.proofs.Walks.{head_room, head_less}
 use Rattle.sound_choices.proofs.ChoiceLaws.{first_start, first_on, first_done}
 use Rattle.sound_choices.proofs.ClearedLaws.{cleared_has, cleared_length}
 use Rattle.sound_choices.proofs.choices.first_in.Goals as goal
-
-pub clear-requires : goal.clear-requires
-clear-requires c = tt
 
 pub loop-at-init : goal.loop-at-init
 loop-at-init c =
@@ -35,13 +31,6 @@ see-requires c =
           (arith, loop'.invariant.choice.walk.low, loop-test'.true, pre'.part_len_bound);
     }
 
-pub overflow_add-i : goal.overflow_add-i
-overflow_add-i c =
-    let loop' = c.loop-at in
-    let loop-test' = c.loop-at-test in
-    let pre' = c.requires in
-    omega (arith, loop'.invariant.choice.walk.low, loop-test'.true, pre'.part_len_bound)
-
 pub loop-at-smaller : goal.loop-at-smaller
 loop-at-smaller c =
     let loop' = c.loop-at in
@@ -56,17 +45,6 @@ loop-at-preserved c =
     let counted' = c.counted-s in
     let see' = c.see in
     first_on _ _ _ _ _ loop'.at loop'.i loop'.invariant loop-test'.true counted'.result counted'.ensures _ _ see'.ensures
-
-pub shape_of-seen : goal.shape_of-seen
-shape_of-seen c =
-    let loop' = c.loop-at in
-    let pre' = c.requires in
-    loop'.invariant.held.room ∙ sym pre'.seen_len
-
-pub shape_of-first : goal.shape_of-first
-shape_of-first c =
-    let loop' = c.loop-at in
-    loop'.invariant.choice.put.room
 
 pub returns : goal.returns
 returns c =

@@ -1,5 +1,4 @@
 -- `sound_choices::choices::see` meets its contract.
-use native.Mathlib.Omega.{arith}
 use mathlib.Core.Path.{sym, ◌∙◌}
 use borrow.Author.Tests.{not-true, not-false}
 use Rattle.sound_choices.proofs.ChoiceLaws.{window_before, window_behind, seen_out, seen_before, seen_syllable, seen_new}
@@ -19,12 +18,6 @@ returns-then-d-ge-WINDOW c =
     let pre' = c.requires in
     seen_out _ _ _ _ args'.seen.now _ args'.first.now (window_behind _ _ if2'.true) pre'.seen_len
 
-pub has-requires : goal.has-requires
-has-requires c =
-    let pre' = c.requires in
-    let if2' = c.if-d-ge-WINDOW in
-    omega (arith, pre'.seen_len, if2'.false)
-
 pub returns-then-has : goal.returns-then-has
 returns-then-has c =
     let args' = c.args in
@@ -33,27 +26,6 @@ returns-then-has c =
     let has' = c.has in
     let if3' = c.if-has in
     seen_before _ _ _ _ args'.seen.now _ args'.first.now if1'.false if2'.false (sym has'.ensures ∙ if3'.true)
-
-pub put-requires : goal.put-requires
-put-requires c =
-    let pre' = c.requires in
-    let if2' = c.if-d-ge-WINDOW in
-    omega (arith, pre'.seen_len, if2'.false)
-
-pub put-requires-then-not-is_syllable : goal.put-requires-then-not-is_syllable
-put-requires-then-not-is_syllable c =
-    let pre' = c.requires in
-    omega (arith, pre'.first_len, pre'.i_lt_row_places)
-
-pub shape_of-seen-then-not-is_syllable : goal.shape_of-seen-then-not-is_syllable
-shape_of-seen-then-not-is_syllable c =
-    let put' = c.put in
-    put'.ensures.room
-
-pub shape_of-first : goal.shape_of-first
-shape_of-first c =
-    let put2' = c.put-then-not-is_syllable in
-    put2'.ensures.room
 
 pub returns-then-not-is_syllable : goal.returns-then-not-is_syllable
 returns-then-not-is_syllable c =
@@ -67,11 +39,6 @@ returns-then-not-is_syllable c =
     let put2' = c.put-then-not-is_syllable in
     seen_new _ _ _ _ _ _ _ if1'.false if2'.false (sym has'.ensures ∙ if3'.false) put'.ensures
     (sym is-syllable'.ensures ∙ not-true _ if4'.true-raw) put2'.ensures
-
-pub shape_of-seen-else-not-is_syllable : goal.shape_of-seen-else-not-is_syllable
-shape_of-seen-else-not-is_syllable c =
-    let put' = c.put in
-    put'.ensures.room
 
 pub returns-else-not-is_syllable : goal.returns-else-not-is_syllable
 returns-else-not-is_syllable c =

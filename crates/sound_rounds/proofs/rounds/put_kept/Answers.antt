@@ -1,16 +1,10 @@
 -- `sound_rounds::rounds::put_kept` meets its contract.
-use native.Mathlib.Omega.{arith}
 use mathlib.Core.Path.{sym, ◌∙◌}
 use borrow.Author.Tests.{not-true, not-false}
 use Rattle.table.specs.Layout.{the_table}
 use Rattle.sound_choices.proofs.RoundLaws.{kept-none, kept_syllable, kept_head, kept-plain}
 use Rattle.sound_choices.proofs.WalkLaws.{put_list, put_place, put_nothing}
 use Rattle.sound_rounds.proofs.rounds.put_kept.Goals as goal
-
-pub has-requires : goal.has-requires
-has-requires c =
-    let pre' = c.requires in
-    omega (arith, pre'.from_len, pre'.d_bound)
 
 pub returns-then-not-has : goal.returns-then-not-has
 returns-then-not-has c =
@@ -19,25 +13,10 @@ returns-then-not-has c =
     let if1' = c.if-not-has in
     put_nothing _ _ _ (kept-none (the_table args'.words.now) _ _ _ _ (sym has'.ensures ∙ not-true _ if1'.true-raw))
 
-pub overflow_add-base : goal.overflow_add-base
-overflow_add-base c =
-    let pre' = c.requires in
-    omega (arith, pre'.base_bound, pre'.d_bound)
-
-pub overflow_add-base-then-is_syllable : goal.overflow_add-base-then-is_syllable
-overflow_add-base-then-is_syllable c =
-    let pre' = c.requires in
-    omega (arith, pre'.base_bound, pre'.d_bound)
-
 pub put_replaced-requires : goal.put_replaced-requires
 put_replaced-requires c =
     let pre' = c.requires in
     record { laid = pre'.laid; set_len = pre'.to_len }
-
-pub shape_of-to-then-is_syllable : goal.shape_of-to-then-is_syllable
-shape_of-to-then-is_syllable c =
-    let put-replaced' = c.put_replaced in
-    put-replaced'.ensures.room
 
 pub returns-then-is_syllable : goal.returns-then-is_syllable
 returns-then-is_syllable c =
@@ -50,21 +29,6 @@ returns-then-is_syllable c =
     put_list _ _ _ _ _ (sym (kept_syllable (the_table args'.words.now) _ _ args'.heads.now _ (sym has'.ensures
     ∙ not-false _ if1'.false-raw)
     (sym is-syllable'.ensures ∙ if2'.true))) put-replaced'.ensures
-
-pub has-requires-2 : goal.has-requires-2
-has-requires-2 c =
-    let pre' = c.requires in
-    omega (arith, pre'.heads_len, pre'.d_bound)
-
-pub put-requires : goal.put-requires
-put-requires c =
-    let pre' = c.requires in
-    omega (arith, pre'.to_len, pre'.d_bound)
-
-pub shape_of-to : goal.shape_of-to
-shape_of-to c =
-    let put' = c.put in
-    put'.ensures.room
 
 pub returns-then-not-has-2 : goal.returns-then-not-has-2
 returns-then-not-has-2 c =

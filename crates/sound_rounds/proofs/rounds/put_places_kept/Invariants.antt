@@ -1,5 +1,5 @@
 -- `sound_rounds::rounds::put_places_kept` meets its contract, place by place.
-use Prim.Native.Nat.{◌+◌, ◌-◌, ◌*◌}
+use Prim.Native.Nat.{◌+◌, ◌*◌}
 use Rattle.lists.specs.Lists.{mem, joined_map}
 use Rattle.table.specs.Layout.{the_table}
 use Rattle.soundness.specs.Valid.{counted_from}
@@ -10,7 +10,4 @@ use Rattle.sound_rounds.proofs.rounds.put_places_kept.Given as goal
 
 abbrev pub invariant-loop-d : goal.invariant-loop-d
 invariant-loop-d l = Putting (λ e. mem (l.base + e) (joined_map (kept_at (the_table l.words) l.base l.from l.heads) (counted_from (l.i * 32) 32)))
-    (given_from (kept_at (the_table l.words) l.base l.from l.heads) l.base l.end l.d) l.initial.to l.to
-
-abbrev pub decreases-loop-d : goal.decreases-loop-d
-decreases-loop-d l = l.end - l.d
+    (given_from (kept_at (the_table l.words) l.base l.from l.heads) l.base (l.i * 32 + 32) l.d) l.initial.to l.to

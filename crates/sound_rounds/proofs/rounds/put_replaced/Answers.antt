@@ -14,11 +14,6 @@ put_points-requires c =
     let pre' = c.requires in
     pre'.set_len
 
-pub shape_of-set : goal.shape_of-set
-shape_of-set c =
-    let put-points' = c.put_points in
-    put-points'.ensures.room
-
 pub returns : goal.returns
 returns c =
     let replaced' = c.replaced-parts in

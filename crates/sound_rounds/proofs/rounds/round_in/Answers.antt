@@ -6,9 +6,6 @@ use Rattle.sound_choices.proofs.ClearedLaws.{cleared_length}
 use Rattle.sound_rounds.proofs.ReachLaws.{round_in}
 use Rattle.sound_rounds.proofs.rounds.round_in.Goals as goal
 
-pub clear-requires : goal.clear-requires
-clear-requires c = tt
-
 pub put_all_kept-requires : goal.put_all_kept-requires
 put_all_kept-requires c =
     let pre' = c.requires in
@@ -22,11 +19,6 @@ put_all_kept-requires c =
       to_len = cleared_length args'.other.now _ window_words clear'.ensures
           pre'.other_len;
     }
-
-pub overflow_mul-k : goal.overflow_mul-k
-overflow_mul-k c =
-    let pre' = c.requires in
-    omega (arith, pre'.k_bound)
 
 pub put_chosen-requires : goal.put_chosen-requires
 put_chosen-requires c =

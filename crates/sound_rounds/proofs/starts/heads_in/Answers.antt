@@ -1,11 +1,7 @@
 -- `sound_rounds::starts::heads_in` meets its contract.
-use mathlib.Core.Path.{sym, ◌∙◌}
 use Rattle.bit_sets.specs.Sets.{window_words}
 use Rattle.sound_choices.proofs.ClearedLaws.{cleared_length, window_filled}
 use Rattle.sound_rounds.proofs.starts.heads_in.Goals as goal
-
-pub clear-requires : goal.clear-requires
-clear-requires c = tt
 
 pub put_heads-requires : goal.put_heads-requires
 put_heads-requires c =
@@ -13,14 +9,6 @@ put_heads-requires c =
     let args' = c.args in
     let clear' = c.clear in
     record { holds = pre'.holds; set_len = cleared_length args'.set.now _ window_words clear'.ensures pre'.set_len }
-
-pub shape_of-set : goal.shape_of-set
-shape_of-set c =
-    let args' = c.args in
-    let pre' = c.requires in
-    let clear' = c.clear in
-    let put-heads' = c.put_heads in
-    (window_filled args'.set.now _ _ _ pre'.set_len clear'.ensures put-heads'.ensures).room ∙ sym pre'.set_len
 
 pub returns : goal.returns
 returns c =

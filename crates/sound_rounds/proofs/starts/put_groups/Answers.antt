@@ -1,4 +1,3 @@
-use Prim.Native.Nat.{◌-◌}
 use native.Mathlib.Omega.{arith}
 use mathlib.Core.Path.{◌∙◌}
 use Rattle.sound_parts.proofs.Walks.{group-room, group_in, group_less}
@@ -16,13 +15,11 @@ group_at-group-requires c =
     let loop-test' = c.loop-i-test in
     group-room _ _ loop'.i loop'.invariant.walk loop-test'.true
 
-pub put_pairs_of-requires : goal.put_pairs_of-requires
-put_pairs_of-requires c =
-    let loop' = c.loop-i in
-    let loop-test' = c.loop-i-test in
-    let group-at' = c.group_at-group in
-    let pre' = c.requires in
-    record { fits = group_in _ _ loop'.i loop'.invariant.walk loop-test'.true group-at'.result group-at'.ensures; set_len = loop'.invariant.put.room ∙ pre'.set_len }
+pub of-requires : goal.of-requires
+of-requires c = group_in _ _ c.loop-i.i c.loop-i.invariant.walk c.loop-i-test.true c.group_at-group.result c.group_at-group.ensures
+
+pub put_pairs-requires : goal.put_pairs-requires
+put_pairs-requires c = c.loop-i.invariant.put.room ∙ c.requires.set_len
 
 pub loop-i-smaller : goal.loop-i-smaller
 loop-i-smaller c =
@@ -36,13 +33,9 @@ loop-i-preserved c =
     let loop' = c.loop-i in
     let loop-test' = c.loop-i-test in
     let group-at' = c.group_at-group in
-    let put-pairs-of' = c.put_pairs_of in
-    groups_put_on _ _ _ _ loop'.i loop'.invariant loop-test'.true group-at'.result group-at'.ensures _ put-pairs-of'.ensures
-
-pub shape_of-set : goal.shape_of-set
-shape_of-set c =
-    let loop' = c.loop-i in
-    loop'.invariant.put.room
+    let put-pairs' = c.put_pairs in
+    groups_put_on _ _ _ _ loop'.i loop'.invariant loop-test'.true group-at'.result group-at'.ensures _
+    (rw c.of.ensures at put-pairs'.ensures)
 
 pub returns : goal.returns
 returns c =

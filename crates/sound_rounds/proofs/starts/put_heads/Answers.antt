@@ -1,4 +1,3 @@
-use Prim.Native.Nat.{◌-◌}
 use native.Mathlib.Omega.{arith}
 use mathlib.Core.Path.{◌∙◌}
 use Rattle.sound_parts.proofs.Walks.{head_room, head_less}
@@ -36,11 +35,6 @@ loop-i-preserved c =
     let counted' = c.counted-s in
     let put-point' = c.put_point in
     heads_put_on _ _ _ _ loop'.i loop'.invariant loop-test'.true counted'.result counted'.ensures _ put-point'.ensures
-
-pub shape_of-set : goal.shape_of-set
-shape_of-set c =
-    let loop' = c.loop-i in
-    loop'.invariant.put.room
 
 pub returns : goal.returns
 returns c =
