@@ -6,11 +6,11 @@ use Rattle.screen.proofs.judge_screen.Goals as goal
 
 pub show_labels-requires : goal.show_labels-requires
 show_labels-requires c =
-    let a = admits _ _ _ _ c.admit-admitted.ensures _ c.in-Found.is in
+    let a = admits _ _ _ _ c.admit.ensures _ c.in_ok-ix.was in
     record { laid = a.laid; least_work_in_bounds = (a.enough, a.short); memo = memo_new _ }
 
 pub returns-in-Found : goal.returns-in-Found
-returns-in-Found c = screen_admitted _ _ _ _ _ _ _ c.admit-admitted.ensures _ c.in-Found.is _ _ _ c.show_labels.ensures
+returns-in-Found c = screen_admitted _ _ _ _ _ _ _ c.admit.ensures _ c.in_ok-ix.was _ _ _ c.show_labels.ensures
 
 pub returns-in-Refused : goal.returns-in-Refused
-returns-in-Refused c = screen_not_admitted _ _ _ _ _ _ _ c.admit-admitted.ensures _ c.in-Refused.is
+returns-in-Refused c = screen_not_admitted _ _ _ _ _ _ _ c.admit.ensures _ c.in_err-ix.was
