@@ -11,8 +11,6 @@ use Rattle.answers.specs.Verdict.{refused}
 use Rattle.answers.specs.Values.{number_of, place_of}
 use Rattle.answers.specs.declared.Kind.{Kind}
 use Rattle.answers.specs.declared.Refusal.{Refusal}
-use Rattle.answers.specs.declared.NameAnswer.TheVariants as name
-use Rattle.answers.specs.declared.LabelAnswer.TheVariants as label
 use Rattle.table.specs.Table.{Table}
 use Rattle.name.specs.Label.{label_verdict}
 use Rattle.one_label.specs.Judged.{Accepts, Judges}

@@ -3,6 +3,7 @@ use native.Mathlib.Omega.{arith}
 use mathlib.Core.Path.{refl, sym, ◌∙◌}
 use lib.ListN.{length-take}
 use lib.Seq.{length-take-le}
+use Rattle.std.proofs.lemmas.Result.{err_from_is_err_and}
 use Rattle.one_label.proofs.Said.{judged-room, judged_count, judged_short}
 use Rattle.label_call.proofs.OneLabel.{one_disallowed, one-barred, one_refused, one_accepted}
 use Rattle.label_call.proofs.judge_one.Goals as goal
@@ -54,6 +55,8 @@ returns-else-is_barred c =
     one_accepted _ _ _ _ _ _ c.label_end-end.ensures c.if-end-input.false _ _ c.judge_label.ensures.judges _ c.in_ok-judged.was
     (sym c.is_barred.ensures ∙ c.if-is_barred.false) _ _ c.put_label-length.ensures
 
-pub returns-in-Refused : goal.returns-in-Refused
-returns-in-Refused c =
-    one_refused _ _ _ _ _ _ c.label_end-end.ensures c.if-end-input.false _ _ c.judge_label.ensures.judges _ c.in_err-judged.was
+pub returns-in_err-judged : goal.returns-in_err-judged
+returns-in_err-judged c =
+    let p = err_from_is_err_and c.from_residual.result c.from_residual.ensures.1 in
+    rw (p.1, p.2) (one_refused _ _ _ _ _ _ c.label_end-end.ensures c.if-end-input.false _ _ c.judge_label.ensures.judges _ c.in_err-judged.was)
+

@@ -1,6 +1,7 @@
 use Prim.Native.Nat.{◌-◌}
 use native.Mathlib.Omega.{arith}
 use mathlib.Core.Path.{refl, sym, ◌∙◌}
+use Rattle.std.proofs.lemmas.Result.{err_from_is_err_and}
 use Rattle.name.proofs.Parting.{label-length}
 use Rattle.one_label.proofs.Said.{judged-room, judged_count, judged_short, judged-worked}
 use Rattle.name_call.proofs.Passing.{pass_start, pass_empty, pass_done, pass_refused, pass_barred, pass_more}
@@ -81,18 +82,19 @@ loop-at-preserved c = (
   (c.judge_label.ensures.unpaired_2, c.judge_label.ensures.memo_2),
 )
 
-pub shape_of-answer-in-Refused : goal.shape_of-answer-in-Refused
-shape_of-answer-in-Refused c = c.loop-at.invariant.0.same
+pub shape_of-answer-in_err-judged : goal.shape_of-answer-in_err-judged
+shape_of-answer-in_err-judged c = c.loop-at.invariant.0.same
 
-pub shape_of-w-in-Refused : goal.shape_of-w-in-Refused
-shape_of-w-in-Refused c = c.judge_label.ensures.judges.same ∙ c.loop-at.invariant.0.same-work
+pub shape_of-w-in_err-judged : goal.shape_of-w-in_err-judged
+shape_of-w-in_err-judged c = c.judge_label.ensures.judges.same ∙ c.loop-at.invariant.0.same-work
 
-pub shape_of-memo-in-Refused : goal.shape_of-memo-in-Refused
-shape_of-memo-in-Refused c = c.judge_label.ensures.memo_2.size ∙ sym c.requires.memo.size
+pub shape_of-memo-in_err-judged : goal.shape_of-memo-in_err-judged
+shape_of-memo-in_err-judged c = c.judge_label.ensures.memo_2.size ∙ sym c.requires.memo.size
 
-pub returns-in-Refused : goal.returns-in-Refused
-returns-in-Refused c =
-    pass_refused _ _ _ _ _ _ _ _ _ _ _ c.loop-at.invariant.0 _ c.label_end-end.ensures _ _ c.judge_label.ensures.judges _ c.in_err-judged.was
+pub returns-in_err-judged : goal.returns-in_err-judged
+returns-in_err-judged c =
+    let p = err_from_is_err_and c.from_residual.result c.from_residual.ensures.1 in
+    rw (p.1, p.2) (pass_refused _ _ _ _ _ _ _ _ _ _ _ c.loop-at.invariant.0 _ c.label_end-end.ensures _ _ c.judge_label.ensures.judges _ c.in_err-judged.was)
 
 pub shape_of-answer : goal.shape_of-answer
 shape_of-answer c = c.loop-at.invariant.0.same
