@@ -44,8 +44,8 @@ returns-then-is_barred c =
 pub slice_bounds-put_label-length : goal.slice_bounds-put_label-length
 slice_bounds-put_label-length c = judged-room _ _ _ _ _ _ _ _ c.judge_label.ensures.judges _ c.in_ok-judged.was c.requires.least_work_in_bounds.0
 
-pub slice_bounds-put_label-length-in_ok-judged : goal.slice_bounds-put_label-length-in_ok-judged
-slice_bounds-put_label-length-in_ok-judged c = judged_count _ _ _ _ _ _ _ _ c.judge_label.ensures.judges _ c.in_ok-judged.was
+pub slice_bounds-put_label-length-2 : goal.slice_bounds-put_label-length-2
+slice_bounds-put_label-length-2 c = judged_count _ _ _ _ _ _ _ _ c.judge_label.ensures.judges _ c.in_ok-judged.was
 
 pub put_label-length-requires : goal.put_label-length-requires
 put_label-length-requires c = (omega arith, judged_short _ _ _ _ _ _ _ _ c.judge_label.ensures.judges _ c.in_ok-judged.was)

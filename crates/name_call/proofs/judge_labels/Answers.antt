@@ -49,8 +49,8 @@ pub slice_bounds-put_label-end : goal.slice_bounds-put_label-end
 slice_bounds-put_label-end c =
     judged-room _ _ _ _ _ _ _ _ c.judge_label.ensures.judges _ c.in_ok-judged.was (omega (arith, c.loop-at.invariant.0.same-work, c.requires.least_work_in_bounds.0))
 
-pub slice_bounds-put_label-end-in_ok-judged : goal.slice_bounds-put_label-end-in_ok-judged
-slice_bounds-put_label-end-in_ok-judged c = judged_count _ _ _ _ _ _ _ _ c.judge_label.ensures.judges _ c.in_ok-judged.was
+pub slice_bounds-put_label-end-in-loop-at : goal.slice_bounds-put_label-end-in-loop-at
+slice_bounds-put_label-end-in-loop-at c = judged_count _ _ _ _ _ _ _ _ c.judge_label.ensures.judges _ c.in_ok-judged.was
 
 pub put_label-len-requires : goal.put_label-len-requires
 put_label-len-requires c =
@@ -62,8 +62,8 @@ put_label-len-requires c =
 pub overflow_add-done : goal.overflow_add-done
 overflow_add-done c = omega (arith, judged-worked _ _ _ _ _ _ _ _ c.judge_label.ensures.judges _ c.in_ok-judged.was)
 
-pub overflow_add-done-in_ok-judged : goal.overflow_add-done-in_ok-judged
-overflow_add-done-in_ok-judged c = omega (arith, judged-worked _ _ _ _ _ _ _ _ c.judge_label.ensures.judges _ c.in_ok-judged.was)
+pub overflow_add-done-in-loop-at : goal.overflow_add-done-in-loop-at
+overflow_add-done-in-loop-at c = omega (arith, judged-worked _ _ _ _ _ _ _ _ c.judge_label.ensures.judges _ c.in_ok-judged.was)
 
 pub overflow_add-place : goal.overflow_add-place
 overflow_add-place c =

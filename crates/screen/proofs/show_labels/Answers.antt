@@ -46,12 +46,12 @@ put_label-from-requires c =
     let i = c.loop-at.invariant.0 in
     (omega (arith, i.small, i.inside, c.requires.least_work_in_bounds.1), omega arith)
 
-pub offset_bounds-name-at-in_ok-judged : goal.offset_bounds-name-at-in_ok-judged
-offset_bounds-name-at-in_ok-judged c =
+pub offset_bounds-name-at-in-loop-at : goal.offset_bounds-name-at-in-loop-at
+offset_bounds-name-at-in-loop-at c =
     record { fits = omega (arith, c.label_end-end.ensures.from, c.label_end-end.ensures.to, c.requires.least_work_in_bounds.1) }
 
-pub slice_bounds-show_label-end-in_ok-judged : goal.slice_bounds-show_label-end-in_ok-judged
-slice_bounds-show_label-end-in_ok-judged c = sym c.judge_label.ensures.unpaired_2.size
+pub slice_bounds-show_label-end-in-loop-at : goal.slice_bounds-show_label-end-in-loop-at
+slice_bounds-show_label-end-in-loop-at c = sym c.judge_label.ensures.unpaired_2.size
 
 pub show_label-len-requires : goal.show_label-len-requires
 show_label-len-requires c =
@@ -74,8 +74,8 @@ pub overflow_add-done : goal.overflow_add-done
 overflow_add-done c =
     omega (arith, pass_worked _ _ _ _ _ _ _ _ _ _ _ _ c.loop-at.invariant.0 _ c.label_end-end.ensures _ _ c.judge_label.ensures.judges _ _ _ c.in_ok-judged.was)
 
-pub overflow_add-done-in_ok-judged : goal.overflow_add-done-in_ok-judged
-overflow_add-done-in_ok-judged c =
+pub overflow_add-done-in-loop-at : goal.overflow_add-done-in-loop-at
+overflow_add-done-in-loop-at c =
     omega (arith, pass_worked _ _ _ _ _ _ _ _ _ _ _ _ c.loop-at.invariant.0 _ c.label_end-end.ensures _ _ c.judge_label.ensures.judges _ _ _ c.in_ok-judged.was)
 
 pub overflow_add-place : goal.overflow_add-place
