@@ -1,15 +1,13 @@
 -- "When an answer is an enum, a definition states this paper's number and values for each of its cases": for each answer enum
 -- its refusal number (0 where there is none), its place, and its other values, which are 0 beside a refusal. The contracts of
 -- the public calls are stated through these definitions.
-use Rattle.std.specs.Prelude.{ℕ}
+use Rattle.std.specs.Prelude.{ℕ, Result, Ok, Err}
 use Rattle.std.proofs.Math.Option.{Option, none, some}
 use Rattle.answers.specs.declared.Kind.{Kind}
 use Rattle.answers.specs.declared.Refusal.{Refusal}
 use Rattle.answers.specs.declared.Refusal.TheVariants.{LayoutFault, WorkAreaTooSmall, InputTooLong, NotScalar, Disallowed, NoTokens, WorkedTooLong, LowLine, Hyphens, Fenced, LeadingMark, NoGroup, NsmRun, Compound, Confusable, Restricted, BufferTooSmall}
-use Rattle.answers.specs.declared.NameAnswer.{NameAnswer}
-use Rattle.answers.specs.declared.NameAnswer.TheVariants as name
-use Rattle.answers.specs.declared.LabelAnswer.{LabelAnswer}
-use Rattle.answers.specs.declared.LabelAnswer.TheVariants as label
+use Rattle.answers.specs.declared.AcceptedName.{AcceptedName}
+use Rattle.answers.specs.declared.AcceptedLabel.{AcceptedLabel}
 use Rattle.answers.specs.declared.Soundness.{Soundness}
 use Rattle.answers.specs.declared.Soundness.TheVariants.{Sound, Broken}
 use Rattle.answers.specs.declared.Unpacked.{Unpacked}
@@ -63,9 +61,9 @@ pub record NameValues : Type 0 where
   pub labels : ℕ
 
 -- "Any other value answered beside a refusal is 0."
-abbrev pub name_values : NameAnswer → NameValues
-name_values (name.Accepted len n) = record { number = 0; place = 0; length = len; labels = n }
-name_values (name.Refused r) = record { number = number_of r; place = place_of r; length = 0; labels = 0 }
+abbrev pub name_values : Result AcceptedName Refusal → NameValues
+name_values (Ok name) = record { number = 0; place = 0; length = name.length; labels = name.labels }
+name_values (Err r) = record { number = number_of r; place = place_of r; length = 0; labels = 0 }
 
 -- what the label call answers; beside a refusal there is no kind
 pub record LabelValues : Type 0 where
@@ -74,9 +72,9 @@ pub record LabelValues : Type 0 where
   pub length : ℕ
   pub kind : Option Kind
 
-abbrev pub label_values : LabelAnswer → LabelValues
-label_values (label.Accepted len k) = record { number = 0; place = 0; length = len; kind = some k }
-label_values (label.Refused r) = record { number = number_of r; place = place_of r; length = 0; kind = none }
+abbrev pub label_values : Result AcceptedLabel Refusal → LabelValues
+label_values (Ok label) = record { number = 0; place = 0; length = label.length; kind = some label.kind }
+label_values (Err r) = record { number = number_of r; place = place_of r; length = 0; kind = none }
 
 -- what the soundness check answers: nothing broken, or the lowest broken rule
 abbrev pub broken_rule : Soundness → Option ℕ

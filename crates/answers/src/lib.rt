@@ -43,18 +43,18 @@ pub enum Refusal {
     BufferTooSmall,
 }
 
-// The name call: the length of the answer and the number of labels.
+// What the name call answers, unless it refuses: the length of the answer and the number of labels.
 #[derive(Clone, Copy)]
-pub enum NameAnswer {
-    Accepted { length: usize, labels: usize },
-    Refused(Refusal),
+pub struct AcceptedName {
+    pub length: usize,
+    pub labels: usize,
 }
 
-// The label call: the length of the answer and the label's kind.
+// What the label call answers, unless it refuses: the length of the answer and the label's kind.
 #[derive(Clone, Copy)]
-pub enum LabelAnswer {
-    Accepted { length: usize, kind: Kind },
-    Refused(Refusal),
+pub struct AcceptedLabel {
+    pub length: usize,
+    pub kind: Kind,
 }
 
 // The soundness check: the lowest rule that is broken, 0 for a layout fault.
@@ -124,22 +124,22 @@ pub fn place_of(refusal: Refusal) -> usize
 }
 
 // The length that the name call answers, 0 beside a refusal.
-pub fn name_length(answer: NameAnswer) -> usize
+pub fn name_length(answer: Result<AcceptedName, Refusal>) -> usize
     ensures { result ≡ (name_values answer).length }
 {
     match answer {
-        NameAnswer::Accepted { length, labels: _ } => length,
-        NameAnswer::Refused(_) => 0,
+        Ok(name) => name.length,
+        Err(_) => 0,
     }
 }
 
 // The length that the label call answers, 0 beside a refusal.
-pub fn label_length(answer: LabelAnswer) -> usize
+pub fn label_length(answer: Result<AcceptedLabel, Refusal>) -> usize
     ensures { result ≡ (label_values answer).length }
 {
     match answer {
-        LabelAnswer::Accepted { length, kind: _ } => length,
-        LabelAnswer::Refused(_) => 0,
+        Ok(label) => label.length,
+        Err(_) => 0,
     }
 }
 

@@ -1,4 +1,6 @@
 -- The form under which a name is filed: what the name call answered, then what is said of that.
+use Rattle.std.specs.Prelude.{Result, Ok, Err}
+use Rattle.answers.specs.declared.AcceptedName.{AcceptedName}
 use Prim.Native.Nat.{ℕ, ◌≤◌}
 use mathlib.Core.Path.{◌≡◌, refl, sym, ap, ◌∙◌}
 use mathlib.Core.Bool.{false}
@@ -9,8 +11,6 @@ use Rattle.answers.specs.Verdict.{Verdict, accepted, refused}
 use Rattle.answers.specs.Values.{NameValues, name_values, number_of, place_of}
 use Rattle.answers.specs.declared.Refusal.{Refusal}
 use Rattle.answers.specs.declared.Refusal.TheVariants.{LayoutFault, WorkAreaTooSmall, InputTooLong, NotScalar, Disallowed, NoTokens, WorkedTooLong, LowLine, Hyphens, Fenced, LeadingMark, NoGroup, NsmRun, Compound, Confusable, Restricted, BufferTooSmall}
-use Rattle.answers.specs.declared.NameAnswer.{NameAnswer}
-use Rattle.answers.specs.declared.NameAnswer.TheVariants as name
 use Rattle.ending.specs.Ends.{result_fits}
 use Rattle.name.specs.Name.{name_answering, name_before15, name_verdict, name_result, name_call}
 use Rattle.name.specs.Calls.{NameCalls}
@@ -44,9 +44,9 @@ numbered (Restricted l) = refl
 numbered BufferTooSmall = refl
 
 -- what the name call answered
-module _ (setting : ℕ) (words input before after work work' : List ℕ) (r : NameAnswer)
+module _ (setting : ℕ) (words input before after work work' : List ℕ) (r : Result AcceptedName Refusal)
     (c : NameCalls setting words input before after work work' r) where
-  module _ (n labels : ℕ) (e : r ≡ name.Accepted n labels) where
+  module _ (n labels : ℕ) (e : r ≡ Ok (record { length = n; labels = labels })) where
     values : (name_call setting words input (length before) (length work)).values ≡ record { number = 0; place = 0; length = n; labels = labels }
     values = sym c.values ∙ ap name_values e
 
@@ -64,7 +64,7 @@ module _ (setting : ℕ) (words input before after work work' : List ℕ) (r : N
         rw (ap (λ (v : NameValues). v.number) values, ap (λ (v : NameValues). v.length) values, ← c.answer) in
         record { same = s; same-work = t; is = rw q f }
 
-  pub form_refused : length after ≡ length before → length work' ≡ length work → (f : Refusal) → r ≡ name.Refused f
+  pub form_refused : length after ≡ length before → length work' ≡ length work → (f : Refusal) → r ≡ Err f
       → Formed (form_for setting words input (length before) (length work)) before after work work' (filing.Refused (Refused f))
   unfolding form_for
   form_refused s t f e =

@@ -5,7 +5,6 @@ ghost use Rattle.std.specs.Prelude.{length};
 ghost use Rattle.book_answers.specs.Calls.{form_for};
 ghost use Rattle.book_forms.specs.Forms.{Formed, Files};
 
-use answers::NameAnswer;
 use book_answers::BookAnswer;
 use book_forms::{Filing, Opening, file_form, open};
 
@@ -21,8 +20,8 @@ fn named_form(
 {
     let named = name_call::name(name, words, setting, answer, work);
     match named {
-        NameAnswer::Accepted { length, labels: _ } => file_form(answer, length),
-        NameAnswer::Refused(f) => Filing::Refused(BookAnswer::Refused(f)),
+        Ok(form) => file_form(answer, form.length),
+        Err(f) => Filing::Refused(BookAnswer::Refused(f)),
     }
 }
 

@@ -1,5 +1,7 @@
 -- "For a sound table and the same room, a payee found by a name is found by its normal form too."
-use Rattle.std.specs.Prelude.{ℕ, ◌≡◌, Bool, cond, length, take}
+use Rattle.answers.specs.declared.Refusal.{Refusal}
+use Rattle.answers.specs.declared.AcceptedName.{AcceptedName}
+use Rattle.std.specs.Prelude.{ℕ, ◌≡◌, Bool, cond, length, take, Result}
 use Rattle.std.proofs.Common.{arith, ◌∙◌}
 use Rattle.std.proofs.Math.Path.{refl, sym, ap}
 use Rattle.std.proofs.Math.Bool.{true, false}
@@ -10,7 +12,6 @@ use borrow.Author.Tests.{eqb-true}
 use Rattle.lists.specs.Filled.{filled, take-filled}
 use Rattle.answers.specs.Verdict.{Verdict, accepted, refused, next}
 use Rattle.answers.specs.Values.{name_values}
-use Rattle.answers.specs.declared.NameAnswer.{NameAnswer}
 use Rattle.soundness.specs.Soundness.{soundness_of}
 use Rattle.name.specs.Label.{Label}
 use Rattle.name.specs.Name.{NameResult, name_answer, name_verdict, name_result, name_call}
@@ -107,7 +108,7 @@ module _ (setting : ℕ) (words name : List ℕ) (room work : ℕ) where
 
 -- The same of three calls that were made: the name call, which left its answer in `after`, find by the name, and find by that answer, with
 -- buffers of the same lengths, whatever they held.
-pub same_payee : (setting : ℕ) (words name area : List ℕ) (before after work work' : List ℕ) (n : NameAnswer)
+pub same_payee : (setting : ℕ) (words name area : List ℕ) (before after work work' : List ℕ) (n : Result AcceptedName Refusal)
     → NameCalls setting words name before after work work' n
     → (answer₁ answer₁' work₁ work₁' : List ℕ) (r : FindAnswer) → FindCalls setting words name area answer₁ answer₁' work₁ work₁' r
     → (answer₂ answer₂' work₂ work₂' : List ℕ) (s : FindAnswer)

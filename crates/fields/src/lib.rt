@@ -5,7 +5,7 @@ ghost use Rattle.std.specs.Prelude.{◌≡◌};
 ghost use Rattle.answers.specs.Values.{unpack_values, name_values, label_values, broken_rule};
 ghost use Rattle.fields.specs.Fields.{unpack_fields, name_fields, label_fields, label_numbers, kind_numbers, kind_fields, soundness_numbers, soundness_fields};
 
-use answers::{Kind, LabelAnswer, NameAnswer, Soundness, Unpacked, number_of, place_of};
+use answers::{AcceptedLabel, AcceptedName, Kind, Refusal, Soundness, Unpacked, number_of, place_of};
 
 // A kind: 1 emoji, 2 ASCII, 3 a group with its number and 1 where it is restricted; other fields are 0.
 #[derive(Clone, Copy)]
@@ -106,17 +106,17 @@ pub fn kind_numbers(k: Kind) -> KindNumbers
     }
 }
 
-pub fn name_fields(a: NameAnswer) -> WanlophengName
+pub fn name_fields(a: Result<AcceptedName, Refusal>) -> WanlophengName
     ensures { name_fields result ≡ name_values a }
 {
     match a {
-        NameAnswer::Accepted { length, labels } => WanlophengName {
+        Ok(name) => WanlophengName {
             number: 0,
             place: 0,
-            length,
-            labels,
+            length: name.length,
+            labels: name.labels,
         },
-        NameAnswer::Refused(r) => {
+        Err(r) => {
             WanlophengName {
                 number: number_of(r),
                 place: place_of(r),
@@ -127,22 +127,22 @@ pub fn name_fields(a: NameAnswer) -> WanlophengName
     }
 }
 
-pub fn label_fields(a: LabelAnswer) -> WanlophengLabel
+pub fn label_fields(a: Result<AcceptedLabel, Refusal>) -> WanlophengLabel
     ensures { label_fields result ≡ label_numbers (label_values a) }
 {
     match a {
-        LabelAnswer::Accepted { length, kind } => {
-            let k = kind_numbers(kind);
+        Ok(label) => {
+            let k = kind_numbers(label.kind);
             WanlophengLabel {
                 number: 0,
                 place: 0,
-                length,
+                length: label.length,
                 kind: k.kind,
                 group: k.group,
                 restricted: k.restricted,
             }
         }
-        LabelAnswer::Refused(r) => {
+        Err(r) => {
             WanlophengLabel {
                 number: number_of(r),
                 place: place_of(r),

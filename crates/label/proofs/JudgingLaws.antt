@@ -1,4 +1,6 @@
 -- Laws of the judging: the text alone, its group, and the choice of the kind.
+use Rattle.std.specs.Prelude.{Result, Err}
+use Rattle.answers.specs.declared.Refusal.{Refusal}
 use Prim.Native.Nat.{ℕ, ◌+◌, ◌-◌, ◌≤◌}
 use native.Mathlib.Omega.{arith}
 use mathlib.Core.Path.{◌≡◌, refl, sym, ◌∙◌}
@@ -18,8 +20,6 @@ use Rattle.spelling.specs.Spelling.{all_ascii}
 use Rattle.spelling.specs.CellTags.{codes_in, tags_in}
 use Rattle.groups.specs.declared.GroupFound.{GroupFound}
 use Rattle.groups.specs.declared.GroupFound.TheVariants.{At, Nothing}
-use Rattle.label.specs.declared.Judged.{Judged}
-use Rattle.label.specs.declared.Judged.TheVariants.{Refused}
 use Rattle.groups.specs.Groups.{group_of, group_found}
 use Rattle.label.specs.Judge.{judge_ascii, judge_text}
 use Rattle.label.specs.CellText.{text_at, TextAlone}
@@ -31,10 +31,10 @@ pub codes_length : (w : List ℕ) (n : ℕ) → least_work ≤ length w → n �
 codes_length w n h k = sym (length-take-le n w (omega arith))
 
 -- the verdict is known, and nothing is written
-pub judged_now : (w : List ℕ) (v : Verdict Kind) (j : Judged) → verdict_of j ≡ v → CellsJudged v w w j
+pub judged_now : (w : List ℕ) (v : Verdict Kind) (j : Result Kind Refusal) → verdict_of j ≡ v → CellsJudged v w w j
 judged_now w v j e = record { same = refl; kept = refl; verdict = e }
 
-pub judged_as : (w w' : List ℕ) (u v : Verdict Kind) (j : Judged) → u ≡ v → CellsJudged u w w' j → CellsJudged v w w' j
+pub judged_as : (w w' : List ℕ) (u v : Verdict Kind) (j : Result Kind Refusal) → u ≡ v → CellsJudged u w w' j → CellsJudged v w w' j
 judged_as w w' u v j e o = record { same = o.same; kept = o.kept; verdict = o.verdict ∙ e }
 
 -- whether 13 does not apply, asked only where the group is not whitelisted
@@ -57,7 +57,7 @@ module _ (t : Table) (place : ℕ) (w w' : List ℕ) (n m : ℕ) (a : TextAlone 
       rw e a.put
 
   module _ (r : GroupFound) (found : r ≡ group_found (group_of t.groups alone)) where
-    pub judged-none : r ≡ Nothing → CellsJudged (judge_text t place (text_at (codes_in w n) (tags_in w n))) w w' (Refused (NoGroup place))
+    pub judged-none : r ≡ Nothing → CellsJudged (judge_text t place (text_at (codes_in w n) (tags_in w n))) w w' (Err (NoGroup place))
     judged-none e =
         record {
           same = a.same;
@@ -65,7 +65,7 @@ module _ (t : Table) (place : ℕ) (w w' : List ℕ) (n m : ℕ) (a : TextAlone 
           verdict = text-none t place (text_at (codes_in w n) (tags_in w n)) (sym e ∙ rw alone_text at found);
         }
 
-    pub judged-in_group : all listed_white t.groups ≡ true → (number : ℕ) (restricted whitelisted : Bool) → r ≡ At number restricted whitelisted → (j : Judged)
+    pub judged-in_group : all listed_white t.groups ≡ true → (number : ℕ) (restricted whitelisted : Bool) → r ≡ At number restricted whitelisted → (j : Result Kind Refusal)
         → verdict_of j ≡ in_group t place alone number restricted whitelisted
         → CellsJudged (judge_text t place (text_at (codes_in w n) (tags_in w n))) w w' j
     judged-in_group white number restricted whitelisted e j v =

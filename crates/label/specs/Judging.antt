@@ -1,5 +1,6 @@
 -- The judging of tokens in the steps that the code takes, over codepoints with tags beside them.
-use Rattle.std.specs.Prelude.{ℕ, ◌≡◌, Bool, not, ◌&&◌, ◌||◌, cond, List, length, take}
+use Rattle.answers.specs.declared.Refusal.{Refusal}
+use Rattle.std.specs.Prelude.{ℕ, ◌≡◌, Bool, not, ◌&&◌, ◌||◌, cond, List, length, take, Result, Ok, Err}
 use Rattle.limits.specs.Limits.{most_worked}
 use Rattle.answers.specs.Verdict.{Verdict, accepted, refused}
 use Rattle.answers.specs.Values.{number_of, place_of}
@@ -11,15 +12,13 @@ use Rattle.compounds.specs.Compounds.{compounds_fit, list_of}
 use Rattle.spelling.specs.Spelling.{all_ascii, low_line, fenced}
 use Rattle.spelling.specs.CellTags.{leading_at}
 use Rattle.confusable.specs.Confusable.{confusable}
-use Rattle.label.specs.declared.Judged.{Judged}
-use Rattle.label.specs.declared.Judged.TheVariants.{Accepted, Refused}
 use Rattle.label.specs.Judge.{unless, judge_ascii, judge_text}
 use Rattle.label.specs.CellText.{text_at}
 
 -- what an answer of the judging stands for
-abbrev pub verdict_of : Judged → Verdict Kind
-verdict_of (Accepted k) = accepted k
-verdict_of (Refused r) = refused (number_of r) (place_of r)
+abbrev pub verdict_of : Result Kind Refusal → Verdict Kind
+verdict_of (Ok k) = accepted k
+verdict_of (Err r) = refused (number_of r) (place_of r)
 
 -- 14, where it is known whether 13 applies
 unfoldable pub group_verdict : Table → ℕ → List ℕ → Bool → ℕ → Bool → Verdict Kind
@@ -42,7 +41,7 @@ judge_at t place s ks emoji text =
     cond (not text) (accepted Emoji) (cond (not emoji && all_ascii s) (judge_ascii place s) (mixed_at t place s ks))
 
 -- what is answered where the verdict is v: the codepoints are kept
-pub record CellsJudged (v : Verdict Kind) (w w' : List ℕ) (r : Judged) : Type 0 where
+pub record CellsJudged (v : Verdict Kind) (w w' : List ℕ) (r : Result Kind Refusal) : Type 0 where
   pub same : length w' ≡ length w
   pub kept : take most_worked w' ≡ take most_worked w
   pub verdict : verdict_of r ≡ v

@@ -12,13 +12,11 @@ pub fn text_alone(w: &mut [u32], n: usize) -> usize
     ensures { TextAlone w.old w.new n result }
 {
     let mut m: usize = 0;
-    let mut i: usize = 0;
-    while i < n {
+    for i in 0..n {
         if w[MOST_WORKED + i] != 0 {
             w[MOST_WORKED + m] = w[i];
             m += 1;
         }
-        i += 1;
     }
     m
 }

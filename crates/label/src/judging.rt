@@ -10,7 +10,6 @@ ghost use Rattle.label.specs.Judge.{judge_ascii, judge_text};
 ghost use Rattle.label.specs.CellText.{text_at};
 ghost use Rattle.label.specs.Judging.{verdict_of, group_verdict, in_group, mixed_at, judge_at, CellsJudged};
 
-use crate::Judged;
 use crate::cells::text_alone;
 use answers::{GroupKind, Kind, Refusal};
 use compounds::compounds_fit;
@@ -22,16 +21,16 @@ use sections::Sections;
 use spelling::{all_ascii, fenced, hyphens, leading_mark, low_line};
 
 // A single text token below 80 hex: rules 8 and 9, kind ASCII.
-fn judge_ascii(s: &[u32], place: usize) -> Judged
+fn judge_ascii(s: &[u32], place: usize) -> Result<Kind, Refusal>
     ensures { verdict_of result ≡ judge_ascii place s.now }
 {
     if low_line(s) {
-        return Judged::Refused(Refusal::LowLine(place));
+        return Err(Refusal::LowLine(place));
     }
     if hyphens(s) {
-        return Judged::Refused(Refusal::Hyphens(place));
+        return Err(Refusal::Hyphens(place));
     }
-    Judged::Accepted(Kind::Ascii)
+    Ok(Kind::Ascii)
 }
 
 // 13 unless the NSM of the text fit, which `fits` says, then 14; the kind is the group.
@@ -44,22 +43,19 @@ fn judge_group(
     restricted: bool,
     place: usize,
     memo: &mut [u32],
-) -> Judged
+) -> Result<Kind, Refusal>
     requires laid { Laid words.now ix }
     requires memo { Memo words.now memo.old }
     ensures result_value { verdict_of result ≡ group_verdict (the_table words.now) place text.now fits number restricted }
     ensures memo_2 { Memo words.now memo.new }
 {
     if !fits {
-        return Judged::Refused(Refusal::NsmRun(place));
+        return Err(Refusal::NsmRun(place));
     }
     if confusable(words, ix, text, memo) {
-        return Judged::Refused(Refusal::Confusable(place));
+        return Err(Refusal::Confusable(place));
     }
-    Judged::Accepted(Kind::Group(GroupKind {
-        number: number,
-        restricted: restricted,
-    }))
+    Ok(Kind::Group(GroupKind { number, restricted }))
 }
 
 // 16, 13 and 14, in the group that holds the text.
@@ -72,14 +68,14 @@ fn judge_in_group(
     whitelisted: bool,
     place: usize,
     memo: &mut [u32],
-) -> Judged
+) -> Result<Kind, Refusal>
     requires laid { Laid words.now ix }
     requires memo { Memo words.now memo.old }
     ensures result_value { verdict_of result ≡ in_group (the_table words.now) place text.now number restricted whitelisted }
     ensures memo_2 { Memo words.now memo.new }
 {
     if !compounds_fit(words, ix, whitelisted, number, text) {
-        return Judged::Refused(Refusal::Compound(place));
+        return Err(Refusal::Compound(place));
     }
     let mut fits = whitelisted;
     if !whitelisted {
@@ -96,7 +92,7 @@ fn judge_text(
     n: usize,
     place: usize,
     memo: &mut [u32],
-) -> Judged
+) -> Result<Kind, Refusal>
     requires laid { Laid words.now ix }
     requires least_work_in_bounds { least_work ≤ length w.old }
     requires n_le_most_worked { n ≤ most_worked }
@@ -124,7 +120,7 @@ fn judge_text(
             place,
             memo,
         ),
-        GroupFound::Nothing => Judged::Refused(Refusal::NoGroup(place)),
+        GroupFound::Nothing => Err(Refusal::NoGroup(place)),
     }
 }
 
@@ -136,7 +132,7 @@ fn judge_mixed(
     n: usize,
     place: usize,
     memo: &mut [u32],
-) -> Judged
+) -> Result<Kind, Refusal>
     requires laid { Laid words.now ix }
     requires least_work_in_bounds { least_work ≤ length w.old }
     requires n_le_most_worked { n ≤ most_worked }
@@ -146,13 +142,13 @@ fn judge_mixed(
     ensures memo_2 { Memo words.now memo.new }
 {
     if low_line(&w[..n]) {
-        return Judged::Refused(Refusal::LowLine(place));
+        return Err(Refusal::LowLine(place));
     }
     if fenced(words, ix, &w[..n]) {
-        return Judged::Refused(Refusal::Fenced(place));
+        return Err(Refusal::Fenced(place));
     }
     if leading_mark(words, ix, w, n) {
-        return Judged::Refused(Refusal::LeadingMark(place));
+        return Err(Refusal::LeadingMark(place));
     }
     judge_text(words, ix, w, n, place, memo)
 }
@@ -167,7 +163,7 @@ pub fn judge(
     text: bool,
     place: usize,
     memo: &mut [u32],
-) -> Judged
+) -> Result<Kind, Refusal>
     requires laid { Laid words.now ix }
     requires least_work_in_bounds { least_work ≤ length w.old }
     requires n_le_most_worked { n ≤ most_worked }
@@ -177,7 +173,7 @@ pub fn judge(
     ensures memo_2 { Memo words.now memo.new }
 {
     if !text {
-        return Judged::Accepted(Kind::Emoji);
+        return Ok(Kind::Emoji);
     }
     if !emoji {
         if all_ascii(&w[..n]) {

@@ -1,4 +1,6 @@
 -- The one label of the label call.
+use Rattle.std.specs.Prelude.{Result, Ok, Err}
+use Rattle.one_label.specs.declared.JudgedLabel.{JudgedLabel}
 use Prim.Native.Nat.{ℕ, ◌+◌, ◌-◌, ◌<◌, ◌≤◌}
 use native.Mathlib.Omega.{arith}
 use mathlib.Core.Path.{◌≡◌, refl, sym, ap, ◌∙◌}
@@ -12,16 +14,12 @@ use Rattle.answers.specs.Restriction.{barred}
 use Rattle.answers.specs.declared.Kind.{Kind}
 use Rattle.answers.specs.declared.Refusal.{Refusal}
 use Rattle.answers.specs.declared.Refusal.TheVariants.{Disallowed, Restricted}
-use Rattle.answers.specs.declared.NameAnswer.TheVariants as name
-use Rattle.answers.specs.declared.LabelAnswer.TheVariants as label
 use Rattle.table.specs.Table.{Table}
 use Rattle.tokens.specs.Scan.{steps, first_disallowed}
 use Rattle.scanning.specs.declared.Tally.{Tally}
 use Rattle.scanning.specs.declared.Scanned.{Scanned}
 use Rattle.scanning.specs.declared.Scanned.TheVariants as scanned
 use Rattle.scanning.specs.Scanning.{ScanIs, Scans}
-use Rattle.one_label.specs.declared.Judgement.{Judgement}
-use Rattle.one_label.specs.declared.Judgement.TheVariants.{Accepted, Refused}
 use Rattle.name.specs.Label.{stop, label_verdict, label_by, one_label}
 use Rattle.name.specs.Permitted.{by_accepted, by_barred, by_refused}
 use Rattle.name.specs.Parts.{label_at, no_stop, LabelEnds, Put}
@@ -59,7 +57,7 @@ module _ (g : ℕ) (t : Table) (input before w₀ : List ℕ) where
 
     -- a stop stands in it
     pub one_disallowed : end < length input → (w : List ℕ) (i : ℕ) → BeforeStop t (take end input) w₀ w i
-        → LabelJudged (one_label g t input) before before w₀ w (label.Refused (Disallowed i))
+        → LabelJudged (one_label g t input) before before w₀ w (Err (Disallowed i))
     one_disallowed h w i b =
         let parted : input ≡ take end input ++ stop ∷ drop (end + 1) input = rw front at (label-stop input 0 end e h) in
         record {
@@ -71,11 +69,11 @@ module _ (g : ℕ) (t : Table) (input before w₀ : List ℕ) where
         }
 
     -- no stop stands in it
-    module _ (h : length input ≤ end) (w : List ℕ) (r : Judgement) (j : Judges t 0 0 0 input w₀ w r) where
+    module _ (h : length input ≤ end) (w : List ℕ) (r : Result JudgedLabel Refusal) (j : Judges t 0 0 0 input w₀ w r) where
       whole : one_label g t input ≡ label_by g t 0 0 0 input
       whole = one-whole (rw (label_last input 0 end e h) at e.none)
 
-      pub one_refused : (f : Refusal) → r ≡ Refused f → LabelJudged (one_label g t input) before before w₀ w (label.Refused f)
+      pub one_refused : (f : Refusal) → r ≡ Err f → LabelJudged (one_label g t input) before before w₀ w (Err f)
       one_refused f er =
           record {
             same = refl;
@@ -85,10 +83,10 @@ module _ (g : ℕ) (t : Table) (input before w₀ : List ℕ) where
                 (whole ∙ by_refused g t 0 0 0 input (number_of f) (place_of f) (judged_refused t 0 0 0 input w₀ w r f er j));
           }
 
-      pub one-barred : (n : ℕ) (k : Kind) (worked : ℕ) → r ≡ Accepted n k worked → barred g k ≡ true
-          → LabelJudged (one_label g t input) before before w₀ w (label.Refused (Restricted 0))
-      one-barred n k worked er b =
-          let a : Accepts (label_verdict t 0 0 0 input) 0 w n k worked = judged_accepted t 0 0 0 input w₀ w r n k worked er j in
+      pub one-barred : (o : JudgedLabel) → r ≡ Ok o → barred g o.kind ≡ true
+          → LabelJudged (one_label g t input) before before w₀ w (Err (Restricted 0))
+      one-barred o er b =
+          let a : Accepts (label_verdict t 0 0 0 input) 0 w o.length o.kind o.worked = judged_accepted t 0 0 0 input w₀ w r o er j in
           record {
             same = refl;
             same-work = j.same;
@@ -97,15 +95,15 @@ module _ (g : ℕ) (t : Table) (input before w₀ : List ℕ) where
                 (whole ∙ by_barred g t 0 0 0 input a.label a.verdict (rw a.kind at b));
           }
 
-      pub one_accepted : (n : ℕ) (k : Kind) (worked : ℕ) → r ≡ Accepted n k worked → barred g k ≡ false → (after : List ℕ) (len : ℕ)
-          → Put before after 0 true (take n w) len → LabelJudged (one_label g t input) before after w₀ w (label.Accepted len k)
-      one_accepted n k worked er b after len p =
-          let a : Accepts (label_verdict t 0 0 0 input) 0 w n k worked = judged_accepted t 0 0 0 input w₀ w r n k worked er j in
-          let sum : len ≡ length (take n w) = omega (arith, p.ends) in
+      pub one_accepted : (o : JudgedLabel) → r ≡ Ok o → barred g o.kind ≡ false → (after : List ℕ) (len : ℕ)
+          → Put before after 0 true (take o.length w) len → LabelJudged (one_label g t input) before after w₀ w (Ok (record { length = len; kind = o.kind }))
+      one_accepted o er b after len p =
+          let a : Accepts (label_verdict t 0 0 0 input) 0 w o.length o.kind o.worked = judged_accepted t 0 0 0 input w₀ w r o er j in
+          let sum : len ≡ length (take o.length w) = omega (arith, p.ends) in
           record {
             same = p.same;
             same-work = j.same;
             told =
-                label-told _ after a.label len k (whole ∙ by_accepted g t 0 0 0 input a.label a.verdict (rw a.kind at b)) (sum ∙ ap length a.words)
+                label-told _ after a.label len o.kind (whole ∙ by_accepted g t 0 0 0 input a.label a.verdict (rw a.kind at b)) (sum ∙ ap length a.words)
                 (λ q. p.written (omega (arith, p.same)) ∙ a.words) a.kind;
           }

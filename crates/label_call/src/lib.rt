@@ -9,12 +9,12 @@ ghost use Rattle.memo.specs.Memo.{Memo};
 ghost use Rattle.name.specs.Label.{one_label, label_before15};
 ghost use Rattle.name.specs.Calls.{LabelCalls, LabelJudged, BeforeStop};
 
-use answers::{LabelAnswer, Refusal, is_barred, label_length};
+use answers::{AcceptedLabel, Refusal, is_barred, label_length};
 use ending::finish;
 use memo::MEMO;
-use name::admit::{Admission, admit};
+use name::admit::admit;
 use name::labels::{label_end, put_label};
-use one_label::{Judgement, judge_label};
+use one_label::judge_label;
 use quick_asked::ask;
 use scanning::{Scanned, scan};
 use sections::Sections;
@@ -43,7 +43,7 @@ fn judge_one(
     answer: &mut [u32],
     w: &mut [u32],
     memo: &mut [u32],
-) -> LabelAnswer
+) -> Result<AcceptedLabel, Refusal>
     requires laid { Laid words.now ix }
     requires least_work_in_bounds { (least_work ≤ length w.old) × (length input.now ≤ most_input) }
     requires memo { Memo words.now memo.old }
@@ -52,22 +52,18 @@ fn judge_one(
     let end = label_end(input, 0);
     if end < input.len() {
         let at = before_stop(words, ix, &input[..end], w);
-        return LabelAnswer::Refused(Refusal::Disallowed(at));
+        return Err(Refusal::Disallowed(at));
     }
     let mut unpaired = [0u32; KNOWN_WORDS];
     index_pairs(words, ix, &mut unpaired);
     ask(words, ix, &mut unpaired, input.len());
-    let judged = judge_label(words, ix, input, 0, 0, 0, &mut unpaired, w, memo);
-    match judged {
-        Judgement::Accepted { length, kind, .. } => {
-            if is_barred(setting, kind) {
-                return LabelAnswer::Refused(Refusal::Restricted(0));
-            }
-            let end = put_label(answer, 0, true, &w[..length]);
-            LabelAnswer::Accepted { length: end, kind }
-        }
-        Judgement::Refused(f) => LabelAnswer::Refused(f),
+    let judged = judge_label(words, ix, input, 0, 0, 0, &mut unpaired, w, memo)?;
+    let kind = judged.kind;
+    if is_barred(setting, kind) {
+        return Err(Refusal::Restricted(0));
     }
+    let length = put_label(answer, 0, true, &w[..judged.length]);
+    Ok(AcceptedLabel { length, kind })
 }
 
 // Judges a label as far as 14 and 17; 15 and the clearing of both buffers are left to the call.
@@ -77,17 +73,12 @@ pub fn judge_input(
     input: &[u32],
     answer: &mut [u32],
     work: &mut [u32],
-) -> LabelAnswer
+) -> Result<AcceptedLabel, Refusal>
     ensures { LabelJudged (label_before15 setting words.now input.now (length work.old)) answer.old answer.new work.old work.new result }
 {
-    let admitted = admit(words, input, work.len());
-    match admitted {
-        Admission::Found(ix) => {
-            let mut memo = [0; MEMO];
-            judge_one(words, ix, setting, input, answer, work, &mut memo[0..MEMO])
-        }
-        Admission::Refused(f) => LabelAnswer::Refused(f),
-    }
+    let ix = admit(words, input, work.len())?;
+    let mut memo = [0; MEMO];
+    judge_one(words, ix, setting, input, answer, work, &mut memo[0..MEMO])
 }
 
 // Normalises one label into `answer`, and answers its length and its kind; both buffers are left as by the name call.
@@ -97,13 +88,13 @@ pub fn label(
     setting: u32,
     answer: &mut [u32],
     work: &mut [u32],
-) -> LabelAnswer
+) -> Result<AcceptedLabel, Refusal>
     ensures { LabelCalls setting words.now input.now answer.old answer.new work.old work.new result }
 {
     let judged = judge_input(setting, words, input, answer, work);
     let length = label_length(judged);
     if !finish(answer, work, length) {
-        return LabelAnswer::Refused(Refusal::BufferTooSmall);
+        return Err(Refusal::BufferTooSmall);
     }
     judged
 }

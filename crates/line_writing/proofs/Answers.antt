@@ -1,4 +1,6 @@
 -- The line for what the name call answered.
+use Rattle.std.specs.Prelude.{Result, Ok, Err}
+use Rattle.answers.specs.declared.AcceptedName.{AcceptedName}
 use Prim.Native.Nat.{ℕ, ◌≤◌}
 use mathlib.Core.Path.{◌≡◌, refl, ap}
 use mathlib.Core.Bool.{false}
@@ -8,8 +10,6 @@ use lib.Dec.{eqb}
 use Rattle.answers.specs.Values.{number_of, place_of, name_values}
 use Rattle.answers.specs.declared.Refusal.{Refusal}
 use Rattle.answers.specs.declared.Refusal.TheVariants.{LayoutFault, WorkAreaTooSmall, InputTooLong, NotScalar, Disallowed, NoTokens, WorkedTooLong, LowLine, Hyphens, Fenced, LeadingMark, NoGroup, NsmRun, Compound, Confusable, Restricted, BufferTooSmall}
-use Rattle.answers.specs.declared.NameAnswer.{NameAnswer}
-use Rattle.answers.specs.declared.NameAnswer.TheVariants.{Accepted, Refused}
 use Rattle.line_writing.specs.Writing.{ok_line, no_line, answer_line}
 use Rattle.line_writing.specs.Promise.{AnswerRoom}
 
@@ -33,16 +33,16 @@ numbered (Confusable l) = refl
 numbered (Restricted l) = refl
 numbered BufferTooSmall = refl
 
-module _ (answer : NameAnswer) (buffer : List ℕ) where
-  module _ (len n : ℕ) (e : answer ≡ Accepted len n) where
+module _ (answer : Result AcceptedName Refusal) (buffer : List ℕ) where
+  module _ (len n : ℕ) (e : answer ≡ Ok (record { length = len; labels = n })) where
     pub accepted_within : {out : List ℕ} → AnswerRoom (name_values answer) buffer out → len ≤ length buffer
-    accepted_within {out} h = rw (← ap (λ (a : NameAnswer). (name_values a).length) e) h.within
+    accepted_within {out} h = rw (← ap (λ (a : Result AcceptedName Refusal). (name_values a).length) e) h.within
 
     pub accepted_line : answer_line (name_values answer) buffer ≡ ok_line (take len buffer)
     unfolding answer_line
     accepted_line = rw e
 
-  pub refused_line : (r : Refusal) → answer ≡ Refused r → (number place : ℕ) → number ≡ number_of r → place ≡ place_of r
+  pub refused_line : (r : Refusal) → answer ≡ Err r → (number place : ℕ) → number ≡ number_of r → place ≡ place_of r
       → answer_line (name_values answer) buffer ≡ no_line number place
   unfolding answer_line
   refused_line r e number place f g = rw (e, numbered r, f, g)

@@ -5,16 +5,16 @@ ghost use Rattle.buffers.specs.Writes.{Writes};
 ghost use Rattle.line_writing.specs.Promise.{AnswerRoom};
 
 use crate::writing::{write_no, write_ok};
-use answers::{NameAnswer, number_of, place_of};
+use answers::{AcceptedName, Refusal, number_of, place_of};
 
 // The line for an answer of the name call, whose answer buffer is `buffer`.
-pub fn write_answer(answer: NameAnswer, buffer: &[u32], out: &mut [u8]) -> usize
+pub fn write_answer(answer: Result<AcceptedName, Refusal>, buffer: &[u32], out: &mut [u8]) -> usize
     requires { AnswerRoom (name_values answer) buffer.now out.old }
     ensures { Writes (answer_line (name_values answer) buffer.now) out.old out.new result }
 {
     match answer {
-        NameAnswer::Accepted { length, labels: _ } => write_ok(&buffer[..length], out),
-        NameAnswer::Refused(refusal) => {
+        Ok(accepted) => write_ok(&buffer[..accepted.length], out),
+        Err(refusal) => {
             write_no(number_of(refusal) as u64, place_of(refusal) as u64, out)
         }
     }

@@ -1,12 +1,13 @@
 -- Demand 3, first half, over two calls: the second is lent the first `length` words of the answer that the first left.
-use Rattle.std.specs.Prelude.{ℕ, ◌≤◌, ◌≡◌, refl, List, length, take}
+use Rattle.answers.specs.declared.Refusal.{Refusal}
+use Rattle.answers.specs.declared.AcceptedName.{AcceptedName}
+use Rattle.std.specs.Prelude.{ℕ, ◌≤◌, ◌≡◌, refl, List, length, take, Result}
 use Rattle.std.proofs.Common.{arith, sym, ap, ◌∙◌}
 use Rattle.std.proofs.Math.Option.{none}
 use Rattle.lists.specs.Filled.{filled, take-filled}
 use Rattle.limits.specs.Limits.{least_work}
 use Rattle.answers.specs.Verdict.{accepted}
 use Rattle.answers.specs.Values.{NameValues, name_values}
-use Rattle.answers.specs.declared.NameAnswer.{NameAnswer}
 use Rattle.ending.specs.Numbers.{Accepted}
 use Rattle.soundness.specs.Soundness.{soundness_of}
 use Rattle.name.specs.Label.{Label}
@@ -16,14 +17,14 @@ use Rattle.idempotence.specs.Idempotence.{Again, again}
 use Rattle.meaning.specs.Numbers.{name_zero}
 
 -- what an accepted call has left: the labels, and their answer in front of the buffer
-record Left (on : ℕ) (words name before after work : List ℕ) (r : NameAnswer) : Type 0 where
+record Left (on : ℕ) (words name before after work : List ℕ) (r : Result AcceptedName Refusal) : Type 0 where
   labels : List Label
   verdict : name_verdict on words name (length before) (length work) ≡ accepted labels
   long : (name_values r).length ≡ length (name_answer labels)
   front : take (name_values r).length after ≡ name_answer labels
   values : name_values r ≡ record { number = 0; place = 0; length = length (name_answer labels); labels = length (labels_of name) }
 
-left : (on : ℕ) (words name before after work work' : List ℕ) (r : NameAnswer) → NameCalls on words name before after work work' r
+left : (on : ℕ) (words name before after work work' : List ℕ) (r : Result AcceptedName Refusal) → NameCalls on words name before after work work' r
     → (name_values r).number ≡ 0
     → Left on words name before after work r
 unfolding name_call name_result
@@ -45,7 +46,7 @@ left on words name before after work work' r c zero =
 
 -- The second call answers the same values, and its buffer holds the same words and then zeros; both calls accept the same labels, kind for
 -- kind.
-pub record SameAgain (on : ℕ) (words name before after work : List ℕ) (r : NameAnswer) (before₂ after₂ work₂ : List ℕ) (s : NameAnswer)
+pub record SameAgain (on : ℕ) (words name before after work : List ℕ) (r : Result AcceptedName Refusal) (before₂ after₂ work₂ : List ℕ) (s : Result AcceptedName Refusal)
     : Type 0 where
   pub values : name_values s ≡ name_values r
   pub answer : after₂ ≡ filled (length before₂) (take (name_values r).length after)
@@ -55,9 +56,9 @@ pub record SameAgain (on : ℕ) (words name before after work : List ℕ) (r : N
 
 -- Any table that passes the check, any call that answered 0, and a second call with room for as many words and a work area that 2 lets
 -- pass.
-pub same_again : (on : ℕ) (words name before after work work' : List ℕ) (r : NameAnswer) → NameCalls on words name before after work work' r
+pub same_again : (on : ℕ) (words name before after work work' : List ℕ) (r : Result AcceptedName Refusal) → NameCalls on words name before after work work' r
     → soundness_of words ≡ none → (name_values r).number ≡ 0
-    → (before₂ after₂ work₂ work₂' : List ℕ) (s : NameAnswer)
+    → (before₂ after₂ work₂ work₂' : List ℕ) (s : Result AcceptedName Refusal)
     → NameCalls on words (take (name_values r).length after) before₂ after₂ work₂ work₂' s
     → (name_values r).length ≤ length before₂ → least_work ≤ length work₂
     → SameAgain on words name before after work r before₂ after₂ work₂ s

@@ -1,4 +1,6 @@
 -- The slots of a book one after another, and the ends of the call.
+use Rattle.std.specs.Prelude.{Result, Err}
+use Rattle.sections.specs.declared.Sections.{Sections}
 use Prim.Native.Nat.{ℕ, zero, suc, ◌+◌, ◌-◌, ◌*◌, ◌/◌, ◌≤◌, ◌<◌}
 use native.Mathlib.Numerals.{add-one}
 use native.Mathlib.Omega.{arith}
@@ -20,8 +22,6 @@ use Rattle.ending.specs.Finish.{Finishes}
 use Rattle.table.specs.Layout.{the_table}
 use Rattle.name.specs.Label.{admitted}
 use Rattle.name.specs.Admission.{AdmissionIs}
-use Rattle.name.specs.declared.admit.Admission.{Admission}
-use Rattle.name.specs.declared.admit.Admission.TheVariants as admission
 use Rattle.name.specs.Parts.{Put}
 use Rattle.buffers.proofs.Parts.{mid_tail}
 use Rattle.book_slots.specs.Book.{area_size, front_size, slot_count, slot_size, form_room, Slot, slot_of, slots_of, slots_in, name_of}
@@ -171,7 +171,7 @@ entries_few words work i (s ∷ slots) = go (slot_change words work s) (entries_
 pub opened-whole : (area : List ℕ) (o : Opening) → OpeningIs area o → o ≡ opening.Whole → opened area ≡ accepted (slots_in area)
 opened-whole area o h e = rw e at h
 
-pub not_admitted : (words : List ℕ) (work : ℕ) (r : Admission) → AdmissionIs words [] work r → (f : Refusal) → r ≡ admission.Refused f
+pub not_admitted : (words : List ℕ) (work : ℕ) (r : Result Sections Refusal) → AdmissionIs words [] work r → (f : Refusal) → r ≡ Err f
     → admitted words work [] ≡ refused (number_of f) (place_of f)
 not_admitted words work r h f e = rw e at h
 

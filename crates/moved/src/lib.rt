@@ -18,7 +18,7 @@ use book_slots::{FRONT, SLOT, SLOTS};
 use ending::finish;
 use memo::MEMO;
 use moved_list::{MovedAnswer, moved_words, put_entry};
-use name::admit::{Admission, admit};
+use name::admit::admit;
 use refiled::Change;
 use refiling::refile;
 use sections::Sections;
@@ -97,8 +97,8 @@ fn moved_judged(area: &[u32], words: &[u32], list: &mut [u32], work: &mut [u32])
         Opening::Whole => {
             let admitted = admit(words, &[], work.len());
             match admitted {
-                Admission::Refused(f) => MovedAnswer::Refused(f),
-                Admission::Found(ix) => {
+                Err(f) => MovedAnswer::Refused(f),
+                Ok(ix) => {
                     let len = list_area(area, words, ix, list, work);
                     MovedAnswer::Listed(len / 2)
                 }

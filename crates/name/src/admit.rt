@@ -9,50 +9,34 @@ use limits::{LEAST_WORK, MOST_INPUT};
 use scalar::is_scalar;
 use sections::{Layout, Sections};
 
-// Where a codepoint that is no scalar value stands.
-#[derive(Clone, Copy)]
-pub enum Place {
-    At(usize),
-    Nothing,
-}
-
-// What refusals 1 to 4 leave: a refusal, or the places of the table's sections.
-#[derive(Clone, Copy)]
-pub enum Admission {
-    Refused(Refusal),
-    Found(Sections),
-}
-
-// The first codepoint that is no scalar value.
-pub fn first_not_scalar(input: &[u32]) -> Place
+// Where the first codepoint stands that is no scalar value.
+pub fn first_not_scalar(input: &[u32]) -> Option<usize>
     ensures { place_is result ≡ place_with (λ c. not (is_scalar c)) 0 input.now }
 {
-    let mut i = 0;
-    while i < input.len() {
-        if !is_scalar(input[i]) {
-            return Place::At(i);
+    for (i, c) in input.iter().enumerate() {
+        if !is_scalar(*c) {
+            return Some(i);
         }
-        i += 1;
     }
-    Place::Nothing
+    None
 }
 
-// Refusals 1 to 4 of a name or a label, with a work area of `work` words.
-pub fn admit(words: &[u32], input: &[u32], work: usize) -> Admission
+// Refusals 1 to 4 of a name or a label, with a work area of `work` words; else the places of the table's sections.
+pub fn admit(words: &[u32], input: &[u32], work: usize) -> Result<Sections, Refusal>
     ensures { AdmissionIs words.now input.now work result }
 {
     match layout::layout(words) {
-        Layout::Fault => Admission::Refused(Refusal::LayoutFault),
+        Layout::Fault => Err(Refusal::LayoutFault),
         Layout::Found(ix) => {
             if work < LEAST_WORK {
-                return Admission::Refused(Refusal::WorkAreaTooSmall);
+                return Err(Refusal::WorkAreaTooSmall);
             }
             if MOST_INPUT < input.len() {
-                return Admission::Refused(Refusal::InputTooLong);
+                return Err(Refusal::InputTooLong);
             }
             match first_not_scalar(input) {
-                Place::At(i) => Admission::Refused(Refusal::NotScalar(i)),
-                Place::Nothing => Admission::Found(ix),
+                Some(i) => Err(Refusal::NotScalar(i)),
+                None => Ok(ix),
             }
         }
     }

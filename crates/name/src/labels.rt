@@ -8,14 +8,12 @@ pub fn label_end(input: &[u32], at: usize) -> usize
     requires { at ≤ length input.now }
     ensures { LabelEnds input.now at result }
 {
-    let mut i = at;
-    while i < input.len() {
+    for i in at..input.len() {
         if input[i] == 0x2E {
             return i;
         }
-        i += 1;
     }
-    i
+    input.len()
 }
 
 // Writes a label into the part of the answer behind the last stop, if it fits: `at` words stand before it, and a stop goes between unless it

@@ -1,4 +1,7 @@
 -- The three ways on from what the reader answers.
+use Rattle.std.specs.Prelude.{Result}
+use Rattle.answers.specs.declared.Refusal.{Refusal}
+use Rattle.answers.specs.declared.AcceptedName.{AcceptedName}
 use Prim.Native.Nat.{ℕ, ◌+◌, ◌<◌, ◌≤◌}
 use native.Mathlib.Omega.{arith}
 use mathlib.Core.Path.{◌≡◌, refl, sym, subst, ◌∙◌}
@@ -11,7 +14,6 @@ use borrow.Author.Tests.{lt-ltb}
 use Rattle.lists.specs.Lists.{on_some, place_with}
 use Rattle.limits.specs.Limits.{most_input, least_work}
 use Rattle.answers.specs.Verdict.{Verdict, accepted, refused}
-use Rattle.answers.specs.declared.NameAnswer.{NameAnswer}
 use Rattle.table.specs.Table.{Table}
 use Rattle.table.specs.Layout.{parse}
 use Rattle.scalar.specs.Scalar.{is_scalar}
@@ -81,7 +83,7 @@ module _ (bytes codepoints codepoints' : List ℕ) (found : ReadAnswer) (answere
   read-room n e = let g = was_given n e in omega (arith, g.fits, g.long)
 
   module _ (setting : ℕ) (words before after work work' : List ℕ) where
-    pub read_named : (n : ℕ) → found ≡ reading.Read n → (r : NameAnswer) → NameCalls setting words (take n codepoints') before after work work' r
+    pub read_named : (n : ℕ) → found ≡ reading.Read n → (r : Result AcceptedName Refusal) → NameCalls setting words (take n codepoints') before after work work' r
         → NameBytesCalls setting words bytes before after work work' (Name r)
     unfolding name_bytes_call
     read_named n e r h =
@@ -89,7 +91,7 @@ module _ (bytes codepoints codepoints' : List ℕ) (found : ReadAnswer) (answere
         rw (g.is, ← g.front) h
 
     -- more codepoints than the array has words
-    pub over_named : length codepoints ≡ most_input + 1 → found ≡ reading.TooLittleRoom → (r : NameAnswer)
+    pub over_named : length codepoints ≡ most_input + 1 → found ≡ reading.TooLittleRoom → (r : Result AcceptedName Refusal)
         → NameCalls setting words codepoints' before after work work' r → NameBytesCalls setting words bytes before after work work' (Name r)
     unfolding name_bytes_call
     over_named l e r h =

@@ -6,14 +6,14 @@ ghost use Rattle.limits.specs.Limits.{most_input};
 ghost use Rattle.name_bytes.specs.NameBytes.{NameBytesCalls};
 ghost use Rattle.name_bytes.specs.Wiping.{Wiped};
 
-use answers::NameAnswer;
+use answers::{AcceptedName, Refusal};
 use limits::MOST_INPUT;
 use utf8::ReadAnswer;
 
 // What the name call answers on what was read, or the byte index where the first sequence that is ill-formed starts.
 #[derive(Clone, Copy)]
 pub enum NameBytesAnswer {
-    Name(NameAnswer),
+    Name(Result<AcceptedName, Refusal>),
     IllFormed(usize),
 }
 

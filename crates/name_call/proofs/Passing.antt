@@ -1,4 +1,6 @@
 -- The labels of a name one after another: what is known when some have passed, and how it ends.
+use Rattle.std.specs.Prelude.{Result, Ok, Err}
+use Rattle.one_label.specs.declared.JudgedLabel.{JudgedLabel}
 use Prim.Native.Nat.{ℕ, suc, ◌+◌, ◌-◌, ◌*◌, ◌<◌, ◌≤◌}
 use native.Mathlib.Omega.{arith}
 use mathlib.Core.Path.{◌≡◌, refl, sym, ap, ◌∙◌}
@@ -17,10 +19,7 @@ use Rattle.answers.specs.Restriction.{barred}
 use Rattle.answers.specs.declared.Kind.{Kind}
 use Rattle.answers.specs.declared.Refusal.{Refusal}
 use Rattle.answers.specs.declared.Refusal.TheVariants.{Restricted}
-use Rattle.answers.specs.declared.NameAnswer.TheVariants as name
 use Rattle.table.specs.Table.{Table}
-use Rattle.one_label.specs.declared.Judgement.{Judgement}
-use Rattle.one_label.specs.declared.Judgement.TheVariants.{Accepted, Refused}
 use Rattle.name.specs.Label.{Label, stop, answer, label_verdict, label_by}
 use Rattle.name.specs.Permitted.{by_accepted, by_barred, by_refused}
 use Rattle.name.specs.Name.{labels_of, labels_verdict, name_answer}
@@ -102,7 +101,7 @@ module _ (g : ℕ) (t : Table) (input before w₀ : List ℕ) where
   pass_empty h = start 1 (parts_empty input h) (rw (parts_none input 1 (omega arith))) (omega arith)
 
   module _ (after w : List ℕ) (at done place len : ℕ) (l : Passed g t input before after w₀ w at done place len) where
-    pub pass_done : length input < at → NameJudged input (labels_verdict g t 0 0 0 (labels_of input)) before after w₀ w (name.Accepted len place)
+    pub pass_done : length input < at → NameJudged input (labels_verdict g t 0 0 0 (labels_of input)) before after w₀ w (Ok (record { length = len; labels = place }))
     unfolding labels_verdict
     pass_done h =
         let rest : parts_from input at ≡ [] = parts_none input at h in
@@ -114,8 +113,8 @@ module _ (g : ℕ) (t : Table) (input before w₀ : List ℕ) where
               (sym (l.parts ∙ rw rest (omega arith)));
         }
 
-    module _ (end : ℕ) (e : LabelEnds input at end) (w' : List ℕ) (r : Judgement) (j : Judges t at done place (label_at input at end) w w' r) where
-      pub pass_refused : (f : Refusal) → r ≡ Refused f → NameJudged input (labels_verdict g t 0 0 0 (labels_of input)) before after w₀ w' (name.Refused f)
+    module _ (end : ℕ) (e : LabelEnds input at end) (w' : List ℕ) (r : Result JudgedLabel Refusal) (j : Judges t at done place (label_at input at end) w w' r) where
+      pub pass_refused : (f : Refusal) → r ≡ Err f → NameJudged input (labels_verdict g t 0 0 0 (labels_of input)) before after w₀ w' (Err f)
       pass_refused f er =
           record {
             same = l.same;
@@ -128,11 +127,11 @@ module _ (g : ℕ) (t : Table) (input before w₀ : List ℕ) where
                 (judged_refused t at done place (label_at input at end) w w' r f er j))));
           }
 
-      pub pass_barred : (n : ℕ) (k : Kind) (worked : ℕ) → r ≡ Accepted n k worked → barred g k ≡ true
-          → NameJudged input (labels_verdict g t 0 0 0 (labels_of input)) before after w₀ w' (name.Refused (Restricted place))
-      pass_barred n k worked er b =
-          let a : Accepts (label_verdict t at done place (label_at input at end)) done w' n k worked =
-          judged_accepted t at done place (label_at input at end) w w' r n k worked er j in
+      pub pass_barred : (o : JudgedLabel) → r ≡ Ok o → barred g o.kind ≡ true
+          → NameJudged input (labels_verdict g t 0 0 0 (labels_of input)) before after w₀ w' (Err (Restricted place))
+      pass_barred o er b =
+          let a : Accepts (label_verdict t at done place (label_at input at end)) done w' o.length o.kind o.worked =
+          judged_accepted t at done place (label_at input at end) w w' r o er j in
           record {
             same = l.same;
             same-work = j.same ∙ l.same-work;
@@ -143,25 +142,25 @@ module _ (g : ℕ) (t : Table) (input before w₀ : List ℕ) where
                 (by_barred g t at done place (label_at input at end) a.label a.verdict (rw a.kind at b))));
           }
 
-      pub pass_more : (n : ℕ) (k : Kind) (worked : ℕ) → r ≡ Accepted n k worked → barred g k ≡ false → (after' : List ℕ) (len' : ℕ)
-          → Put after after' len (eqb place 0) (take n w') len' → Passed g t input before after' w₀ w' (end + 1) (done + (worked + 1)) (place + 1) len'
-      pass_more n k worked er b after' len' p =
-          let a : Accepts (label_verdict t at done place (label_at input at end)) done w' n k worked = judged_accepted t at done place (label_at input at end) w w' r n k worked er j in
+      pub pass_more : (o : JudgedLabel) → r ≡ Ok o → barred g o.kind ≡ false → (after' : List ℕ) (len' : ℕ)
+          → Put after after' len (eqb place 0) (take o.length w') len' → Passed g t input before after' w₀ w' (end + 1) (done + (o.worked + 1)) (place + 1) len'
+      pass_more o er b after' len' p =
+          let a : Accepts (label_verdict t at done place (label_at input at end)) done w' o.length o.kind o.worked = judged_accepted t at done place (label_at input at end) w w' r o er j in
           let x : Label = a.label in
           let xs : List Label = l.so_far in
           let size : length (label_at input at end) ≡ end - at = label-length input at end e in
-          let more : name_answer (xs ++ x ∷ []) ≡ name_answer xs ++ (between (eqb place 0) ++ take n w') =
+          let more : name_answer (xs ++ x ∷ []) ≡ name_answer xs ++ (between (eqb place 0) ++ take o.length w') =
           answer_more xs x ∙ ap (λ (b : Bool). name_answer xs ++ (between b ++ answer x)) (ap (λ (m : ℕ). eqb m 0) (sym l.counted))
           ∙ ap (λ (y : List ℕ). name_answer xs ++ (between (eqb place 0) ++ y)) (sym a.words) in
-          let count : length (take n w') ≡ n = ap length a.words ∙ sym a.count in
-          let total : length (name_answer (xs ++ x ∷ [])) ≡ length (name_answer xs) + length (between (eqb place 0) ++ take n w') =
-          ap length more ∙ length-append (name_answer xs) (between (eqb place 0) ++ take n w') in
+          let count : length (take o.length w') ≡ o.length = ap length a.words ∙ sym a.count in
+          let total : length (name_answer (xs ++ x ∷ [])) ≡ length (name_answer xs) + length (between (eqb place 0) ++ take o.length w') =
+          ap length more ∙ length-append (name_answer xs) (between (eqb place 0) ++ take o.length w') in
           let long : len' ≡ length (name_answer (xs ++ x ∷ [])) = omega (arith, p.ends, l.long, total) in
           record {
             so_far = xs ++ x ∷ [];
             verdict =
                 l.verdict ∙ rw (parts_next input at end e)
-                (labels_more g t at done place (label_at input at end) (parts_from input (end + 1)) xs x (end + 1) (done + (worked + 1)) (place + 1)
+                (labels_more g t at done place (label_at input at end) (parts_from input (end + 1)) xs x (end + 1) (done + (o.worked + 1)) (place + 1)
                 (by_accepted g t at done place (label_at input at end) x a.verdict (rw a.kind at b)) (omega (arith, size, e.from)) (omega (arith, a.long)) (omega arith));
             counted = rw length-append (omega (arith, l.counted));
             parts = l.parts ∙ rw (parts_next input at end e) (omega arith);
@@ -173,5 +172,5 @@ module _ (g : ℕ) (t : Table) (input before w₀ : List ℕ) where
             inside = omega (arith, e.to);
             few = omega (arith, l.few, e.from);
             spent = omega (arith, a.room);
-            small = omega (arith, l.small, p.ends, between_few (eqb place 0) (take n w'), count, a.few);
+            small = omega (arith, l.small, p.ends, between_few (eqb place 0) (take o.length w'), count, a.few);
           }

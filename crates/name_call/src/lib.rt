@@ -9,12 +9,12 @@ ghost use Rattle.memo.specs.Memo.{Memo};
 ghost use Rattle.name.specs.Name.{labels_of, labels_verdict, name_before15};
 ghost use Rattle.name.specs.Calls.{NameCalls, NameJudged};
 
-use answers::{NameAnswer, Refusal, is_barred, name_length};
+use answers::{AcceptedName, Refusal, is_barred, name_length};
 use ending::finish;
 use memo::MEMO;
-use name::admit::{Admission, admit};
+use name::admit::admit;
 use name::labels::{label_end, put_label};
-use one_label::{Judgement, judge_label};
+use one_label::judge_label;
 use quick_asked::ask;
 use sections::Sections;
 use unpaired::KNOWN_WORDS;
@@ -29,7 +29,7 @@ fn judge_labels(
     answer: &mut [u32],
     w: &mut [u32],
     memo: &mut [u32],
-) -> NameAnswer
+) -> Result<AcceptedName, Refusal>
     requires laid { Laid words.now ix }
     requires least_work_in_bounds { (least_work ≤ length w.old) × (length name.now ≤ most_input) }
     requires memo { Memo words.now memo.old }
@@ -57,28 +57,19 @@ fn judge_labels(
             &mut unpaired,
             w,
             memo,
-        );
-        match judged {
-            Judgement::Accepted {
-                length,
-                kind,
-                worked,
-            } => {
-                if is_barred(setting, kind) {
-                    return NameAnswer::Refused(Refusal::Restricted(place));
-                }
-                len = put_label(answer, len, place == 0, &w[..length]);
-                done += worked + 1;
-                place += 1;
-                at = end + 1;
-            }
-            Judgement::Refused(f) => return NameAnswer::Refused(f),
+        )?;
+        if is_barred(setting, judged.kind) {
+            return Err(Refusal::Restricted(place));
         }
+        len = put_label(answer, len, place == 0, &w[..judged.length]);
+        done += judged.worked + 1;
+        place += 1;
+        at = end + 1;
     }
-    NameAnswer::Accepted {
+    Ok(AcceptedName {
         length: len,
         labels: place,
-    }
+    })
 }
 
 // Judges a name as far as 14 and 17.
@@ -88,17 +79,12 @@ pub fn judge_name(
     input: &[u32],
     answer: &mut [u32],
     work: &mut [u32],
-) -> NameAnswer
+) -> Result<AcceptedName, Refusal>
     ensures { NameJudged input.now (name_before15 setting words.now input.now (length work.old)) answer.old answer.new work.old work.new result }
 {
-    let admitted = admit(words, input, work.len());
-    match admitted {
-        Admission::Found(ix) => {
-            let mut memo = [0; MEMO];
-            judge_labels(words, ix, setting, input, answer, work, &mut memo[0..MEMO])
-        }
-        Admission::Refused(f) => NameAnswer::Refused(f),
-    }
+    let ix = admit(words, input, work.len())?;
+    let mut memo = [0; MEMO];
+    judge_labels(words, ix, setting, input, answer, work, &mut memo[0..MEMO])
 }
 
 // Normalises a name into `answer`, and answers its length and the number of its labels. The words behind the answer and the work area
@@ -109,13 +95,13 @@ pub fn name(
     setting: u32,
     answer: &mut [u32],
     work: &mut [u32],
-) -> NameAnswer
+) -> Result<AcceptedName, Refusal>
     ensures { NameCalls setting words.now input.now answer.old answer.new work.old work.new result }
 {
     let judged = judge_name(setting, words, input, answer, work);
     let length = name_length(judged);
     if !finish(answer, work, length) {
-        return NameAnswer::Refused(Refusal::BufferTooSmall);
+        return Err(Refusal::BufferTooSmall);
     }
     judged
 }

@@ -1,4 +1,6 @@
 -- The ways on from what the name call answers.
+use Rattle.std.specs.Prelude.{Result, Ok, Err}
+use Rattle.answers.specs.declared.AcceptedName.{AcceptedName}
 use Prim.Native.Nat.{ℕ, ◌≤◌}
 use native.Mathlib.Omega.{arith}
 use mathlib.Core.Path.{◌≡◌, refl, sym, ap, ◌∙◌, subst, subst⁻¹}
@@ -8,7 +10,6 @@ use lib.ListN.{length, take, replicate}
 use Rattle.lists.specs.Filled.{take-filled}
 use Rattle.answers.specs.Verdict.{Verdict, accepted, refused, next}
 use Rattle.answers.specs.Values.{NameValues, name_values}
-use Rattle.answers.specs.declared.NameAnswer.{NameAnswer}
 use Rattle.answers.specs.declared.Refusal.{Refusal}
 use Rattle.answers.specs.declared.Refusal.TheVariants.{NotScalar}
 use Rattle.answers.proofs.Numbers.{some_number}
@@ -26,8 +27,7 @@ use Rattle.namehash.specs.Namehash.{then4, node_of, namehash_call}
 use Rattle.namehash.specs.Promise.{NamehashCalls}
 use types.Run.{OneOf}
 use denote.Enum.Declared.{tag_of}
-use Rattle.answers.specs.declared.NameAnswer.TheVariants as answer
-use Rattle.answers.specs.contracts.NameAnswer as nameAnswers
+use Rattle.core.specs.contracts.result.Result as nameAnswers
 use Rattle.utf8.specs.declared.WriteAnswer.TheVariants as writing
 use Rattle.utf8.specs.contracts.WriteAnswer as writeAnswers
 
@@ -38,50 +38,50 @@ record Hashes (v : Verdict (List Label)) (name : List ℕ) (room work : ℕ) (to
 
 module _ (name : List ℕ) (room work : ℕ) (mid mid-work : List ℕ) where
   -- the name call refused
-  refused_hash : (v : Verdict (List Label)) (f : Refusal) (hash : List ℕ) → Ends (name_result name room work v) (name_values (answer.Refused f)) mid mid-work
-      → hash ≡ replicate 32 0 → Hashes v name room work (name_values (answer.Refused f)) mid mid-work hash
+  refused_hash : (v : Verdict (List Label)) (f : Refusal) (hash : List ℕ) → Ends (name_result name room work v) (name_values (Err f)) mid mid-work
+      → hash ≡ replicate 32 0 → Hashes v name room work (name_values (Err f)) mid mid-work hash
   unfolding name_result
   refused_hash (accepted ls) f hash h e = absurd (omega (arith, some_number f, ap (λ (x : NameValues). x.number) h.values))
   refused_hash (refused n p) f hash h e = record { ends = h; is = e }
 
   module _ (len n : ℕ) where
     -- it accepted: the answer stands in front
-    front : (ls : List Label) → Ends (name_result name room work (accepted ls)) (name_values (answer.Accepted len n)) mid mid-work
+    front : (ls : List Label) → Ends (name_result name room work (accepted ls)) (name_values (Ok (record { length = len; labels = n }))) mid mid-work
         → take len mid ≡ name_answer ls
     unfolding name_result
     front ls h =
         let long : len ≡ length (name_answer ls) = ap (λ (x : NameValues). x.length) h.values in
         rw (long, h.answer) (take-filled room (name_answer ls))
 
-    none : (m p : ℕ) → Ends (name_result name room work (refused m p)) (name_values (answer.Accepted len n)) mid mid-work → take len mid ≡ []
+    none : (m p : ℕ) → Ends (name_result name room work (refused m p)) (name_values (Ok (record { length = len; labels = n }))) mid mid-work → take len mid ≡ []
     unfolding name_result
     none m p h = ap (λ (k : ℕ). take k mid) (ap (λ (x : NameValues). x.length) h.values)
 
     -- the writer takes the answer
     written_hash : (v : Verdict (List Label)) (b hash : List ℕ)
-        → Ends (name_result name room work v) (name_values (answer.Accepted len n)) mid mid-work
+        → Ends (name_result name room work v) (name_values (Ok (record { length = len; labels = n }))) mid mid-work
         → write (take len mid) ≡ accepted b → hash ≡ node (labels_of (take len mid))
-        → Hashes v name room work (name_values (answer.Accepted len n)) mid mid-work hash
+        → Hashes v name room work (name_values (Ok (record { length = len; labels = n }))) mid mid-work hash
     unfolding labels_of node
     written_hash (accepted ls) b hash h e f =
         let t : then4 (accepted ls) ≡ accepted ls = ap (λ (x : Verdict (List ℕ)). next x (λ bytes. accepted ls)) (sym (ap write (front ls h)) ∙ e) in
         record {
-          ends = subst⁻¹ (λ (x : Verdict (List Label)). Ends (name_result name room work x) (name_values (answer.Accepted len n)) mid mid-work) t h;
+          ends = subst⁻¹ (λ (x : Verdict (List Label)). Ends (name_result name room work x) (name_values (Ok (record { length = len; labels = n }))) mid mid-work) t h;
           is = f ∙ ap (λ (s : List ℕ). node (labels_of s)) (front ls h) ∙ sym (ap node_of t);
         }
     written_hash (refused m p) b hash h e f = record { ends = h; is = f ∙ ap (λ (s : List ℕ). node (labels_of s)) (none m p h) }
 
     -- the writer refuses it: both buffers are zeros
     unwritten_hash : (v : Verdict (List Label)) (at : ℕ) (after hash : List ℕ) → length mid ≡ room
-        → Ends (name_result name room work v) (name_values (answer.Accepted len n)) mid mid-work
+        → Ends (name_result name room work v) (name_values (Ok (record { length = len; labels = n }))) mid mid-work
         → write (take len mid) ≡ refused 4 at → after ≡ replicate (length mid) 0 → hash ≡ replicate 32 0
-        → Hashes v name room work (name_values (answer.Refused (NotScalar at))) after mid-work hash
+        → Hashes v name room work (name_values (Err (NotScalar at))) after mid-work hash
     unfolding name_result write
     unwritten_hash (accepted ls) at after hash same h e z f =
         let t : then4 (accepted ls) ≡ refused 4 at = ap (λ (x : Verdict (List ℕ)). next x (λ bytes. accepted ls)) (sym (ap write (front ls h)) ∙ e) in
         record {
           ends =
-              subst⁻¹ (λ (x : Verdict (List Label)). Ends (name_result name room work x) (name_values (answer.Refused (NotScalar at))) after mid-work) t
+              subst⁻¹ (λ (x : Verdict (List Label)). Ends (name_result name room work x) (name_values (Err (NotScalar at))) after mid-work) t
               (record { values = refl; answer = z ∙ ap (λ (k : ℕ). replicate k 0) same; cleared = h.cleared });
           is = f ∙ sym (ap node_of t);
         }
@@ -90,21 +90,21 @@ module _ (name : List ℕ) (room work : ℕ) (mid mid-work : List ℕ) where
         absurd (let y : ◌≡◌ {A = ℕ} 0 1 = cc in omega arith)
 
 -- the same of the call
-module _ (setting : ℕ) (words input before mid work mid-work : List ℕ) (found : NameAnswer)
+module _ (setting : ℕ) (words input before mid work mid-work : List ℕ) (found : Result AcceptedName Refusal)
     (answered : NameCalls setting words input before mid work mid-work found) where
   v : Verdict (List Label)
   v = name_verdict setting words input (length before) (length work)
 
-  told_as : (r : NameAnswer) → found ≡ r → Ends (name_result input (length before) (length work) v) (name_values r) mid mid-work
+  told_as : (r : Result AcceptedName Refusal) → found ≡ r → Ends (name_result input (length before) (length work) v) (name_values r) mid mid-work
   unfolding name_call v
-  told_as r e = subst (λ (x : NameAnswer). NameCalls setting words input before mid work mid-work x) e answered
+  told_as r e = subst (λ (x : Result AcceptedName Refusal). NameCalls setting words input before mid work mid-work x) e answered
 
   -- there is room for as much as is accepted
-  pub name_room : (len n : ℕ) → found ≡ answer.Accepted len n → length mid ≡ length before → len ≤ length mid
+  pub name_room : (len n : ℕ) → found ≡ Ok (record { length = len; labels = n }) → length mid ≡ length before → len ≤ length mid
   unfolding name_verdict name_result v
   name_room len n e same =
       let fits = result_fits (name_answering input) (length before) (length work) (name_before15 setting words input (length work)) in
-      omega (arith, fits, ap (λ (x : NameValues). x.length) (told_as (answer.Accepted len n) e).values)
+      omega (arith, fits, ap (λ (x : NameValues). x.length) (told_as (Ok (record { length = len; labels = n })) e).values)
 
   -- the name call refused
   pub name_refused : (g : Digest) → OneOf (1 ∷ []) (tag_of nameAnswers.the_type found) → g.bytes ≡ replicate 32 0
@@ -112,29 +112,29 @@ module _ (setting : ℕ) (words input before mid work mid-work : List ℕ) (foun
   unfolding namehash_call v
   name_refused g t z = go found refl t
     where
-      go : (r : NameAnswer) → found ≡ r → OneOf (1 ∷ []) (tag_of nameAnswers.the_type r)
+      go : (r : Result AcceptedName Refusal) → found ≡ r → OneOf (1 ∷ []) (tag_of nameAnswers.the_type r)
           → NamehashCalls setting words input before mid work mid-work (record { answer = found; node = g })
-      go (answer.Accepted len n) e u = absurd (omega (arith, u))
-      go (answer.Refused f) e u =
-          let h = refused_hash input (length before) (length work) mid mid-work v f g.bytes (told_as (answer.Refused f) e) z in
+      go (Ok a) e u = absurd (omega (arith, u))
+      go (Err f) e u =
+          let h = refused_hash input (length before) (length work) mid mid-work v f g.bytes (told_as (Err f) e) z in
           record { ends = rw e h.ends; node = h.is }
 
-  module _ (len n : ℕ) (e : found ≡ answer.Accepted len n) where
+  module _ (len n : ℕ) (e : found ≡ Ok (record { length = len; labels = n })) where
     -- it accepted, and the writer takes the answer
     pub name_written : (g : Digest) (b : List ℕ) → write (take len mid) ≡ accepted b → g.bytes ≡ node (labels_of (take len mid))
-        → NamehashCalls setting words input before mid work mid-work (record { answer = answer.Accepted len n; node = g })
+        → NamehashCalls setting words input before mid work mid-work (record { answer = Ok (record { length = len; labels = n }); node = g })
     unfolding namehash_call v
     name_written g b q z =
-        let h = written_hash input (length before) (length work) mid mid-work len n v b g.bytes (told_as (answer.Accepted len n) e) q z in
+        let h = written_hash input (length before) (length work) mid mid-work len n v b g.bytes (told_as (Ok (record { length = len; labels = n })) e) q z in
         record { ends = h.ends; node = h.is }
 
     -- it accepted, and the writer refuses the answer
     pub name_unwritten : (g : Digest) (at : ℕ) (after : List ℕ) → length mid ≡ length before → write (take len mid) ≡ refused 4 at
         → after ≡ replicate (length mid) 0 → g.bytes ≡ replicate 32 0
-        → NamehashCalls setting words input before after work mid-work (record { answer = answer.Refused (NotScalar at); node = g })
+        → NamehashCalls setting words input before after work mid-work (record { answer = Err (NotScalar at); node = g })
     unfolding namehash_call v
     name_unwritten g at after same q y z =
-        let h = unwritten_hash input (length before) (length work) mid mid-work len n v at after g.bytes same (told_as (answer.Accepted len n) e) q y z in
+        let h = unwritten_hash input (length before) (length work) mid mid-work len n v at after g.bytes same (told_as (Ok (record { length = len; labels = n })) e) q y z in
         record { ends = h.ends; node = h.is }
 
 -- What the writer answers where it is lent no room: 4, or else it takes the text.

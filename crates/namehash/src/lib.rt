@@ -3,7 +3,7 @@
 
 ghost use Rattle.namehash.specs.Promise.{NamehashCalls};
 
-use answers::{NameAnswer, Refusal};
+use answers::{AcceptedName, Refusal};
 use keccak_bytes::Digest;
 use name_node::{no_node, node_of};
 use utf8::WriteAnswer;
@@ -11,7 +11,7 @@ use utf8::WriteAnswer;
 // What the name call answers, and the hash of that answer: 32 zero bytes beside a refusal.
 #[derive(Clone, Copy)]
 pub struct HashedName {
-    pub answer: NameAnswer,
+    pub answer: Result<AcceptedName, Refusal>,
     pub node: Digest,
 }
 
@@ -26,7 +26,7 @@ pub fn namehash(
     ensures { NamehashCalls setting words.now input.now answer.old answer.new work.old work.new result }
 {
     let found = name_call::name(input, words, setting, answer, work);
-    let NameAnswer::Accepted { length, labels } = found else {
+    let Ok(AcceptedName { length, labels }) = found else {
         let none = no_node();
         return HashedName {
             answer: found,
@@ -37,7 +37,7 @@ pub fn namehash(
     let written = utf8::write(&answer[..length], &mut room);
     if let WriteAnswer::NotScalar(at) = written {
         buffers::clear(answer);
-        let refused = NameAnswer::Refused(Refusal::NotScalar(at));
+        let refused = Err(Refusal::NotScalar(at));
         let none = no_node();
         return HashedName {
             answer: refused,

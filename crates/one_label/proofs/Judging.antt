@@ -1,4 +1,6 @@
 -- One label: where its refusal 5 stands, and what is judged of its tokens.
+use Rattle.one_label.specs.declared.JudgedLabel.{JudgedLabel}
+use Rattle.std.specs.Prelude.{Result, Ok, Err}
 use Prim.Native.Nat.{ℕ, zero, suc, pred, ◌+◌, ◌-◌, ◌<◌, ◌≤◌}
 use native.Mathlib.Omega.{arith}
 use mathlib.Core.Path.{◌≡◌, refl, sym, ap, ◌∙◌}
@@ -25,8 +27,6 @@ use Rattle.scanning.specs.Scanning.{ScanIs, Scans}
 use Rattle.scanning.specs.declared.Tally.{Tally}
 use Rattle.scanning.specs.declared.Scanned.{Scanned}
 use Rattle.scanning.specs.declared.Scanned.TheVariants as scanned
-use Rattle.label.specs.declared.Judged.{Judged}
-use Rattle.label.specs.declared.Judged.TheVariants as verdict
 use Rattle.spelling.specs.CellTags.{codes_in, tags_in}
 use Rattle.label.specs.Judging.{verdict_of, judge_at, CellsJudged}
 use Rattle.label.specs.Judge.{judge}
@@ -38,8 +38,6 @@ use Rattle.kept_scan.specs.declared.Kept.TheVariants as kept
 use Rattle.kept_scan.specs.Keeping.{KeptIs, KeptScans}
 use Rattle.one_label.specs.declared.Standing.{Standing}
 use Rattle.one_label.specs.declared.Standing.TheVariants.{Decomposed, Normal}
-use Rattle.one_label.specs.declared.Judgement.{Judgement}
-use Rattle.one_label.specs.declared.Judgement.TheVariants.{Accepted, Refused}
 use Rattle.name.specs.Label.{judged, label_verdict}
 use Rattle.one_label.specs.Judged.{StandingFits, Normalised, Counted, Judges, TokensJudged, QuickTokens, QuickIs, QuickScans}
 
@@ -95,12 +93,12 @@ module _ (t : Table) (start done place : ℕ) (l : List ℕ) where
         let is : ScanIs t l w' (scanned.Disallowed i) = rw e at s.is in
         omega (arith, disallowed_inside t 0 0 0 l i refl is)
 
-    pub scan_refused : (i : ℕ) → r ≡ scanned.Disallowed i → Judges t start done place l w w' (Refused (Disallowed (start + i)))
+    pub scan_refused : (i : ℕ) → r ≡ scanned.Disallowed i → Judges t start done place l w w' (Err (Disallowed (start + i)))
     scan_refused i e =
         let is : ScanIs t l w' (scanned.Disallowed i) = rw e at s.is in
         record { same = s.same; is = label_disallowed i is }
 
-    pub scan_judged : (k : Tally) → r ≡ scanned.Tokens k → (w'' : List ℕ) (a : Judgement) → TokensJudged t done place k Decomposed w' w'' a → Judges t start done place l w w'' a
+    pub scan_judged : (k : Tally) → r ≡ scanned.Tokens k → (w'' : List ℕ) (a : Result JudgedLabel Refusal) → TokensJudged t done place k Decomposed w' w'' a → Judges t start done place l w w'' a
     scan_judged k e w'' a j =
         let is : ScanIs t l w' (scanned.Tokens k) = rw e at s.is in
         let c = is.1 in
@@ -138,7 +136,7 @@ module _ (t : Table) (start done place : ℕ) (l : List ℕ) where
       pub quick_fits : (n : ℕ) (k : Tally) → r ≡ kept.Tokens n k → n ≤ most_worked
       quick_fits n k e = (tokens_of_lem n k e).few
 
-      pub quick_judged : (n : ℕ) (k : Tally) → r ≡ kept.Tokens n k → (w'' : List ℕ) (a : Judgement) → TokensJudged t done place k (Normal n) w' w'' a → Judges t start done place l w w'' a
+      pub quick_judged : (n : ℕ) (k : Tally) → r ≡ kept.Tokens n k → (w'' : List ℕ) (a : Result JudgedLabel Refusal) → TokensJudged t done place k (Normal n) w' w'' a → Judges t start done place l w w'' a
       quick_judged n k e w'' a j =
           let q = tokens_of_lem n k e in
           record {
@@ -146,7 +144,7 @@ module _ (t : Table) (start done place : ℕ) (l : List ℕ) where
             is = rw (label_tokens q.allowed) (j.is (tokens_of (steps t l)) (tokens_parted (steps t l)) q.counted);
           }
 
-      pub quick_left : (w'' : List ℕ) (a : Judgement) → Judges t start done place l w' w'' a → Judges t start done place l w w'' a
+      pub quick_left : (w'' : List ℕ) (a : Result JudgedLabel Refusal) → Judges t start done place l w' w'' a → Judges t start done place l w w'' a
       quick_left w'' a j = record { same = j.same ∙ s.same; is = j.is }
 
 -- the tokens in normal form, which they are or are put into
@@ -169,7 +167,7 @@ some_tokens (x ∷ ts) e = refl
 
 module _ (t : Table) (done place : ℕ) (k : Tally) (s : Standing) (w : List ℕ) where
   -- 6
-  pub tokens_none : k.emoji ≡ false → k.text ≡ false → TokensJudged t done place k s w w (Refused (NoTokens place))
+  pub tokens_none : k.emoji ≡ false → k.text ≡ false → TokensJudged t done place k s w w (Err (NoTokens place))
   unfolding judged
   tokens_none e f =
       record { same = refl; is = λ ts p a. rw (no_tokens ts (sym a.emoji ∙ e) (sym a.text ∙ f)) }
@@ -179,18 +177,18 @@ module _ (t : Table) (done place : ℕ) (k : Tally) (s : Standing) (w : List ℕ
     some_here ts a = some_tokens ts (⊎_elim (λ e. inl (sym a.emoji ∙ e)) (λ e. inr (sym a.text ∙ e)) here)
 
     -- 7, known by the tally alone or by the sum
-    over : ((ts : List Token) → Counted t ts w k s → most_worked < done + worked t ts) → TokensJudged t done place k s w w (Refused (WorkedTooLong place))
+    over : ((ts : List Token) → Counted t ts w k s → most_worked < done + worked t ts) → TokensJudged t done place k s w w (Err (WorkedTooLong place))
     unfolding judged
     over h = record { same = refl; is = λ ts p a. rw (some_here ts a, lt-ltb most_worked (done + worked t ts) (h ts a)) }
 
-    pub tokens_over : most_worked < k.worked → TokensJudged t done place k s w w (Refused (WorkedTooLong place))
+    pub tokens_over : most_worked < k.worked → TokensJudged t done place k s w w (Err (WorkedTooLong place))
     tokens_over h = over (λ ts a. omega (arith, a.over h))
 
-    pub tokens_long : k.worked ≤ most_worked → most_worked < done + k.worked → TokensJudged t done place k s w w (Refused (WorkedTooLong place))
+    pub tokens_long : k.worked ≤ most_worked → most_worked < done + k.worked → TokensJudged t done place k s w w (Err (WorkedTooLong place))
     tokens_long few h = over (λ ts a. omega (arith, a.worked few))
 
     -- 8 to 14 and 16, on the tokens in normal form
-    module _ (h : done + k.worked ≤ most_worked) (v x : List ℕ) (n : ℕ) (m : Normalised t s k.worked w v n) (r : Judged)
+    module _ (h : done + k.worked ≤ most_worked) (v x : List ℕ) (n : ℕ) (m : Normalised t s k.worked w v n) (r : Result Kind Refusal)
         (j : CellsJudged (judge_at t place (codes_in v n) (tags_in v n) k.emoji k.text) v x r) where
       cells : (ts : List Token) → Counted t ts w k s → Cells (normal t ts) v n
       cells ts a = m.cells ts (a.cells (omega arith))
@@ -211,10 +209,10 @@ module _ (t : Table) (done place : ℕ) (k : Tally) (s : Standing) (w : List ℕ
       same_size : length x ≡ length w
       same_size = j.same ∙ m.same
 
-      pub tokens_refused : (f : Refusal) → r ≡ verdict.Refused f → TokensJudged t done place k s w x (Refused f)
+      pub tokens_refused : (f : Refusal) → r ≡ Err f → TokensJudged t done place k s w x (Err f)
       tokens_refused f e = record { same = same_size; is = λ ts p a. judged_is ts p a ∙ rw e }
 
-      pub tokens_accepted : (kind : Kind) → r ≡ verdict.Accepted kind → TokensJudged t done place k s w x (Accepted n kind k.worked)
+      pub tokens_accepted : (kind : Kind) → r ≡ Ok kind → TokensJudged t done place k s w x (Ok (record { length = n; kind = kind; worked = k.worked }))
       tokens_accepted kind e =
           record {
             same = same_size;

@@ -1,5 +1,7 @@
 -- What the code answers for one label, refusals 5 to 14 and 16.
-use Rattle.std.specs.Prelude.{ℕ, ◌+◌, ◌≤◌, ◌<◌, ◌≡◌, false, not, List, length, take}
+use Rattle.answers.specs.declared.Refusal.{Refusal}
+use Rattle.one_label.specs.declared.JudgedLabel.{JudgedLabel}
+use Rattle.std.specs.Prelude.{ℕ, ◌+◌, ◌≤◌, ◌<◌, ◌≡◌, false, not, List, length, take, Result, Ok, Err}
 use Rattle.std.proofs.Math.Option.{none}
 use Rattle.lists.specs.Lists.{any}
 use Rattle.limits.specs.Limits.{most_worked}
@@ -15,8 +17,6 @@ use Rattle.kept_scan.specs.declared.Kept.{Kept}
 use Rattle.kept_scan.specs.declared.Kept.TheVariants.{No, Tokens}
 use Rattle.one_label.specs.declared.Standing.{Standing}
 use Rattle.one_label.specs.declared.Standing.TheVariants.{Decomposed, Normal}
-use Rattle.one_label.specs.declared.Judgement.{Judgement}
-use Rattle.one_label.specs.declared.Judgement.TheVariants.{Accepted, Refused}
 use Rattle.name.specs.Label.{Label, answer, judged, label_verdict}
 
 -- A label whose verdict is v is accepted: its answer, n codepoints, stands in front in the work area; `done` is the worked length before it.
@@ -30,12 +30,12 @@ pub record Accepts (v : Verdict Label) (done : ℕ) (w : List ℕ) (n : ℕ) (k 
   pub long : worked ≡ label.worked
   pub room : done + worked ≤ most_worked
 
-abbrev pub JudgementIs : Verdict Label → ℕ → List ℕ → Judgement → Type 0
-JudgementIs v done w (Accepted n k worked) = Accepts v done w n k worked
-JudgementIs v done w (Refused f) = v ≡ refused (number_of f) (place_of f)
+abbrev pub JudgementIs : Verdict Label → ℕ → List ℕ → Result JudgedLabel Refusal → Type 0
+JudgementIs v done w (Ok j) = Accepts v done w j.length j.kind j.worked
+JudgementIs v done w (Err f) = v ≡ refused (number_of f) (place_of f)
 
 -- what is answered for the label l that starts at `start` and has the number `place`, where `done` is the worked length before it
-pub record Judges (t : Table) (start done place : ℕ) (l w w' : List ℕ) (r : Judgement) : Type 0 where
+pub record Judges (t : Table) (start done place : ℕ) (l w w' : List ℕ) (r : Result JudgedLabel Refusal) : Type 0 where
   pub same : length w' ≡ length w
   pub is : JudgementIs (label_verdict t start done place l) done w' r
 
@@ -63,7 +63,7 @@ pub record Counted (t : Table) (ts : List Token) (w : List ℕ) (k : Tally) (s :
   pub cells : k.worked ≤ most_worked → StandsAs t ts w k.worked s
 
 -- what is answered for the tokens of a label, which a scan has counted and laid down; without emoji there is at most one
-pub record TokensJudged (t : Table) (done place : ℕ) (k : Tally) (s : Standing) (w w' : List ℕ) (r : Judgement) : Type 0 where
+pub record TokensJudged (t : Table) (done place : ℕ) (k : Tally) (s : Standing) (w w' : List ℕ) (r : Result JudgedLabel Refusal) : Type 0 where
   pub same : length w' ≡ length w
   pub is : (ts : List Token) → (any is_emoji ts ≡ false → length ts ≤ 1) → Counted t ts w k s → JudgementIs (judged t done place ts) done w' r
 

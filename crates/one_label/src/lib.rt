@@ -12,7 +12,6 @@ ghost use Rattle.one_label.specs.Judged.{StandingFits, Normalised, Judges, Token
 use answers::{Kind, Refusal};
 use bit_sets::has;
 use kept_scan::{Kept, scan_kept};
-use label::Judged;
 use label::judging::judge;
 use limits::MOST_WORKED;
 use normal_cells::normalise;
@@ -20,15 +19,12 @@ use scanning::{Scanned, Tally, scan};
 use sections::Sections;
 use unpaired::QUICK_PLACE;
 
-// What is answered for one label: the length of its answer, its kind and its worked length, or a refusal.
+// What is answered for a label that is not refused: the length of its answer, its kind and its worked length.
 #[derive(Clone, Copy)]
-pub enum Judgement {
-    Accepted {
-        length: usize,
-        kind: Kind,
-        worked: usize,
-    },
-    Refused(Refusal),
+pub struct JudgedLabel {
+    pub length: usize,
+    pub kind: Kind,
+    pub worked: usize,
 }
 
 // How the tokens of a label stand in the work area: decomposed, or in normal form, so many codepoints.
@@ -70,7 +66,7 @@ fn judge_tokens(
     unpaired: &mut [u32],
     w: &mut [u32],
     memo: &mut [u32],
-) -> Judgement
+) -> Result<JudgedLabel, Refusal>
     requires laid { Laid words.now ix }
     requires unpaired { Unpaired (the_table words.now) unpaired.old }
     requires least_work_in_bounds { (least_work ≤ length w.old) × (done ≤ most_worked + 1) × StandingFits standing }
@@ -81,25 +77,22 @@ fn judge_tokens(
 {
     if !tally.emoji {
         if !tally.text {
-            return Judgement::Refused(Refusal::NoTokens(place));
+            return Err(Refusal::NoTokens(place));
         }
     }
     if tally.worked > MOST_WORKED {
-        return Judgement::Refused(Refusal::WorkedTooLong(place));
+        return Err(Refusal::WorkedTooLong(place));
     }
     if done + tally.worked > MOST_WORKED {
-        return Judgement::Refused(Refusal::WorkedTooLong(place));
+        return Err(Refusal::WorkedTooLong(place));
     }
-    let n = normalised(words, ix, standing, tally.worked, unpaired, w);
-    let judged = judge(words, ix, w, n, tally.emoji, tally.text, place, memo);
-    match judged {
-        Judged::Accepted(kind) => Judgement::Accepted {
-            length: n,
-            kind,
-            worked: tally.worked,
-        },
-        Judged::Refused(f) => Judgement::Refused(f),
-    }
+    let length = normalised(words, ix, standing, tally.worked, unpaired, w);
+    let kind = judge(words, ix, w, length, tally.emoji, tally.text, place, memo)?;
+    Ok(JudgedLabel {
+        length,
+        kind,
+        worked: tally.worked,
+    })
 }
 
 // Judges the label by the scan that decomposes its text.
@@ -113,7 +106,7 @@ fn judge_scanned(
     unpaired: &mut [u32],
     w: &mut [u32],
     memo: &mut [u32],
-) -> Judgement
+) -> Result<JudgedLabel, Refusal>
     requires laid { Laid words.now ix }
     requires unpaired { Unpaired (the_table words.now) unpaired.old }
     requires least_work_in_bounds { (least_work ≤ length w.old) × (length label.now ≤ most_input) × (start ≤ most_input) × (done ≤ most_worked + 1) }
@@ -124,7 +117,7 @@ fn judge_scanned(
 {
     let scanned = scan(words, ix, label, w);
     match scanned {
-        Scanned::Disallowed(i) => Judgement::Refused(Refusal::Disallowed(start + i)),
+        Scanned::Disallowed(i) => Err(Refusal::Disallowed(start + i)),
         Scanned::Tokens(tally) => judge_tokens(
             words,
             ix,
@@ -165,7 +158,7 @@ pub fn judge_label(
     unpaired: &mut [u32],
     w: &mut [u32],
     memo: &mut [u32],
-) -> Judgement
+) -> Result<JudgedLabel, Refusal>
     requires laid { Laid words.now ix }
     requires unpaired { Unpaired (the_table words.now) unpaired.old }
     requires least_work_in_bounds { (least_work ≤ length w.old) × (length label.now ≤ most_input) × (start ≤ most_input) × (done ≤ most_worked + 1) }

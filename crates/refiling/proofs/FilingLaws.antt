@@ -1,4 +1,6 @@
 -- The labels of a filed name one after another, and what they come to.
+use Rattle.std.specs.Prelude.{Result, Ok, Err}
+use Rattle.one_label.specs.declared.JudgedLabel.{JudgedLabel}
 use Prim.Native.Nat.{ℕ, suc, ◌+◌, ◌-◌, ◌*◌, ◌≤◌, ◌<◌}
 use native.Mathlib.Omega.{arith}
 use mathlib.Core.Path.{◌≡◌, refl, sym, ap, ◌∙◌}
@@ -20,8 +22,6 @@ use Rattle.sections.specs.Laid.{Laid}
 use Rattle.table.specs.Layout.{the_table}
 use Rattle.sections.specs.declared.Sections.{Sections}
 use Rattle.scalar.specs.Scalar.{is_scalar}
-use Rattle.one_label.specs.declared.Judgement.{Judgement}
-use Rattle.one_label.specs.declared.Judgement.TheVariants as judgement
 use Rattle.name.specs.Label.{Label, stop, answer, admitted, label_verdict, label_by}
 use Rattle.name.specs.Permitted.{by_off}
 use Rattle.name.specs.Name.{labels_of, labels_verdict, name_answer, name_before15}
@@ -73,17 +73,17 @@ module _ (t : Table) (name : List ℕ) where
     unfolding filing
     go_end h = sym (g.left ∙ rw (parts_none name at h))
 
-    module _ (end : ℕ) (e : LabelEnds name at end) (w w' : List ℕ) (r : Judgement) (j : Judges t at done place (label_at name at end) w w' r) where
-      pub go_refused : (f : Refusal) → r ≡ judgement.Refused f → Refused (number_of f) ≡ filing t 0 0 0 0 true (labels_of name)
+    module _ (end : ℕ) (e : LabelEnds name at end) (w w' : List ℕ) (r : Result JudgedLabel Refusal) (j : Judges t at done place (label_at name at end) w w' r) where
+      pub go_refused : (f : Refusal) → r ≡ Err f → Refused (number_of f) ≡ filing t 0 0 0 0 true (labels_of name)
       unfolding filing
       go_refused f er =
           sym (g.left ∙ rw (parts_next name at end e, judged_refused t at done place (label_at name at end) w w' r f er j))
 
-      pub go_more : (n : ℕ) (k : Kind) (worked : ℕ) → r ≡ judgement.Accepted n k worked
+      pub go_more : (n : ℕ) (k : Kind) (worked : ℕ) → r ≡ Ok (record { length = n; kind = k; worked = worked })
           → Going t name (end + 1) (done + (worked + 1)) (place + 1) (len + (n + 1)) (same && same_list (take n w') (label_at name at end))
       go_more n k worked er =
           let a : Accepts (label_verdict t at done place (label_at name at end)) done w' n k worked =
-          judged_accepted t at done place (label_at name at end) w w' r n k worked er j in
+          judged_accepted t at done place (label_at name at end) w w' r _ er j in
           let size : length (label_at name at end) ≡ end - at = label-length name at end e in
           record {
             left =

@@ -14,9 +14,9 @@ ghost use Rattle.refiled.specs.Changes.{change_is};
 ghost use Rattle.refiling.specs.Labels.{filing, Lent, Lasting};
 
 use answers::number_of;
-use name::admit::{Place, first_not_scalar};
+use name::admit::first_not_scalar;
 use name::labels::label_end;
-use one_label::{Judgement, judge_label};
+use one_label::judge_label;
 use refiled::{Change, change_by};
 use sections::Sections;
 
@@ -60,19 +60,15 @@ fn file_labels(
             memo,
         );
         match judged {
-            Judgement::Accepted {
-                length,
-                kind: _,
-                worked,
-            } => {
-                let alike = buffers::same(&w[..length], &name[at..end]);
+            Ok(label) => {
+                let alike = buffers::same(&w[..label.length], &name[at..end]);
                 same = same & alike;
-                len += length + 1;
-                done += worked + 1;
+                len += label.length + 1;
+                done += label.worked + 1;
                 place += 1;
                 at = end + 1;
             }
-            Judgement::Refused(f) => return Filed::Refused(number_of(f)),
+            Err(f) => return Filed::Refused(number_of(f)),
         }
     }
     Filed::Form {
@@ -97,8 +93,8 @@ pub fn refile(
 {
     let place = first_not_scalar(name);
     match place {
-        Place::At(_) => Change::Moved(4),
-        Place::Nothing => {
+        Some(_) => Change::Moved(4),
+        None => {
             let filed = file_labels(words, ix, name, unpaired, w, memo);
             match filed {
                 Filed::Refused(n) => Change::Moved(n),

@@ -1,4 +1,6 @@
 -- The ways out of the call, from what the name was judged and what was written.
+use Rattle.std.specs.Prelude.{Result, Ok, Err}
+use Rattle.answers.specs.declared.AcceptedName.{AcceptedName}
 use Prim.Native.Nat.{ℕ, ◌-◌, ◌<◌, ◌≤◌}
 use native.Mathlib.Omega.{arith}
 use mathlib.Core.Path.{◌≡◌, refl, sym, ap, ◌∙◌, subst}
@@ -10,8 +12,6 @@ use borrow.Rule.Slice.PartMut.{mid_of, put_mid}
 use Rattle.buffers.proofs.Parts.{put_filled}
 use Rattle.answers.specs.Verdict.{Verdict, accepted, refused}
 use Rattle.answers.specs.Values.{NameValues, name_values, number_of, place_of}
-use Rattle.answers.specs.declared.NameAnswer.{NameAnswer}
-use Rattle.answers.specs.declared.NameAnswer.TheVariants as answer
 use Rattle.answers.specs.declared.Refusal.{Refusal}
 use Rattle.answers.proofs.Numbers.{some_number}
 use Rattle.ending.specs.Ends.{Told}
@@ -31,7 +31,7 @@ use Rattle.report.proofs.Walkables.{reportable}
 
 module _ (input front : List ℕ) where
   -- the name was refused
-  told_refused : (v : Verdict (List Label)) (f : Refusal) → Told (name_answering input) v front (name_values (answer.Refused f))
+  told_refused : (v : Verdict (List Label)) (f : Refusal) → Told (name_answering input) v front (name_values (Err f))
       → v ≡ refused (number_of f) (place_of f)
   told_refused (accepted ls) f t = absurd (omega (arith, some_number f, ap (λ (x : NameValues). x.number) t.0))
   told_refused (refused n p) f t =
@@ -40,7 +40,7 @@ module _ (input front : List ℕ) where
       rw (number, place)
 
   -- it was accepted, and has labels
-  told_accepted : (v : Verdict (List Label)) (len k : ℕ) → Told (name_answering input) v front (name_values (answer.Accepted len k)) → 1 ≤ k
+  told_accepted : (v : Verdict (List Label)) (len k : ℕ) → Told (name_answering input) v front (name_values (Ok (record { length = len; labels = k }))) → 1 ≤ k
       → (ls : List Label) × (v ≡ accepted ls) × (k ≡ length (labels_of input))
   told_accepted (accepted ls) len k t h = (ls, refl, ap (λ (x : NameValues). x.labels) t.0)
   told_accepted (refused n p) len k t h = absurd (omega (arith, ap (λ (x : NameValues). x.labels) t))
@@ -54,28 +54,28 @@ labels_none : (ls : List (List ℕ)) → 0 ≡ length ls → ls ≡ []
 labels_none [] e = refl
 labels_none (l ∷ ls) e = absurd (omega arith)
 
-module _ (setting : ℕ) (words input front front' before work mid : List ℕ) (found : NameAnswer)
+module _ (setting : ℕ) (words input front front' before work mid : List ℕ) (found : Result AcceptedName Refusal)
     (j : NameJudged input (name_before15 setting words input (length work)) front front' work mid found) where
   abbrev v : Verdict (List Label)
   v = name_before15 setting words input (length work)
 
-  told_as : (r : NameAnswer) → found ≡ r → Told (name_answering input) v front' (name_values r)
-  told_as r e = subst (λ (x : NameAnswer). Told (name_answering input) v front' (name_values x)) e j.told
+  told_as : (r : Result AcceptedName Refusal) → found ≡ r → Told (name_answering input) v front' (name_values r)
+  told_as r e = subst (λ (x : Result AcceptedName Refusal). Told (name_answering input) v front' (name_values x)) e j.told
 
   module _ (after work' : List ℕ) (cleared : work' ≡ replicate (length work) 0) where
-    pub call_refused : (f : Refusal) → found ≡ answer.Refused f → after ≡ replicate (length before) 0
+    pub call_refused : (f : Refusal) → found ≡ Err f → after ≡ replicate (length before) 0
         → ReportCalls setting words input before after work work' (Refused f)
     unfolding report_call
     call_refused f e z =
-        rw (told_refused input front' v f (told_as (answer.Refused f) e)) (record { values = refl; bytes = z; cleared = cleared })
+        rw (told_refused input front' v f (told_as (Err f) e)) (record { values = refl; bytes = z; cleared = cleared })
 
     -- a name without labels has no lines
-    pub call_none : (len : ℕ) → found ≡ answer.Accepted len 0 → after ≡ replicate (length before) 0
+    pub call_none : (len : ℕ) → found ≡ Ok (record { length = len; labels = 0 }) → after ≡ replicate (length before) 0
         → ReportCalls setting words input before after work work' (Written 0)
     unfolding report_call report lines
-    call_none len e z = go v refl (told_as (answer.Accepted len 0) e)
+    call_none len e z = go v refl (told_as (Ok (record { length = len; labels = 0 })) e)
       where
-        go : (u : Verdict (List Label)) → v ≡ u → Told (name_answering input) u front' (name_values (answer.Accepted len 0))
+        go : (u : Verdict (List Label)) → v ≡ u → Told (name_answering input) u front' (name_values (Ok (record { length = len; labels = 0 })))
             → ReportCalls setting words input before after work work' (Written 0)
         go (accepted ls) q t =
             let none : labels_of input ≡ [] = labels_none (labels_of input) (ap (λ (x : NameValues). x.labels) t.0) in
@@ -86,9 +86,9 @@ module _ (setting : ℕ) (words input front front' before work mid : List ℕ) (
             let place : p ≡ 0 = sym (ap (λ (x : NameValues). x.place) t) in
             rw (q, number, place) (record { values = refl; bytes = z; cleared = cleared })
 
-  module _ (len k : ℕ) (e : found ≡ answer.Accepted len k) (h : 1 ≤ k) where
+  module _ (len k : ℕ) (e : found ≡ Ok (record { length = len; labels = k })) (h : 1 ≤ k) where
     accepts : (ls : List Label) × (v ≡ accepted ls) × (k ≡ length (labels_of input))
-    accepts = told_accepted input front' v len k (told_as (answer.Accepted len k) e) h
+    accepts = told_accepted input front' v len k (told_as (Ok (record { length = len; labels = k })) e) h
 
     pub call_ready : Reportable words input (length mid)
     call_ready = rw j.same-work (reportable setting words input (length work) accepts.0 accepts.1 (labels_some input (omega (arith, accepts.2))))

@@ -3,7 +3,7 @@
 
 ghost use Rattle.report.specs.Promise.{ReportCalls};
 
-use answers::{NameAnswer, Refusal};
+use answers::Refusal;
 use name_call::judge_name;
 use report_walk::write_report;
 
@@ -29,8 +29,8 @@ pub fn report(
     let mut none = [0u32; 0];
     let judged = judge_name(setting, words, input, &mut none, work);
     match judged {
-        NameAnswer::Accepted { length: _, labels } => {
-            if labels == 0 {
+        Ok(accepted) => {
+            if accepted.labels == 0 {
                 buffers::clear_bytes(out);
                 buffers::clear(work);
                 return ReportAnswer::Written(0);
@@ -45,7 +45,7 @@ pub fn report(
             buffers::clear_bytes(&mut out[n..]);
             ReportAnswer::Written(n)
         }
-        NameAnswer::Refused(refusal) => {
+        Err(refusal) => {
             buffers::clear_bytes(out);
             buffers::clear(work);
             ReportAnswer::Refused(refusal)

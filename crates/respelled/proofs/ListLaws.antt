@@ -1,4 +1,6 @@
 -- The groups that the flags of the look-alike test list, and the ends of the call.
+use Rattle.std.specs.Prelude.{Result, Ok, Err}
+use Rattle.answers.specs.declared.AcceptedLabel.{AcceptedLabel}
 use Prim.Native.Nat.{ℕ, zero, suc, ◌+◌, ◌-◌, ◌*◌, ◌≤◌, ◌<◌}
 use native.Mathlib.Omega.{arith}
 use mathlib.Core.Path.{◌≡◌, refl, sym, ap, ◌∙◌}
@@ -14,8 +16,6 @@ use Rattle.answers.specs.Verdict.{Verdict, accepted, refused, next}
 use Rattle.answers.specs.Values.{LabelValues, number_of, place_of, label_values}
 use Rattle.answers.specs.declared.Kind.{Kind}
 use Rattle.answers.specs.declared.Refusal.{Refusal}
-use Rattle.answers.specs.declared.LabelAnswer.{LabelAnswer}
-use Rattle.answers.specs.declared.LabelAnswer.TheVariants as answered
 use Rattle.ending.specs.Ends.{Told, Judged}
 use Rattle.ending.specs.Finish.{Finishes}
 use Rattle.table.specs.Table.{Table, Group}
@@ -38,8 +38,6 @@ use Rattle.label.specs.CellText.{text_at, TextAlone}
 use Rattle.label.proofs.CellLaws.{text_tokens}
 use Rattle.name.specs.Label.{Label, label_verdict, one_label, admitted, label_answering, label_before15}
 use Rattle.name.specs.Admission.{Admits, AdmissionIs}
-use Rattle.name.specs.declared.admit.Admission.{Admission}
-use Rattle.name.specs.declared.admit.Admission.TheVariants as admission
 use Rattle.group_list.specs.Places.{places_of, is_set}
 use Rattle.listing.specs.Filling.{Holds}
 use Rattle.listing.specs.Listed.{judged-listed, judged_refused}
@@ -139,13 +137,13 @@ label-listed t l list list' w w' m r p s h =
     record { holds = rw (p.mixed, ← text) h; same-work = s.same }
 
 -- what the label call told before 15
-told_accepted : (v : Verdict Label) (front : List ℕ) (n : ℕ) (k : Kind) → Told label_answering v front (label_values (answered.Accepted n k))
+told_accepted : (v : Verdict Label) (front : List ℕ) (n : ℕ) (k : Kind) → Told label_answering v front (label_values (Ok (record { length = n; kind = k })))
     → (x : Label) × (v ≡ accepted x)
 told_accepted (accepted x) front n k h = (x, refl)
 told_accepted (refused m q) front n k h =
     absurd (let e : some k ≡ none = ap (λ (v : LabelValues). v.kind) h in let z : ◌≡◌ {A = ℕ} 0 1 = cc in omega arith)
 
-told_refused : (v : Verdict Label) (front : List ℕ) (f : Refusal) → Told label_answering v front (label_values (answered.Refused f))
+told_refused : (v : Verdict Label) (front : List ℕ) (f : Refusal) → Told label_answering v front (label_values (Err f))
     → v ≡ refused (number_of f) (place_of f)
 told_refused (accepted x) front f h =
     absurd (let e : none ≡ some x.kind = ap (λ (v : LabelValues). v.kind) h.0 in let z : ◌≡◌ {A = ℕ} 0 1 = cc in omega arith)
@@ -154,7 +152,7 @@ told_refused (refused m q) front f h =
     let b : place_of f ≡ q = ap (λ (v : LabelValues). v.place) h in
     rw (a, b)
 
-module _ (words label list : List ℕ) (ix : Sections) (before after work work' : List ℕ) (a : Admits words label (length work) ix) (r : LabelAnswer)
+module _ (words label list : List ℕ) (ix : Sections) (before after work work' : List ℕ) (a : Admits words label (length work) ix) (r : Result AcceptedLabel Refusal)
     (j : Judged label_answering (label_before15 0 words label (length work)) before after work work' (label_values r)) where
   one_is : label_before15 0 words label (length work) ≡ one_label 0 (the_table words) label
   unfolding label_before15
@@ -165,7 +163,7 @@ module _ (words label list : List ℕ) (ix : Sections) (before after work work' 
   listed_is = rw a.admits
 
   -- accepted: no group is listed
-  pub label_accepted : (n : ℕ) (k : Kind) → r ≡ answered.Accepted n k → RespelledJudged words label list list work work' (Listed 0)
+  pub label_accepted : (n : ℕ) (k : Kind) → r ≡ Ok (record { length = n; kind = k }) → RespelledJudged words label list list work work' (Listed 0)
   label_accepted n k e =
       let x = told_accepted _ after n k (rw e at j.told) in
       let one : one_label 0 (the_table words) label ≡ accepted x.0 = sym one_is ∙ x.1 in
@@ -174,7 +172,7 @@ module _ (words label list : List ℕ) (ix : Sections) (before after work work' 
       judged-listed group_listing _ list list work work' j.same-work [] 0 (listed_is ∙ rw (one, empty) refl)
       (record { same = refl; long = refl; written = λ h. refl })
 
-  module _ (f : Refusal) (e : r ≡ answered.Refused f) where
+  module _ (f : Refusal) (e : r ≡ Err f) where
     refusal : one_label 0 (the_table words) label ≡ refused (number_of f) (place_of f)
     refusal = sym one_is ∙ told_refused _ after f (rw e at j.told)
 
@@ -214,7 +212,7 @@ pub not_admitted : (words label list work : List ℕ) (f : Refusal) → admitted
 unfolding respelled_before33
 not_admitted words label list work f e = judged_refused group_listing _ list list work work refl (number_of f) (place_of f) (rw e refl) refl
 
-pub refused_by : (words label : List ℕ) (work : ℕ) (r : Admission) → AdmissionIs words label work r → (f : Refusal) → r ≡ admission.Refused f
+pub refused_by : (words label : List ℕ) (work : ℕ) (r : Result Sections Refusal) → AdmissionIs words label work r → (f : Refusal) → r ≡ Err f
     → admitted words work label ≡ refused (number_of f) (place_of f)
 refused_by words label work r h f e = rw e at h
 

@@ -11,7 +11,7 @@ ghost use Rattle.respelled.specs.Respelled.{respelled_in};
 ghost use Rattle.respelled.specs.Promise.{RespelledCalls};
 ghost use Rattle.respelled.specs.Steps.{Passes, TextStands, LabelListed, RespelledJudged, entries_of};
 
-use answers::{LabelAnswer, Refusal, number_of};
+use answers::{Refusal, number_of};
 use ending::finish;
 use group_list::list_flags;
 use label::cells::text_alone;
@@ -19,7 +19,7 @@ use label_call::judge_input;
 use limits::MOST_WORKED;
 use lookalike::respellings;
 use memo::MEMO;
-use name::admit::{Admission, admit};
+use name::admit::admit;
 use normal_cells::normalise;
 use scanning::{Scanned, scan};
 use sections::Sections;
@@ -99,8 +99,8 @@ fn list_label(
     let mut room = [0u32; 0];
     let judged = judge_input(0, words, label, &mut room, work);
     match judged {
-        LabelAnswer::Accepted { length: _, kind: _ } => RespelledAnswer::Listed(0),
-        LabelAnswer::Refused(f) => {
+        Ok(_) => RespelledAnswer::Listed(0),
+        Err(f) => {
             let number = number_of(f);
             if number != 14 {
                 return RespelledAnswer::Refused(f);
@@ -122,8 +122,8 @@ fn respelled_judged(
 {
     let admitted = admit(words, input, work.len());
     match admitted {
-        Admission::Refused(f) => RespelledAnswer::Refused(f),
-        Admission::Found(ix) => list_label(words, ix, input, list, work),
+        Err(f) => RespelledAnswer::Refused(f),
+        Ok(ix) => list_label(words, ix, input, list, work),
     }
 }
 

@@ -1,4 +1,5 @@
 -- What the tests 1 to 4 leave of the call, and its two ends.
+use Rattle.std.specs.Prelude.{Result, Ok, Err}
 use Prim.Native.Nat.{ℕ}
 use mathlib.Core.Path.{◌≡◌, refl}
 use mathlib.Core.Bool.{Bool, true, false}
@@ -8,13 +9,10 @@ use Rattle.answers.specs.Verdict.{refused}
 use Rattle.answers.specs.Values.{NameValues, number_of, place_of}
 use Rattle.answers.specs.declared.Refusal.{Refusal}
 use Rattle.answers.specs.declared.Refusal.TheVariants.{BufferTooSmall}
-use Rattle.answers.specs.declared.NameAnswer.TheVariants as name
 use Rattle.ending.specs.Ends.{Ends, Judged, ends_kept, ends_over}
 use Rattle.ending.specs.Finish.{Finishes}
 use Rattle.table.specs.Layout.{the_table}
 use Rattle.sections.specs.declared.Sections.{Sections}
-use Rattle.name.specs.declared.admit.Admission.{Admission}
-use Rattle.name.specs.declared.admit.Admission.TheVariants.{Refused, Found}
 use Rattle.name.specs.Admission.{AdmissionIs}
 use Rattle.name.specs.Label.{admitted}
 use Rattle.name.specs.Name.{labels_of}
@@ -23,15 +21,15 @@ use Rattle.screen.specs.Screen.{screen_answering, labels_typed, screen_before15,
 
 module _ (greek g : ℕ) (words input before work : List ℕ) where
   -- 1 to 4
-  module _ (r : Admission) (h : AdmissionIs words input (length work) r) where
-    pub screen_admitted : (ix : Sections) → r ≡ Found ix → (after work' : List ℕ) (a : NameValues)
+  module _ (r : Result Sections Refusal) (h : AdmissionIs words input (length work) r) where
+    pub screen_admitted : (ix : Sections) → r ≡ Ok ix → (after work' : List ℕ) (a : NameValues)
         → Judged (screen_answering (the_table words) greek input) (labels_typed g (the_table words) 0 0 0 (labels_of input)) before after work work' a
         → Judged (screen_answering (the_table words) greek input) (screen_before15 g words input (length work)) before after work work' a
     unfolding screen_before15 labels_typed
     screen_admitted ix e after work' a j = rw (admits words input (length work) r h ix e).admits j
 
-    pub screen_not_admitted : (f : Refusal) → r ≡ Refused f
-        → ScreenJudged (the_table words) greek input (screen_before15 g words input (length work)) before before work work (name.Refused f)
+    pub screen_not_admitted : (f : Refusal) → r ≡ Err f
+        → ScreenJudged (the_table words) greek input (screen_before15 g words input (length work)) before before work work (Err f)
     unfolding screen_before15
     screen_not_admitted f e =
         let no : admitted words (length work) input ≡ refused (number_of f) (place_of f) = rw e at h in
@@ -45,7 +43,7 @@ module _ (greek g : ℕ) (words input before work : List ℕ) where
     screen_kept =
         ends_kept (screen_answering (the_table words) greek input) before mid after work mid-work work' v (screen_before15 g words input (length work)) j n e kept f
 
-    pub screen_over : kept ≡ false → ScreenCalls greek g words input before after work work' (name.Refused BufferTooSmall)
+    pub screen_over : kept ≡ false → ScreenCalls greek g words input before after work work' (Err BufferTooSmall)
     unfolding screen_call screen_verdict
     screen_over =
         ends_over (screen_answering (the_table words) greek input) before mid after work mid-work work' v (screen_before15 g words input (length work)) j n e kept f

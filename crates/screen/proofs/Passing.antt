@@ -1,4 +1,6 @@
 -- The labels of a name one after another: what is known when the screen forms of some are written, and how it ends.
+use Rattle.std.specs.Prelude.{Result, Ok, Err}
+use Rattle.one_label.specs.declared.JudgedLabel.{JudgedLabel}
 use Prim.Native.Nat.{ℕ, suc, ◌+◌, ◌-◌, ◌*◌, ◌<◌, ◌≤◌}
 use native.Mathlib.Omega.{arith}
 use mathlib.Core.Path.{◌≡◌, refl, sym, ap, ◌∙◌}
@@ -17,14 +19,11 @@ use Rattle.answers.specs.Restriction.{barred}
 use Rattle.answers.specs.declared.Kind.{Kind}
 use Rattle.answers.specs.declared.Refusal.{Refusal}
 use Rattle.answers.specs.declared.Refusal.TheVariants.{Restricted}
-use Rattle.answers.specs.declared.NameAnswer.TheVariants as name
 use Rattle.table.specs.Table.{Table}
 use Rattle.tokens.specs.Scan.{steps}
 use Rattle.tokens.specs.Tokens.{Token, tokens_of}
 use Rattle.token_walk.specs.Walk.{Walkable}
 use Rattle.token_walk.proofs.Nexting.{allowed_moved}
-use Rattle.one_label.specs.declared.Judgement.{Judgement}
-use Rattle.one_label.specs.declared.Judgement.TheVariants.{Accepted, Refused}
 use Rattle.name.specs.Label.{Label, stop, label_verdict, label_by}
 use Rattle.name.specs.Permitted.{by_accepted, by_barred, by_refused}
 use Rattle.name.specs.Name.{labels_of, labels_verdict}
@@ -122,7 +121,7 @@ module _ (g : ℕ) (t : Table) (greek : ℕ) (input before w₀ : List ℕ) wher
   pass_empty h = start 1 (parts_empty input h) (rw (parts_none input 1 (omega arith))) (omega arith)
 
   module _ (after w : List ℕ) (at done place len : ℕ) (l : Passed g t greek input before after w₀ w at done place len) where
-    pub pass_done : length input < at → ScreenJudged t greek input (labels_typed g t 0 0 0 (labels_of input)) before after w₀ w (name.Accepted len place)
+    pub pass_done : length input < at → ScreenJudged t greek input (labels_typed g t 0 0 0 (labels_of input)) before after w₀ w (Ok (record { length = len; labels = place }))
     unfolding labels_typed
     pass_done h =
         let rest : parts_from input at ≡ [] = parts_none input at h in
@@ -135,11 +134,11 @@ module _ (g : ℕ) (t : Table) (greek : ℕ) (input before w₀ : List ℕ) wher
           told = rw all (rw (l.long, count) refl, rw l.long at front);
         }
 
-    module _ (end : ℕ) (e : LabelEnds input at end) (w' : List ℕ) (r : Judgement) (j : Judges t at done place (label_at input at end) w w' r) where
+    module _ (end : ℕ) (e : LabelEnds input at end) (w' : List ℕ) (r : Result JudgedLabel Refusal) (j : Judges t at done place (label_at input at end) w w' r) where
       refuses : (n q : ℕ) → label_by g t at done place (label_at input at end) ≡ refused n q → labels_typed g t 0 0 0 (labels_of input) ≡ refused n q
       refuses n q h = l.verdict ∙ rw (parts_next input at end e) (labels_refused g t at done place (label_at input at end) (parts_from input (end + 1)) l.so_far n q h)
 
-      pub pass_refused : (f : Refusal) → r ≡ Refused f → ScreenJudged t greek input (labels_typed g t 0 0 0 (labels_of input)) before after w₀ w' (name.Refused f)
+      pub pass_refused : (f : Refusal) → r ≡ Err f → ScreenJudged t greek input (labels_typed g t 0 0 0 (labels_of input)) before after w₀ w' (Err f)
       pass_refused f er =
           record {
             same = l.same;
@@ -149,11 +148,11 @@ module _ (g : ℕ) (t : Table) (greek : ℕ) (input before w₀ : List ℕ) wher
                 (by_refused g t at done place (label_at input at end) (number_of f) (place_of f) (judged_refused t at done place (label_at input at end) w w' r f er j))) refl;
           }
 
-      module _ (n : ℕ) (k : Kind) (worked : ℕ) (er : r ≡ Accepted n k worked) where
+      module _ (n : ℕ) (k : Kind) (worked : ℕ) (er : r ≡ Ok (record { length = n; kind = k; worked = worked })) where
         accepts : Accepts (label_verdict t at done place (label_at input at end)) done w' n k worked
-        accepts = judged_accepted t at done place (label_at input at end) w w' r n k worked er j
+        accepts = judged_accepted t at done place (label_at input at end) w w' r _ er j
 
-        pub pass_barred : barred g k ≡ true → ScreenJudged t greek input (labels_typed g t 0 0 0 (labels_of input)) before after w₀ w' (name.Refused (Restricted place))
+        pub pass_barred : barred g k ≡ true → ScreenJudged t greek input (labels_typed g t 0 0 0 (labels_of input)) before after w₀ w' (Err (Restricted place))
         pass_barred b =
             record {
               same = l.same;

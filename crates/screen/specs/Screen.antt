@@ -1,9 +1,10 @@
 -- The screen call. 02, Item 1: "Add the beautified form of source document 000 .. Refusals and their order are as for the name call, and 15 is
 -- judged on the screen form."
-use Rattle.std.specs.Prelude.{ℕ, List, length}
+use Rattle.answers.specs.declared.Refusal.{Refusal}
+use Rattle.answers.specs.declared.AcceptedName.{AcceptedName}
+use Rattle.std.specs.Prelude.{ℕ, List, length, Result}
 use Rattle.answers.specs.Verdict.{Verdict, accepted, next}
 use Rattle.answers.specs.Values.{NameValues, name_values}
-use Rattle.answers.specs.declared.NameAnswer.{NameAnswer}
 use Rattle.ending.specs.Ending.{Answering, Result, then15, result_of}
 use Rattle.ending.specs.Ends.{Ends, Judged}
 use Rattle.table.specs.Table.{Table}
@@ -39,10 +40,10 @@ screen_call greek setting words name room work =
     result_of (screen_answering (the_table words) greek name) room work (screen_verdict greek setting words name room work)
 
 -- The call: its answer r, and every word of the answer buffer and of the work area, before and after it (').
-abbrev pub ScreenCalls : ℕ → ℕ → List ℕ → List ℕ → List ℕ → List ℕ → List ℕ → List ℕ → NameAnswer → Type 0
+abbrev pub ScreenCalls : ℕ → ℕ → List ℕ → List ℕ → List ℕ → List ℕ → List ℕ → List ℕ → Result AcceptedName Refusal → Type 0
 ScreenCalls greek setting words input before after work work' r =
     Ends (screen_call greek setting words input (length before) (length work)) (name_values r) after work'
 
 -- what is answered where the verdict before 15 is v; the words behind the form, and those of the work area, are open until the end
-abbrev pub ScreenJudged : Table → ℕ → List ℕ → Verdict (List Typed) → List ℕ → List ℕ → List ℕ → List ℕ → NameAnswer → Type 0
+abbrev pub ScreenJudged : Table → ℕ → List ℕ → Verdict (List Typed) → List ℕ → List ℕ → List ℕ → List ℕ → Result AcceptedName Refusal → Type 0
 ScreenJudged t greek input v before after work work' r = Judged (screen_answering t greek input) v before after work work' (name_values r)

@@ -9,12 +9,12 @@ ghost use Rattle.memo.specs.Memo.{Memo};
 ghost use Rattle.name.specs.Name.{labels_of};
 ghost use Rattle.screen.specs.Screen.{labels_typed, screen_before15, ScreenJudged, ScreenCalls};
 
-use answers::{NameAnswer, Refusal, is_barred, name_length};
+use answers::{AcceptedName, Refusal, is_barred, name_length};
 use ending::finish;
 use memo::MEMO;
-use name::admit::{Admission, admit};
+use name::admit::admit;
 use name::labels::{label_end, put_label};
-use one_label::{Judgement, judge_label};
+use one_label::judge_label;
 use screen_label::show_label;
 use screen_token::is_greek;
 use sections::Sections;
@@ -32,7 +32,7 @@ fn show_labels(
     answer: &mut [u32],
     w: &mut [u32],
     memo: &mut [u32],
-) -> NameAnswer
+) -> Result<AcceptedName, Refusal>
     requires laid { Laid words.now ix }
     requires least_work_in_bounds { (least_work ≤ length w.old) × (length name.now ≤ most_input) }
     requires memo { Memo words.now memo.old }
@@ -59,39 +59,30 @@ fn show_labels(
             &mut unpaired,
             w,
             memo,
-        );
-        match judged {
-            Judgement::Accepted {
-                length: _,
-                kind,
-                worked,
-            } => {
-                if is_barred(setting, kind) {
-                    return NameAnswer::Refused(Refusal::Restricted(place));
-                }
-                let own = is_greek(greek, kind);
-                let from = put_label(answer, len, place == 0, &w[..0]);
-                len = show_label(
-                    words,
-                    ix,
-                    own,
-                    &name[at..end],
-                    &mut unpaired,
-                    answer,
-                    from,
-                    w,
-                );
-                done += worked + 1;
-                place += 1;
-                at = end + 1;
-            }
-            Judgement::Refused(f) => return NameAnswer::Refused(f),
+        )?;
+        if is_barred(setting, judged.kind) {
+            return Err(Refusal::Restricted(place));
         }
+        let own = is_greek(greek, judged.kind);
+        let from = put_label(answer, len, place == 0, &w[..0]);
+        len = show_label(
+            words,
+            ix,
+            own,
+            &name[at..end],
+            &mut unpaired,
+            answer,
+            from,
+            w,
+        );
+        done += judged.worked + 1;
+        place += 1;
+        at = end + 1;
     }
-    NameAnswer::Accepted {
+    Ok(AcceptedName {
         length: len,
         labels: place,
-    }
+    })
 }
 
 // Judges a name as far as 14 and 17, and writes its screen form as far as there is room.
@@ -102,26 +93,21 @@ fn judge_screen(
     input: &[u32],
     answer: &mut [u32],
     work: &mut [u32],
-) -> NameAnswer
+) -> Result<AcceptedName, Refusal>
     ensures { ScreenJudged (the_table words.now) greek input.now (screen_before15 setting words.now input.now (length work.old)) answer.old answer.new work.old work.new result }
 {
-    let admitted = admit(words, input, work.len());
-    match admitted {
-        Admission::Found(ix) => {
-            let mut memo = [0; MEMO];
-            show_labels(
-                words,
-                ix,
-                greek,
-                setting,
-                input,
-                answer,
-                work,
-                &mut memo[0..MEMO],
-            )
-        }
-        Admission::Refused(f) => NameAnswer::Refused(f),
-    }
+    let ix = admit(words, input, work.len())?;
+    let mut memo = [0; MEMO];
+    show_labels(
+        words,
+        ix,
+        greek,
+        setting,
+        input,
+        answer,
+        work,
+        &mut memo[0..MEMO],
+    )
 }
 
 // Writes the screen form of a name into `answer`, and answers its length and the number of its labels. `greek` is the number of the Greek group;
@@ -133,13 +119,13 @@ pub fn screen(
     setting: u32,
     answer: &mut [u32],
     work: &mut [u32],
-) -> NameAnswer
+) -> Result<AcceptedName, Refusal>
     ensures { ScreenCalls greek setting words.now input.now answer.old answer.new work.old work.new result }
 {
     let judged = judge_screen(greek, setting, words, input, answer, work);
     let length = name_length(judged);
     if !finish(answer, work, length) {
-        return NameAnswer::Refused(Refusal::BufferTooSmall);
+        return Err(Refusal::BufferTooSmall);
     }
     judged
 }

@@ -9,20 +9,20 @@ file_form-requires c =
     let d = c in
     let n = d in
     let s = n in
-    omega (arith, form_fits _ _ _ s.args.answer.now _ s.args.work.now _ _ n.name-named.ensures _ _ d.in-Accepted.is)
+    omega (arith, form_fits _ _ _ s.args.answer.now _ s.args.work.now _ _ n.name-named.ensures _ _ d.in-Ok.is)
 
-pub returns-in-Accepted : goal.returns-in-Accepted
-returns-in-Accepted c =
+pub returns-in-Ok : goal.returns-in-Ok
+returns-in-Ok c =
     let d = c in
     let n = d in
     let s = n in
-    form_answered _ _ _ s.args.answer.now _ s.args.work.now _ _ n.name-named.ensures _ _ d.in-Accepted.is (search rules)
+    form_answered _ _ _ s.args.answer.now _ s.args.work.now _ _ n.name-named.ensures _ _ d.in-Ok.is (search rules)
     (search rules) _ c.file_form.ensures
 
-pub returns-in-Refused : goal.returns-in-Refused
-returns-in-Refused c =
+pub returns-in-Err : goal.returns-in-Err
+returns-in-Err c =
     let d = c in
     let n = d in
     let s = n in
     form_refused _ _ _ s.args.answer.now _ s.args.work.now _ _ n.name-named.ensures (search rules) (search rules) _
-    d.in-Refused.is
+    d.in-Err.is

@@ -2,8 +2,8 @@
 use Rattle.fields.proofs.FieldLaws.{label_accepted, label_refused}
 use Rattle.fields.proofs.label_fields.Goals as goal
 
-pub returns-in-Accepted : goal.returns-in-Accepted
-returns-in-Accepted c = label_accepted c.kind_numbers-k.result c.in-Accepted.is c.kind_numbers-k.ensures
+pub returns-in-Ok : goal.returns-in-Ok
+returns-in-Ok c = label_accepted c.kind_numbers-k.result c.in-Ok.is c.kind_numbers-k.ensures
 
-pub returns-in-Refused : goal.returns-in-Refused
-returns-in-Refused c = label_refused c.in-Refused.is c.number_of.ensures c.place_of.ensures
+pub returns-in-Err : goal.returns-in-Err
+returns-in-Err c = label_refused c.in-Err.is c.number_of.ensures c.place_of.ensures

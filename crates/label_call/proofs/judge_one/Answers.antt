@@ -3,6 +3,7 @@ use native.Mathlib.Omega.{arith}
 use mathlib.Core.Path.{refl, sym, ◌∙◌}
 use lib.ListN.{length-take}
 use lib.Seq.{length-take-le}
+use Rattle.std.proofs.lemmas.Result.{err_from_is_err_and}
 use Rattle.one_label.proofs.Said.{judged-room, judged_count, judged_short}
 use Rattle.label_call.proofs.OneLabel.{one_disallowed, one-barred, one_refused, one_accepted}
 use Rattle.label_call.proofs.judge_one.Goals as goal
@@ -30,30 +31,32 @@ ask-requires c = record { laid = c.requires.laid; unpaired = c.index_pairs.ensur
 pub slice_bounds-judge_label-end : goal.slice_bounds-judge_label-end
 slice_bounds-judge_label-end c = sym c.ask.ensures.unpaired_2.size
 
-pub judge_label-judged-requires : goal.judge_label-judged-requires
-judge_label-judged-requires c =
+pub judge_label-requires : goal.judge_label-requires
+judge_label-requires c =
     let p = c.requires in
     record { laid = p.laid; unpaired = c.ask.ensures.unpaired_2; least_work_in_bounds = (p.least_work_in_bounds.0, p.least_work_in_bounds.1, omega arith, omega arith); memo = p.memo }
 
 pub returns-then-is_barred : goal.returns-then-is_barred
 returns-then-is_barred c =
-    one-barred _ _ _ _ _ _ c.label_end-end.ensures c.if-end-input.false _ _ c.judge_label-judged.ensures.judges _ _ _ c.in-Accepted.is
+    one-barred _ _ _ _ _ _ c.label_end-end.ensures c.if-end-input.false _ _ c.judge_label.ensures.judges _ c.in_ok-judged.was
     (sym c.is_barred.ensures ∙ c.if-is_barred.true)
 
-pub slice_bounds-put_label-end : goal.slice_bounds-put_label-end
-slice_bounds-put_label-end c = judged-room _ _ _ _ _ _ _ _ c.judge_label-judged.ensures.judges _ _ _ c.in-Accepted.is c.requires.least_work_in_bounds.0
+pub slice_bounds-put_label-length : goal.slice_bounds-put_label-length
+slice_bounds-put_label-length c = judged-room _ _ _ _ _ _ _ _ c.judge_label.ensures.judges _ c.in_ok-judged.was c.requires.least_work_in_bounds.0
 
-pub slice_bounds-put_label-end-in-Accepted : goal.slice_bounds-put_label-end-in-Accepted
-slice_bounds-put_label-end-in-Accepted c = judged_count _ _ _ _ _ _ _ _ c.judge_label-judged.ensures.judges _ _ _ c.in-Accepted.is
+pub slice_bounds-put_label-length-2 : goal.slice_bounds-put_label-length-2
+slice_bounds-put_label-length-2 c = judged_count _ _ _ _ _ _ _ _ c.judge_label.ensures.judges _ c.in_ok-judged.was
 
-pub put_label-end-requires : goal.put_label-end-requires
-put_label-end-requires c = (omega arith, judged_short _ _ _ _ _ _ _ _ c.judge_label-judged.ensures.judges _ _ _ c.in-Accepted.is)
+pub put_label-length-requires : goal.put_label-length-requires
+put_label-length-requires c = (omega arith, judged_short _ _ _ _ _ _ _ _ c.judge_label.ensures.judges _ c.in_ok-judged.was)
 
 pub returns-else-is_barred : goal.returns-else-is_barred
 returns-else-is_barred c =
-    one_accepted _ _ _ _ _ _ c.label_end-end.ensures c.if-end-input.false _ _ c.judge_label-judged.ensures.judges _ _ _ c.in-Accepted.is
-    (sym c.is_barred.ensures ∙ c.if-is_barred.false) _ _ c.put_label-end.ensures
+    one_accepted _ _ _ _ _ _ c.label_end-end.ensures c.if-end-input.false _ _ c.judge_label.ensures.judges _ c.in_ok-judged.was
+    (sym c.is_barred.ensures ∙ c.if-is_barred.false) _ _ c.put_label-length.ensures
 
-pub returns-in-Refused : goal.returns-in-Refused
-returns-in-Refused c =
-    one_refused _ _ _ _ _ _ c.label_end-end.ensures c.if-end-input.false _ _ c.judge_label-judged.ensures.judges _ c.in-Refused.is
+pub returns-in_err-judged : goal.returns-in_err-judged
+returns-in_err-judged c =
+    let p = err_from_is_err_and c.from_residual.result c.from_residual.ensures.1 in
+    rw (p.1, p.2) (one_refused _ _ _ _ _ _ c.label_end-end.ensures c.if-end-input.false _ _ c.judge_label.ensures.judges _ c.in_err-judged.was)
+

@@ -1,6 +1,7 @@
 use Prim.Native.Nat.{◌-◌}
 use native.Mathlib.Omega.{arith}
 use mathlib.Core.Path.{refl, sym, ◌∙◌}
+use Rattle.std.proofs.lemmas.Result.{err_from_is_err_and}
 use Rattle.name.proofs.Parting.{label-length}
 use Rattle.one_label.proofs.Said.{judged-room, judged_count, judged_short, judged-worked}
 use Rattle.name_call.proofs.Passing.{pass_start, pass_empty, pass_done, pass_refused, pass_barred, pass_more}
@@ -23,8 +24,8 @@ loop-at-init c =
 pub slice_bounds-judge_label-end-in-loop-at : goal.slice_bounds-judge_label-end-in-loop-at
 slice_bounds-judge_label-end-in-loop-at c = sym c.loop-at.invariant.1.0.size
 
-pub judge_label-judged-requires : goal.judge_label-judged-requires
-judge_label-judged-requires c =
+pub judge_label-requires : goal.judge_label-requires
+judge_label-requires c =
     let p = c.requires in
     let i = c.loop-at.invariant in
     let e = c.label_end-end.ensures in
@@ -35,35 +36,34 @@ pub shape_of-answer-then-is_barred : goal.shape_of-answer-then-is_barred
 shape_of-answer-then-is_barred c = c.loop-at.invariant.0.same
 
 pub shape_of-w-then-is_barred : goal.shape_of-w-then-is_barred
-shape_of-w-then-is_barred c = c.judge_label-judged.ensures.judges.same ∙ c.loop-at.invariant.0.same-work
+shape_of-w-then-is_barred c = c.judge_label.ensures.judges.same ∙ c.loop-at.invariant.0.same-work
 
 pub shape_of-memo-then-is_barred : goal.shape_of-memo-then-is_barred
-shape_of-memo-then-is_barred c = c.judge_label-judged.ensures.memo_2.size ∙ sym c.requires.memo.size
+shape_of-memo-then-is_barred c = c.judge_label.ensures.memo_2.size ∙ sym c.requires.memo.size
 
 pub returns-then-is_barred : goal.returns-then-is_barred
 returns-then-is_barred c =
-    pass_barred _ _ _ _ _ _ _ _ _ _ _ c.loop-at.invariant.0 _ c.label_end-end.ensures _ _ c.judge_label-judged.ensures.judges _ _ _
-    c.in-Accepted.is (sym c.is_barred.ensures ∙ c.if-is_barred.true)
+    pass_barred _ _ _ _ _ _ _ _ _ _ _ c.loop-at.invariant.0 _ c.label_end-end.ensures _ _ c.judge_label.ensures.judges _ c.in_ok-judged.was (sym c.is_barred.ensures ∙ c.if-is_barred.true)
 
 pub slice_bounds-put_label-end : goal.slice_bounds-put_label-end
 slice_bounds-put_label-end c =
-    judged-room _ _ _ _ _ _ _ _ c.judge_label-judged.ensures.judges _ _ _ c.in-Accepted.is (omega (arith, c.loop-at.invariant.0.same-work, c.requires.least_work_in_bounds.0))
+    judged-room _ _ _ _ _ _ _ _ c.judge_label.ensures.judges _ c.in_ok-judged.was (omega (arith, c.loop-at.invariant.0.same-work, c.requires.least_work_in_bounds.0))
 
-pub slice_bounds-put_label-end-in-Accepted : goal.slice_bounds-put_label-end-in-Accepted
-slice_bounds-put_label-end-in-Accepted c = judged_count _ _ _ _ _ _ _ _ c.judge_label-judged.ensures.judges _ _ _ c.in-Accepted.is
+pub slice_bounds-put_label-end-in-loop-at : goal.slice_bounds-put_label-end-in-loop-at
+slice_bounds-put_label-end-in-loop-at c = judged_count _ _ _ _ _ _ _ _ c.judge_label.ensures.judges _ c.in_ok-judged.was
 
 pub put_label-len-requires : goal.put_label-len-requires
 put_label-len-requires c =
     let i = c.loop-at.invariant.0 in (
       omega (arith, i.small, i.few, i.inside, c.requires.least_work_in_bounds.1),
-      judged_short _ _ _ _ _ _ _ _ c.judge_label-judged.ensures.judges _ _ _ c.in-Accepted.is,
+      judged_short _ _ _ _ _ _ _ _ c.judge_label.ensures.judges _ c.in_ok-judged.was,
     )
 
 pub overflow_add-done : goal.overflow_add-done
-overflow_add-done c = omega (arith, judged-worked _ _ _ _ _ _ _ _ c.judge_label-judged.ensures.judges _ _ _ c.in-Accepted.is)
+overflow_add-done c = omega (arith, judged-worked _ _ _ _ _ _ _ _ c.judge_label.ensures.judges _ c.in_ok-judged.was)
 
-pub overflow_add-done-in-Accepted : goal.overflow_add-done-in-Accepted
-overflow_add-done-in-Accepted c = omega (arith, judged-worked _ _ _ _ _ _ _ _ c.judge_label-judged.ensures.judges _ _ _ c.in-Accepted.is)
+pub overflow_add-done-in-loop-at : goal.overflow_add-done-in-loop-at
+overflow_add-done-in-loop-at c = omega (arith, judged-worked _ _ _ _ _ _ _ _ c.judge_label.ensures.judges _ c.in_ok-judged.was)
 
 pub overflow_add-place : goal.overflow_add-place
 overflow_add-place c =
@@ -78,23 +78,23 @@ loop-at-smaller c = omega (arith, c.label_end-end.ensures.from)
 
 pub loop-at-preserved : goal.loop-at-preserved
 loop-at-preserved c = (
-  pass_more _ _ _ _ _ _ _ _ _ _ _ c.loop-at.invariant.0 _ c.label_end-end.ensures _ _ c.judge_label-judged.ensures.judges _ _ _
-      c.in-Accepted.is (sym c.is_barred.ensures ∙ c.if-is_barred.false) _ _ c.put_label-len.ensures,
-  (c.judge_label-judged.ensures.unpaired_2, c.judge_label-judged.ensures.memo_2),
+  pass_more _ _ _ _ _ _ _ _ _ _ _ c.loop-at.invariant.0 _ c.label_end-end.ensures _ _ c.judge_label.ensures.judges _ c.in_ok-judged.was (sym c.is_barred.ensures ∙ c.if-is_barred.false) _ _ c.put_label-len.ensures,
+  (c.judge_label.ensures.unpaired_2, c.judge_label.ensures.memo_2),
 )
 
-pub shape_of-answer-in-Refused : goal.shape_of-answer-in-Refused
-shape_of-answer-in-Refused c = c.loop-at.invariant.0.same
+pub shape_of-answer-in_err-judged : goal.shape_of-answer-in_err-judged
+shape_of-answer-in_err-judged c = c.loop-at.invariant.0.same
 
-pub shape_of-w-in-Refused : goal.shape_of-w-in-Refused
-shape_of-w-in-Refused c = c.judge_label-judged.ensures.judges.same ∙ c.loop-at.invariant.0.same-work
+pub shape_of-w-in_err-judged : goal.shape_of-w-in_err-judged
+shape_of-w-in_err-judged c = c.judge_label.ensures.judges.same ∙ c.loop-at.invariant.0.same-work
 
-pub shape_of-memo-in-Refused : goal.shape_of-memo-in-Refused
-shape_of-memo-in-Refused c = c.judge_label-judged.ensures.memo_2.size ∙ sym c.requires.memo.size
+pub shape_of-memo-in_err-judged : goal.shape_of-memo-in_err-judged
+shape_of-memo-in_err-judged c = c.judge_label.ensures.memo_2.size ∙ sym c.requires.memo.size
 
-pub returns-in-Refused : goal.returns-in-Refused
-returns-in-Refused c =
-    pass_refused _ _ _ _ _ _ _ _ _ _ _ c.loop-at.invariant.0 _ c.label_end-end.ensures _ _ c.judge_label-judged.ensures.judges _ c.in-Refused.is
+pub returns-in_err-judged : goal.returns-in_err-judged
+returns-in_err-judged c =
+    let p = err_from_is_err_and c.from_residual.result c.from_residual.ensures.1 in
+    rw (p.1, p.2) (pass_refused _ _ _ _ _ _ _ _ _ _ _ c.loop-at.invariant.0 _ c.label_end-end.ensures _ _ c.judge_label.ensures.judges _ c.in_err-judged.was)
 
 pub shape_of-answer : goal.shape_of-answer
 shape_of-answer c = c.loop-at.invariant.0.same

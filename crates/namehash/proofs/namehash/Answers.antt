@@ -8,21 +8,21 @@ use Rattle.name_node.specs.Octets.{written_scalars}
 use Rattle.namehash.proofs.Calling.{name_room, name_refused, name_written, name_unwritten, writer_refused, writer_took}
 use borrow.Enum.Refused.{opened}
 use Rattle.namehash.proofs.namehash.Goals as goal
-use Rattle.namehash.proofs.namehash.Goals.{In-Accepted, In_default-written}
+use Rattle.namehash.proofs.namehash.Goals.{In-Ok, In_default-written}
 
 -- what is accepted has room in the answer buffer
-room : (c : In-Accepted) → c.in-Accepted.length ≤ length c.name-found.new.answer
+room : (c : In-Ok) → c.in-Ok.length ≤ length c.name-found.new.answer
 room c =
     let name = c in
     let args = name.args in
-    name_room _ _ _ args.answer.now _ args.work.now _ name.name-found.result name.name-found.ensures _ _ c.in-Accepted.is name.name-found.auto.answer
+    name_room _ _ _ args.answer.now _ args.work.now _ name.name-found.result name.name-found.ensures _ _ c.in-Ok.is name.name-found.auto.answer
 
 -- what is accepted has room-at-In_default-written in the answer buffer
-room-at-In_default-written : (c : In_default-written) → c.in-Accepted.length ≤ length c.name-found.new.answer
+room-at-In_default-written : (c : In_default-written) → c.in-Ok.length ≤ length c.name-found.new.answer
 room-at-In_default-written c =
     let name = c in
     let args = name.args in
-    name_room _ _ _ args.answer.now _ args.work.now _ name.name-found.result name.name-found.ensures _ _ c.in-Accepted.is name.name-found.auto.answer
+    name_room _ _ _ args.answer.now _ args.work.now _ name.name-found.result name.name-found.ensures _ _ c.in-Ok.is name.name-found.auto.answer
 
 pub returns-in_default : goal.returns-in_default
 returns-in_default c =
@@ -45,7 +45,7 @@ returns-in-NotScalar c =
     let found = write in
     let name = found in
     let args = name.args in
-    name_unwritten _ _ _ args.answer.now _ args.work.now _ name.name-found.result name.name-found.ensures _ _ found.in-Accepted.is _ _ _
+    name_unwritten _ _ _ args.answer.now _ args.work.now _ name.name-found.result name.name-found.ensures _ _ found.in-Ok.is _ _ _
     name.name-found.auto.answer
     (writer_refused _ [] _ write.write-written.result write.write-written.ensures _ written.in-NotScalar.is)
     clear.clear.ensures
@@ -71,5 +71,5 @@ returns c =
     let name = found in
     let args = name.args in
     let took = writer_took _ [] _ write.write-written.result write.write-written.ensures (opened match.in_default-written.in_default-written-own.keys2) in
-    name_written _ _ _ args.answer.now _ args.work.now _ name.name-found.result name.name-found.ensures _ _ found.in-Accepted.is _ took.0 took.1
+    name_written _ _ _ args.answer.now _ args.work.now _ name.name-found.result name.name-found.ensures _ _ found.in-Ok.is _ took.0 took.1
     c.node_of-node.ensures

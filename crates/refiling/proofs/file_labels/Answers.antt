@@ -21,11 +21,11 @@ judge_label-judged-requires c =
 
 pub slice_bounds-same-end : goal.slice_bounds-same-end
 slice_bounds-same-end c =
-    judged-room _ _ _ _ _ _ _ _ c.judge_label-judged.ensures.judges _ _ _ c.in-Accepted.is
+    judged-room _ _ _ _ _ _ _ _ c.judge_label-judged.ensures.judges _ c.in-Ok.is
     (omega (arith, c.loop-at.invariant.1.same, c.requires.lent.enough))
 
-pub slice_bounds-same-end-in-Accepted : goal.slice_bounds-same-end-in-Accepted
-slice_bounds-same-end-in-Accepted c = judged_count _ _ _ _ _ _ _ _ c.judge_label-judged.ensures.judges _ _ _ c.in-Accepted.is
+pub slice_bounds-same-end-in-Ok : goal.slice_bounds-same-end-in-Ok
+slice_bounds-same-end-in-Ok c = judged_count _ _ _ _ _ _ _ _ c.judge_label-judged.ensures.judges _ c.in-Ok.is
 
 pub slice_bounds-same-count : goal.slice_bounds-same-count
 slice_bounds-same-count c = omega (arith, c.label_end-end.ensures.from)
@@ -33,27 +33,27 @@ slice_bounds-same-count c = omega (arith, c.label_end-end.ensures.from)
 pub slice_bounds-same-start : goal.slice_bounds-same-start
 slice_bounds-same-start c = omega (arith, c.label_end-end.ensures.from, c.label_end-end.ensures.to)
 
-pub slice_bounds-same-end-in-Accepted-2 : goal.slice_bounds-same-end-in-Accepted-2
-slice_bounds-same-end-in-Accepted-2 c = omega (arith, c.label_end-end.ensures.from, c.label_end-end.ensures.to)
+pub slice_bounds-same-end-in-Ok-2 : goal.slice_bounds-same-end-in-Ok-2
+slice_bounds-same-end-in-Ok-2 c = omega (arith, c.label_end-end.ensures.from, c.label_end-end.ensures.to)
 
 pub overflow_add-len : goal.overflow_add-len
 overflow_add-len c =
     let j = c.judge_label-judged.ensures.judges in
-    let g = c.in-Accepted.is in
-    omega (arith, judged_count _ _ _ _ _ _ _ _ j _ _ _ g, judged_short _ _ _ _ _ _ _ _ j _ _ _ g)
+    let g = c.in-Ok.is in
+    omega (arith, judged_count _ _ _ _ _ _ _ _ j _ g, judged_short _ _ _ _ _ _ _ _ j _ g)
 
-pub overflow_add-len-in-Accepted : goal.overflow_add-len-in-Accepted
-overflow_add-len-in-Accepted c =
+pub overflow_add-len-in-Ok : goal.overflow_add-len-in-Ok
+overflow_add-len-in-Ok c =
     let j = c.judge_label-judged.ensures.judges in
-    let g = c.in-Accepted.is in
+    let g = c.in-Ok.is in
     let i = c.loop-at.invariant.0 in
-    omega (arith, judged_count _ _ _ _ _ _ _ _ j _ _ _ g, judged_short _ _ _ _ _ _ _ _ j _ _ _ g, i.small, i.few, i.inside, c.requires.in_bounds.1)
+    omega (arith, judged_count _ _ _ _ _ _ _ _ j _ g, judged_short _ _ _ _ _ _ _ _ j _ g, i.small, i.few, i.inside, c.requires.in_bounds.1)
 
 pub overflow_add-done : goal.overflow_add-done
-overflow_add-done c = omega (arith, judged-worked _ _ _ _ _ _ _ _ c.judge_label-judged.ensures.judges _ _ _ c.in-Accepted.is)
+overflow_add-done c = omega (arith, judged-worked _ _ _ _ _ _ _ _ c.judge_label-judged.ensures.judges _ c.in-Ok.is)
 
-pub overflow_add-done-in-Accepted : goal.overflow_add-done-in-Accepted
-overflow_add-done-in-Accepted c = omega (arith, judged-worked _ _ _ _ _ _ _ _ c.judge_label-judged.ensures.judges _ _ _ c.in-Accepted.is)
+pub overflow_add-done-in-Ok : goal.overflow_add-done-in-Ok
+overflow_add-done-in-Ok c = omega (arith, judged-worked _ _ _ _ _ _ _ _ c.judge_label-judged.ensures.judges _ c.in-Ok.is)
 
 pub overflow_add-place : goal.overflow_add-place
 overflow_add-place c = let i = c.loop-at.invariant.0 in omega (arith, i.few, i.inside, c.requires.in_bounds.1)
@@ -68,22 +68,22 @@ pub loop-at-preserved : goal.loop-at-preserved
 loop-at-preserved c =
     let j = c.judge_label-judged.ensures in
     let i = c.loop-at.invariant in
-    (rw c.same-alike.ensures (go_more _ _ _ _ _ _ _ i.0 _ c.label_end-end.ensures _ _ _ j.judges _ _ _ c.in-Accepted.is), record { same = j.judges.same ∙ i.1.same; pairs = j.unpaired_2; remembered = j.memo_2 })
+    (rw c.same-alike.ensures (go_more _ _ _ _ _ _ _ i.0 _ c.label_end-end.ensures _ _ _ j.judges _ c.in-Ok.is), record { same = j.judges.same ∙ i.1.same; pairs = j.unpaired_2; remembered = j.memo_2 })
 
-pub shape_of-unpaired-in-Refused : goal.shape_of-unpaired-in-Refused
-shape_of-unpaired-in-Refused c = c.judge_label-judged.ensures.unpaired_2.size ∙ sym c.requires.lent.pairs.size
+pub shape_of-unpaired-in-Err : goal.shape_of-unpaired-in-Err
+shape_of-unpaired-in-Err c = c.judge_label-judged.ensures.unpaired_2.size ∙ sym c.requires.lent.pairs.size
 
-pub shape_of-w-in-Refused : goal.shape_of-w-in-Refused
-shape_of-w-in-Refused c = c.judge_label-judged.ensures.judges.same ∙ c.loop-at.invariant.1.same
+pub shape_of-w-in-Err : goal.shape_of-w-in-Err
+shape_of-w-in-Err c = c.judge_label-judged.ensures.judges.same ∙ c.loop-at.invariant.1.same
 
-pub shape_of-memo-in-Refused : goal.shape_of-memo-in-Refused
-shape_of-memo-in-Refused c = c.judge_label-judged.ensures.memo_2.size ∙ sym c.requires.lent.remembered.size
+pub shape_of-memo-in-Err : goal.shape_of-memo-in-Err
+shape_of-memo-in-Err c = c.judge_label-judged.ensures.memo_2.size ∙ sym c.requires.lent.remembered.size
 
-pub returns-in-Refused : goal.returns-in-Refused
-returns-in-Refused c =
+pub returns-in-Err : goal.returns-in-Err
+returns-in-Err c =
     let j = c.judge_label-judged.ensures in
     let i = c.loop-at.invariant in
-    record { value = rw c.number_of.ensures (go_refused _ _ _ _ _ _ _ i.0 _ c.label_end-end.ensures _ _ _ j.judges _ c.in-Refused.is); lasting = record { same = j.judges.same ∙ i.1.same; pairs = j.unpaired_2; remembered = j.memo_2 } }
+    record { value = rw c.number_of.ensures (go_refused _ _ _ _ _ _ _ i.0 _ c.label_end-end.ensures _ _ _ j.judges _ c.in-Err.is); lasting = record { same = j.judges.same ∙ i.1.same; pairs = j.unpaired_2; remembered = j.memo_2 } }
 
 pub overflow_sub-result : goal.overflow_sub-result
 overflow_sub-result c = omega (arith, c.loop-at.invariant.0.some_done (omega (arith, c.loop-at-test.false)))

@@ -11,21 +11,21 @@ returns-then-labels-eq0 c =
     let a = c.args in
     let j = c.judge_name-judged in
     call_none _ _ _ _ _ a.out.now a.work.now _ j.result j.ensures _ _ (c.clear.ensures ∙ ap (λ (n : ℕ). replicate n 0) j.ensures.same-work) _
-    (rw c.if-labels-eq0.true at c.in-Accepted.is) c.clear_bytes.ensures
+    (rw c.if-labels-eq0.true at c.in-Ok.is) c.clear_bytes.ensures
 
 pub write_report-sink-requires : goal.write_report-sink-requires
 write_report-sink-requires c =
     let a = c.args in
     let j = c.judge_name-judged in
-    call_ready _ _ _ _ _ a.out.now a.work.now _ j.result j.ensures _ _ c.in-Accepted.is (omega (arith, c.if-labels-eq0.false))
+    call_ready _ _ _ _ _ a.out.now a.work.now _ j.result j.ensures _ _ c.in-Ok.is (omega (arith, c.if-labels-eq0.false))
 
 pub returns-then-sink : goal.returns-then-sink
 returns-then-sink c =
     let a = c.args in
     let j = c.judge_name-judged in
     let w = c.write_report-sink in
-    let cleared = c.clear-in-Accepted.ensures ∙ ap (λ (n : ℕ). replicate n 0) (w.auto.w ∙ j.ensures.same-work) in
-    call_over _ _ _ _ _ a.out.now a.work.now _ j.result j.ensures _ _ c.in-Accepted.is (omega (arith, c.if-labels-eq0.false)) _ _ _ w.ensures _ cleared c.if-sink.true
+    let cleared = c.clear-in-Ok.ensures ∙ ap (λ (n : ℕ). replicate n 0) (w.auto.w ∙ j.ensures.same-work) in
+    call_over _ _ _ _ _ a.out.now a.work.now _ j.result j.ensures _ _ c.in-Ok.is (omega (arith, c.if-labels-eq0.false)) _ _ _ w.ensures _ cleared c.if-sink.true
     c.clear_bytes-then-sink.ensures
 
 pub slice_bounds-clear_bytes-count : goal.slice_bounds-clear_bytes-count
@@ -39,13 +39,13 @@ returns-else-sink c =
     let a = c.args in
     let j = c.judge_name-judged in
     let w = c.write_report-sink in
-    let cleared = c.clear-in-Accepted.ensures ∙ ap (λ (n : ℕ). replicate n 0) (w.auto.w ∙ j.ensures.same-work) in
-    call_written _ _ _ _ _ a.out.now a.work.now _ j.result j.ensures _ _ c.in-Accepted.is (omega (arith, c.if-labels-eq0.false)) _ _ _ w.ensures _ cleared c.if-sink.false _
-    c.clear_bytes-in-Accepted.ensures refl
+    let cleared = c.clear-in-Ok.ensures ∙ ap (λ (n : ℕ). replicate n 0) (w.auto.w ∙ j.ensures.same-work) in
+    call_written _ _ _ _ _ a.out.now a.work.now _ j.result j.ensures _ _ c.in-Ok.is (omega (arith, c.if-labels-eq0.false)) _ _ _ w.ensures _ cleared c.if-sink.false _
+    c.clear_bytes-in-Ok.ensures refl
 
-pub returns-in-Refused : goal.returns-in-Refused
-returns-in-Refused c =
+pub returns-in-Err : goal.returns-in-Err
+returns-in-Err c =
     let a = c.args in
     let j = c.judge_name-judged in
-    call_refused _ _ _ _ _ a.out.now a.work.now _ j.result j.ensures _ _ (c.clear-in-Refused.ensures ∙ ap (λ (n : ℕ). replicate n 0) j.ensures.same-work) _ c.in-Refused.is
-    c.clear_bytes-in-Refused.ensures
+    call_refused _ _ _ _ _ a.out.now a.work.now _ j.result j.ensures _ _ (c.clear-in-Err.ensures ∙ ap (λ (n : ℕ). replicate n 0) j.ensures.same-work) _ c.in-Err.is
+    c.clear_bytes-in-Err.ensures

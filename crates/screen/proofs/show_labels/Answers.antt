@@ -1,6 +1,7 @@
 use Prim.Native.Nat.{◌-◌}
 use native.Mathlib.Omega.{arith}
 use mathlib.Core.Path.{refl, sym, ◌∙◌}
+use Rattle.std.proofs.lemmas.Result.{err_from_is_err_and}
 use Rattle.name.proofs.Parting.{label-length}
 use Rattle.screen.proofs.Passing.{pass_start, pass_empty, pass_done, pass_refused, pass_barred, pass_walks, pass_worked, pass_room, pass_more}
 use Rattle.screen.proofs.show_labels.Goals as goal
@@ -16,8 +17,8 @@ loop-at-init c =
 pub slice_bounds-judge_label-end-in-loop-at : goal.slice_bounds-judge_label-end-in-loop-at
 slice_bounds-judge_label-end-in-loop-at c = sym c.loop-at.invariant.1.0.size
 
-pub judge_label-judged-requires : goal.judge_label-judged-requires
-judge_label-judged-requires c =
+pub judge_label-requires : goal.judge_label-requires
+judge_label-requires c =
     let p = c.requires in
     let i = c.loop-at.invariant in
     let e = c.label_end-end.ensures in
@@ -28,14 +29,14 @@ pub shape_of-answer-then-is_barred : goal.shape_of-answer-then-is_barred
 shape_of-answer-then-is_barred c = c.loop-at.invariant.0.same
 
 pub shape_of-w-then-is_barred : goal.shape_of-w-then-is_barred
-shape_of-w-then-is_barred c = c.judge_label-judged.ensures.judges.same ∙ c.loop-at.invariant.0.same-work
+shape_of-w-then-is_barred c = c.judge_label.ensures.judges.same ∙ c.loop-at.invariant.0.same-work
 
 pub shape_of-memo-then-is_barred : goal.shape_of-memo-then-is_barred
-shape_of-memo-then-is_barred c = c.judge_label-judged.ensures.memo_2.size ∙ sym c.requires.memo.size
+shape_of-memo-then-is_barred c = c.judge_label.ensures.memo_2.size ∙ sym c.requires.memo.size
 
 pub returns-then-is_barred : goal.returns-then-is_barred
 returns-then-is_barred c =
-    pass_barred _ _ _ _ _ _ _ _ _ _ _ _ c.loop-at.invariant.0 _ c.label_end-end.ensures _ _ c.judge_label-judged.ensures.judges _ _ _ c.in-Accepted.is (sym c.is_barred.ensures ∙ c.if-is_barred.true)
+    pass_barred _ _ _ _ _ _ _ _ _ _ _ _ c.loop-at.invariant.0 _ c.label_end-end.ensures _ _ c.judge_label.ensures.judges _ _ _ c.in_ok-judged.was (sym c.is_barred.ensures ∙ c.if-is_barred.true)
 
 pub slice_bounds-put_label-end : goal.slice_bounds-put_label-end
 slice_bounds-put_label-end c = omega arith
@@ -45,37 +46,37 @@ put_label-from-requires c =
     let i = c.loop-at.invariant.0 in
     (omega (arith, i.small, i.inside, c.requires.least_work_in_bounds.1), omega arith)
 
-pub offset_bounds-name-at-in-Accepted : goal.offset_bounds-name-at-in-Accepted
-offset_bounds-name-at-in-Accepted c =
+pub offset_bounds-name-at-in-loop-at : goal.offset_bounds-name-at-in-loop-at
+offset_bounds-name-at-in-loop-at c =
     record { fits = omega (arith, c.label_end-end.ensures.from, c.label_end-end.ensures.to, c.requires.least_work_in_bounds.1) }
 
-pub slice_bounds-show_label-end-in-Accepted : goal.slice_bounds-show_label-end-in-Accepted
-slice_bounds-show_label-end-in-Accepted c = sym c.judge_label-judged.ensures.unpaired_2.size
+pub slice_bounds-show_label-end-in-loop-at : goal.slice_bounds-show_label-end-in-loop-at
+slice_bounds-show_label-end-in-loop-at c = sym c.judge_label.ensures.unpaired_2.size
 
 pub show_label-len-requires : goal.show_label-len-requires
 show_label-len-requires c =
     let p = c.requires in
     let i = c.loop-at.invariant.0 in
     let e = c.label_end-end.ensures in
-    let j = c.judge_label-judged.ensures in
+    let j = c.judge_label.ensures in
     let size = label-length _ _ _ e in record {
       laid = p.laid;
       unpaired = j.unpaired_2;
       least_work_in_bounds = (
         omega (arith, p.least_work_in_bounds.0, i.same-work, j.judges.same),
         omega (arith, size, e.to, p.least_work_in_bounds.1),
-        pass_room _ _ _ _ _ _ _ _ _ _ _ _ c.loop-at.invariant.0 _ c.label_end-end.ensures _ _ c.judge_label-judged.ensures.judges _ _ _ c.in-Accepted.is _ _ c.put_label-from.ensures p.least_work_in_bounds.1,
+        pass_room _ _ _ _ _ _ _ _ _ _ _ _ c.loop-at.invariant.0 _ c.label_end-end.ensures _ _ c.judge_label.ensures.judges _ _ _ c.in_ok-judged.was _ _ c.put_label-from.ensures p.least_work_in_bounds.1,
       );
-      walkable = pass_walks _ _ _ _ _ _ _ _ _ _ _ _ c.loop-at.invariant.0 _ c.label_end-end.ensures _ _ c.judge_label-judged.ensures.judges _ _ _ c.in-Accepted.is;
+      walkable = pass_walks _ _ _ _ _ _ _ _ _ _ _ _ c.loop-at.invariant.0 _ c.label_end-end.ensures _ _ c.judge_label.ensures.judges _ _ _ c.in_ok-judged.was;
     }
 
 pub overflow_add-done : goal.overflow_add-done
 overflow_add-done c =
-    omega (arith, pass_worked _ _ _ _ _ _ _ _ _ _ _ _ c.loop-at.invariant.0 _ c.label_end-end.ensures _ _ c.judge_label-judged.ensures.judges _ _ _ c.in-Accepted.is)
+    omega (arith, pass_worked _ _ _ _ _ _ _ _ _ _ _ _ c.loop-at.invariant.0 _ c.label_end-end.ensures _ _ c.judge_label.ensures.judges _ _ _ c.in_ok-judged.was)
 
-pub overflow_add-done-in-Accepted : goal.overflow_add-done-in-Accepted
-overflow_add-done-in-Accepted c =
-    omega (arith, pass_worked _ _ _ _ _ _ _ _ _ _ _ _ c.loop-at.invariant.0 _ c.label_end-end.ensures _ _ c.judge_label-judged.ensures.judges _ _ _ c.in-Accepted.is)
+pub overflow_add-done-in-loop-at : goal.overflow_add-done-in-loop-at
+overflow_add-done-in-loop-at c =
+    omega (arith, pass_worked _ _ _ _ _ _ _ _ _ _ _ _ c.loop-at.invariant.0 _ c.label_end-end.ensures _ _ c.judge_label.ensures.judges _ _ _ c.in_ok-judged.was)
 
 pub overflow_add-place : goal.overflow_add-place
 overflow_add-place c =
@@ -90,23 +91,24 @@ loop-at-smaller c = omega (arith, c.label_end-end.ensures.from, c.label_end-end.
 
 pub loop-at-preserved : goal.loop-at-preserved
 loop-at-preserved c = (
-  pass_more _ _ _ _ _ _ _ _ _ _ _ _ c.loop-at.invariant.0 _ c.label_end-end.ensures _ _ c.judge_label-judged.ensures.judges _ _ _ c.in-Accepted.is _ _ c.put_label-from.ensures
+  pass_more _ _ _ _ _ _ _ _ _ _ _ _ c.loop-at.invariant.0 _ c.label_end-end.ensures _ _ c.judge_label.ensures.judges _ _ _ c.in_ok-judged.was _ _ c.put_label-from.ensures
       (sym c.is_barred.ensures ∙ c.if-is_barred.false) _ _ _ (rw c.is_greek-own.ensures at c.show_label-len.ensures.shows_label) c.show_label-len.auto.w,
-  (c.show_label-len.ensures.unpaired_2, c.judge_label-judged.ensures.memo_2),
+  (c.show_label-len.ensures.unpaired_2, c.judge_label.ensures.memo_2),
 )
 
-pub shape_of-answer-in-Refused : goal.shape_of-answer-in-Refused
-shape_of-answer-in-Refused c = c.loop-at.invariant.0.same
+pub shape_of-answer-in_err-judged : goal.shape_of-answer-in_err-judged
+shape_of-answer-in_err-judged c = c.loop-at.invariant.0.same
 
-pub shape_of-w-in-Refused : goal.shape_of-w-in-Refused
-shape_of-w-in-Refused c = c.judge_label-judged.ensures.judges.same ∙ c.loop-at.invariant.0.same-work
+pub shape_of-w-in_err-judged : goal.shape_of-w-in_err-judged
+shape_of-w-in_err-judged c = c.judge_label.ensures.judges.same ∙ c.loop-at.invariant.0.same-work
 
-pub shape_of-memo-in-Refused : goal.shape_of-memo-in-Refused
-shape_of-memo-in-Refused c = c.judge_label-judged.ensures.memo_2.size ∙ sym c.requires.memo.size
+pub shape_of-memo-in_err-judged : goal.shape_of-memo-in_err-judged
+shape_of-memo-in_err-judged c = c.judge_label.ensures.memo_2.size ∙ sym c.requires.memo.size
 
-pub returns-in-Refused : goal.returns-in-Refused
-returns-in-Refused c =
-    pass_refused _ _ _ _ _ _ _ _ _ _ _ _ c.loop-at.invariant.0 _ c.label_end-end.ensures _ _ c.judge_label-judged.ensures.judges _ c.in-Refused.is
+pub returns-in_err-judged : goal.returns-in_err-judged
+returns-in_err-judged c =
+    let p = err_from_is_err_and c.from_residual.result c.from_residual.ensures.1 in
+    rw (p.1, p.2) (pass_refused _ _ _ _ _ _ _ _ _ _ _ _ c.loop-at.invariant.0 _ c.label_end-end.ensures _ _ c.judge_label.ensures.judges _ c.in_err-judged.was)
 
 pub shape_of-answer : goal.shape_of-answer
 shape_of-answer c = c.loop-at.invariant.0.same

@@ -2,7 +2,7 @@
 use Rattle.sections.specs.Laid.{Laid}
 use Rattle.name.proofs.Admitting.{admitted-fault, admitted-work, admitted_long, admitted_scalar, admitted-all}
 use Rattle.name.proofs.admit.admit.Goals as goal
-use Rattle.name.proofs.admit.admit.Goals.{In-At, In-Nothing, Then-input-gt-MOST_INPUT, Then-work-lt-LEAST_WORK}
+use Rattle.name.proofs.admit.admit.Goals.{In-Some, In-None, Then-input-gt-MOST_INPUT, Then-work-lt-LEAST_WORK}
 
 -- the sections are found, once the match has said so
 laid-at-Then-work-lt-LEAST_WORK : (c : Then-work-lt-LEAST_WORK) → Laid c.args.words.now c.in-Found.ix
@@ -13,12 +13,12 @@ laid-at-Then-input-gt-MOST_INPUT : (c : Then-input-gt-MOST_INPUT) → Laid c.arg
 laid-at-Then-input-gt-MOST_INPUT c = c.layout.ensures.found _ c.in-Found.is
 
 -- the sections are found, once the match has said so
-laid-at-In-At : (c : In-At) → Laid c.args.words.now c.in-Found.ix
-laid-at-In-At c = c.layout.ensures.found _ c.in-Found.is
+laid-at-In-Some : (c : In-Some) → Laid c.args.words.now c.in-Found.ix
+laid-at-In-Some c = c.layout.ensures.found _ c.in-Found.is
 
 -- the sections are found, once the match has said so
-laid-at-In-Nothing : (c : In-Nothing) → Laid c.args.words.now c.in-Found.ix
-laid-at-In-Nothing c = c.layout.ensures.found _ c.in-Found.is
+laid-at-In-None : (c : In-None) → Laid c.args.words.now c.in-Found.ix
+laid-at-In-None c = c.layout.ensures.found _ c.in-Found.is
 
 pub returns-then-work-lt-LEAST_WORK : goal.returns-then-work-lt-LEAST_WORK
 returns-then-work-lt-LEAST_WORK c = admitted-work _ _ _ _ (laid-at-Then-work-lt-LEAST_WORK c) c.if-work-lt-LEAST_WORK.true
@@ -29,12 +29,12 @@ returns-then-input-gt-MOST_INPUT c = admitted_long _ _ _ _ (laid-at-Then-input-g
 pub returns-in-Fault : goal.returns-in-Fault
 returns-in-Fault c = admitted-fault _ _ _ (c.layout.ensures.fault c.in-Fault.is)
 
-pub returns-in-At : goal.returns-in-At
-returns-in-At c =
+pub returns-in-Some : goal.returns-in-Some
+returns-in-Some c =
     let s = c in
-    admitted_scalar _ _ _ _ (laid-at-In-At s) s.if-work-lt-LEAST_WORK.false s.if-input-gt-MOST_INPUT.false _ (rw c.in-At.is at s.first_not_scalar.ensures)
+    admitted_scalar _ _ _ _ (laid-at-In-Some s) s.if-work-lt-LEAST_WORK.false s.if-input-gt-MOST_INPUT.false _ (rw c.in-Some.is at s.first_not_scalar.ensures)
 
-pub returns-in-Nothing : goal.returns-in-Nothing
-returns-in-Nothing c =
+pub returns-in-None : goal.returns-in-None
+returns-in-None c =
     let s = c in
-    admitted-all _ _ _ _ (laid-at-In-Nothing s) s.if-work-lt-LEAST_WORK.false s.if-input-gt-MOST_INPUT.false (rw c.in-Nothing.is at s.first_not_scalar.ensures)
+    admitted-all _ _ _ _ (laid-at-In-None s) s.if-work-lt-LEAST_WORK.false s.if-input-gt-MOST_INPUT.false (rw c.in-None.is at s.first_not_scalar.ensures)

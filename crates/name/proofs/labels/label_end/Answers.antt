@@ -1,4 +1,6 @@
-use Prim.Native.Nat.{◌-◌}
+use native.Mathlib.Omega.{arith}
+use mathlib.Core.Path.{◌≡◌}
+use lib.ListN.{length}
 use Rattle.name.proofs.Parting.{seek_start, seek_hit, seek_end, seek_more}
 use Rattle.name.proofs.labels.label_end.Goals as goal
 
@@ -12,4 +14,6 @@ pub loop-i-preserved : goal.loop-i-preserved
 loop-i-preserved c = seek_more _ _ _ c.loop-i.invariant c.loop-i-test.true c.if-input-i-eq46.false
 
 pub returns : goal.returns
-returns c = seek_end _ _ _ c.loop-i.invariant c.loop-i-test.false
+returns c =
+    let end : length c.args.input.now ≡ c.loop-i.i = omega (arith, c.loop-i-test.false) in
+    rw end (seek_end _ _ _ c.loop-i.invariant c.loop-i-test.false)
