@@ -5,7 +5,6 @@ ghost use Rattle.std.specs.Prelude.{◌≡◌};
 ghost use Rattle.emoji_call.specs.EmojiCall.{emoji_values, emoji_call};
 
 use finder::emoji::find;
-use sections::Layout;
 
 // Why there is no answer, no match, or the match: how much of the part it takes, the number of its record from 0, and how many FE0F it takes.
 #[derive(Clone, Copy)]
@@ -24,7 +23,7 @@ pub fn which_emoji(part: &[u32], words: &[u32]) -> EmojiAnswer
     ensures { emoji_values result ≡ emoji_call words.now part.now }
 {
     let laid = layout::layout(words);
-    let Layout::Found(ix) = laid else {
+    let Some(ix) = laid else {
         return EmojiAnswer::LayoutFault;
     };
     let found = find(words, ix, part);

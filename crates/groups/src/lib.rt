@@ -14,7 +14,7 @@ use answers::Refusal;
 use layout::layout;
 use limits::MOST_INPUT;
 use sections::lookup::in_section;
-use sections::{Layout, Sections};
+use sections::Sections;
 use table::lookup::group_at;
 
 // The first group that holds a text: its number and its flags.
@@ -97,8 +97,8 @@ pub fn group(text: &[u32], words: &[u32]) -> GroupAnswer
 {
     let found = layout(words);
     match found {
-        Layout::Fault => GroupAnswer::Refused(Refusal::LayoutFault),
-        Layout::Found(ix) => {
+        None => GroupAnswer::Refused(Refusal::LayoutFault),
+        Some(ix) => {
             if text.len() > MOST_INPUT {
                 return GroupAnswer::Refused(Refusal::InputTooLong);
             }

@@ -1,4 +1,5 @@
 -- What is seen of each section comes to a table that is laid out, or to a fault.
+use Rattle.std.specs.Prelude.{Some, None}
 use Prim.Native.Nat.{ℕ, ◌≤◌}
 use native.Mathlib.Omega.{arith}
 use mathlib.Core.Path.{◌≡◌, refl, sym, subst, ◌∙◌}
@@ -12,7 +13,6 @@ use Rattle.lists.specs.Lists.{is_some, given, and_then}
 use Rattle.table.specs.Layout.{most_items, most_parts, most_groups, most_words, only_if, ranges, class_ranges, headed, sequences, excluded, groups, wholes, table_of, parse}
 use Rattle.table.specs.Spans.{within}
 use Rattle.sections.specs.declared.Sections.{Sections}
-use Rattle.sections.specs.declared.Layout.TheVariants.{Fault, Found}
 use Rattle.sections.specs.Known.{Known, AllSeen}
 use Rattle.sections.specs.Laid.{sections_of, bare, last_end, Laid, LaidOut, parts_of}
 use Rattle.sections.proofs.SectionLaws.{parse_closed}
@@ -88,7 +88,7 @@ each_five a b c d e h =
     (first_true a b h₃, last_true a b h₃, last_true (a && b) c h₂, last_true (a && b && c) d h₁, last_true (a && b && c && d) e h)
 
 -- the two ends
-pub fault_out : (ws : List ℕ) → parse ws ≡ none → LaidOut ws Fault
+pub fault_out : (ws : List ℕ) → parse ws ≡ none → LaidOut ws None
 fault_out ws e =
     record {
       fault = λ q. e;
@@ -96,7 +96,7 @@ fault_out ws e =
       seen = λ ix q. let z : ◌≡◌ {A = ℕ} 0 1 = cc in absurd (omega arith);
     }
 
-found_out : (ws : List ℕ) (ix : Sections) → Laid ws ix → AllSeen ws ix → LaidOut ws (Found ix)
+found_out : (ws : List ℕ) (ix : Sections) → Laid ws ix → AllSeen ws ix → LaidOut ws (Some ix)
 found_out ws ix l s =
     record {
       fault = λ q. let z : ◌≡◌ {A = ℕ} 0 1 = cc in absurd (omega arith);
@@ -196,11 +196,11 @@ module _ (ws : List ℕ) (ix : Sections) (s : Sets) (o : Others) (f : SetsFound 
     told : is_some (parse ws) ≡ all_fit s o
     told = rw (parse_closed ws small end, ← same) (sym all_fit_lem)
 
-    pub all_laid : all_fit s o ≡ true → LaidOut ws (Found (found_of ix s o))
+    pub all_laid : all_fit s o ≡ true → LaidOut ws (Some (found_of ix s o))
     unfolding sections_of bare
     all_laid e =
         let l : Laid ws (found_of ix s o) = record { parses = told ∙ e; places = rw same; known = known e } in
         found_out ws (found_of ix s o) l (all_seen e)
 
-    pub not_laid : all_fit s o ≡ false → LaidOut ws Fault
+    pub not_laid : all_fit s o ≡ false → LaidOut ws None
     not_laid e = fault_out ws (nothing (parse ws) (told ∙ e))

@@ -2,7 +2,7 @@
 #![tactic(auto)]
 
 use section_places::places;
-use sections::{Layout, Sections};
+use sections::Sections;
 use seen_parts::{classes_in, excluded_in, firsts_in, groups_in, heads_in, pairs_in, wholes_in};
 use seen_sections::{Others, Sets, all_fit, found_of};
 
@@ -64,21 +64,21 @@ fn others_found(words: &[u32], ix: Sections) -> Others
 }
 
 // The places of the sections and what is found of them, or a fault where the words are not a table.
-pub fn layout(words: &[u32]) -> Layout
+pub fn layout(words: &[u32]) -> Option<Sections>
     ensures { LaidOut words.now result }
 {
     if words.len() > MOST_WORDS {
-        return Layout::Fault;
+        return None;
     }
     let ix = places(words);
     let end = ix.quick.to;
     if end != words.len() {
-        return Layout::Fault;
+        return None;
     }
     let sets = sets_found(words, ix);
     let others = others_found(words, ix);
     if all_fit(sets, others) {
-        return Layout::Found(found_of(ix, sets, others));
+        return Some(found_of(ix, sets, others));
     }
-    Layout::Fault
+    None
 }

@@ -7,7 +7,7 @@ ghost use Rattle.name.specs.Admission.{place_is, AdmissionIs};
 use answers::Refusal;
 use limits::{LEAST_WORK, MOST_INPUT};
 use scalar::is_scalar;
-use sections::{Layout, Sections};
+use sections::Sections;
 
 // Where the first codepoint stands that is no scalar value.
 pub fn first_not_scalar(input: &[u32]) -> Option<usize>
@@ -25,19 +25,17 @@ pub fn first_not_scalar(input: &[u32]) -> Option<usize>
 pub fn admit(words: &[u32], input: &[u32], work: usize) -> Result<Sections, Refusal>
     ensures { AdmissionIs words.now input.now work result }
 {
-    match layout::layout(words) {
-        Layout::Fault => Err(Refusal::LayoutFault),
-        Layout::Found(ix) => {
-            if work < LEAST_WORK {
-                return Err(Refusal::WorkAreaTooSmall);
-            }
-            if MOST_INPUT < input.len() {
-                return Err(Refusal::InputTooLong);
-            }
-            match first_not_scalar(input) {
-                Some(i) => Err(Refusal::NotScalar(i)),
-                None => Ok(ix),
-            }
-        }
+    let Some(ix) = layout::layout(words) else {
+        return Err(Refusal::LayoutFault);
+    };
+    if work < LEAST_WORK {
+        return Err(Refusal::WorkAreaTooSmall);
+    }
+    if MOST_INPUT < input.len() {
+        return Err(Refusal::InputTooLong);
+    }
+    match first_not_scalar(input) {
+        Some(i) => Err(Refusal::NotScalar(i)),
+        None => Ok(ix),
     }
 }

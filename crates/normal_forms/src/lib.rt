@@ -11,7 +11,6 @@ ghost use Rattle.normal_forms.specs.Promise.{Stands, Forms};
 use composition::compose::compose;
 use ending::finish;
 use full_decomposition::{FormError, decomposed};
-use sections::Layout;
 use unpaired::KNOWN_WORDS;
 use unpaired::index::index_pairs;
 
@@ -26,8 +25,8 @@ fn nfd_front(
 {
     let found = layout::layout(words);
     match found {
-        Layout::Fault => Err(FormError::LayoutFault),
-        Layout::Found(ix) => decomposed(words, ix, text, answer, work),
+        None => Err(FormError::LayoutFault),
+        Some(ix) => decomposed(words, ix, text, answer, work),
     }
 }
 
@@ -41,7 +40,7 @@ fn nfc_front(
     ensures { Stands nfc text.now words.now answer.old answer.new (length work.old) result }
 {
     let found = layout::layout(words);
-    let Layout::Found(ix) = found else {
+    let Some(ix) = found else {
         return Err(FormError::LayoutFault);
     };
     let n = decomposed(words, ix, text, answer, work)?;

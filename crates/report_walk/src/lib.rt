@@ -17,7 +17,7 @@ use byte_sink::Sink;
 use layout::layout;
 use name::labels::label_end;
 use report_lines::put_line;
-use sections::{Layout, Sections};
+use sections::Sections;
 use token_walk::next_token;
 use unpaired::KNOWN_WORDS;
 use unpaired::index::index_pairs;
@@ -87,7 +87,7 @@ pub fn write_report(words: &[u32], name: &[u32], out: &mut [u8], w: &mut [u32]) 
     ensures { Adds out.old out.new (report (the_table words.now) name.now) nothing result }
 {
     match layout(words) {
-        Layout::Found(ix) => report_labels(words, ix, name, out, w),
-        Layout::Fault => Sink { at: 0, full: true },
+        Some(ix) => report_labels(words, ix, name, out, w),
+        None => Sink { at: 0, full: true },
     }
 }

@@ -1,5 +1,6 @@
 -- How the code sees a table: its words and the places of the sections among them.
-use Rattle.std.specs.Prelude.{ℕ, ◌+◌, ◌≡◌, true, false, ◌&&◌, cond, List, [], ◌∷◌, length, get_or, leb, ltb}
+use Rattle.std.specs.Prelude.{ℕ, ◌+◌, ◌≡◌, true, false, ◌&&◌, cond, List, [], ◌∷◌, length, get_or, leb, ltb, Some, None}
+use Rattle.std.specs.declared.option.Option as found
 use Rattle.std.proofs.Math.Option.{none}
 use Rattle.lists.specs.Lists.{is_some}
 use Rattle.table.specs.declared.Span.{Span}
@@ -7,8 +8,6 @@ use Rattle.table.specs.Layout.{parse}
 use Rattle.table.specs.Spans.{within, Fits}
 use Rattle.sections.specs.Known.{none_sorted, no_starts, Known, AllSeen}
 use Rattle.sections.specs.declared.Sections.{Sections}
-use Rattle.sections.specs.declared.Layout.{Layout}
-use Rattle.sections.specs.declared.Layout.TheVariants.{Fault, Found}
 
 -- the section whose count stands at `at`; where there is none, an empty one past the end of the words, behind which none is found
 unfoldable pub span_at : List ℕ → ℕ → Span
@@ -121,7 +120,7 @@ pub record Laid (ws : List ℕ) (ix : Sections) : Type 0 where
   pub known : Known ws ix
 
 -- what the layout pass answers: a fault exactly where the words are not a table, and else the places and every section that is sorted
-pub record LaidOut (ws : List ℕ) (r : Layout) : Type 0 where
-  pub fault : r ≡ Fault → parse ws ≡ none
-  pub found : (ix : Sections) → r ≡ Found ix → Laid ws ix
-  pub seen : (ix : Sections) → r ≡ Found ix → AllSeen ws ix
+pub record LaidOut (ws : List ℕ) (r : found.Option Sections) : Type 0 where
+  pub fault : r ≡ None → parse ws ≡ none
+  pub found : (ix : Sections) → r ≡ Some ix → Laid ws ix
+  pub seen : (ix : Sections) → r ≡ Some ix → AllSeen ws ix

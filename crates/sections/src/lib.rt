@@ -55,10 +55,3 @@ pub struct Sections {
     pub sorted: Sorted,
     pub starts: Starts,
 }
-
-// What the layout pass finds.
-#[derive(Clone, Copy)]
-pub enum Layout {
-    Fault,
-    Found(Sections),
-}

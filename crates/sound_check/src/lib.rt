@@ -20,7 +20,7 @@ use rule_5::rule5;
 use rule_6::rule6;
 use rule_7::rule7;
 use rule_8::rule8;
-use sections::{Layout, Sections};
+use sections::Sections;
 
 // The lowest of rules 1 to 5 that a table breaks.
 fn first_rules(words: &[u32], ix: Sections) -> Soundness
@@ -98,7 +98,7 @@ pub fn soundness(words: &[u32]) -> Soundness
     ensures { broken_rule result ≡ soundness_of words.now }
 {
     match layout(words) {
-        Layout::Fault => Soundness::Broken(0),
-        Layout::Found(ix) => rules(words, ix),
+        None => Soundness::Broken(0),
+        Some(ix) => rules(words, ix),
     }
 }

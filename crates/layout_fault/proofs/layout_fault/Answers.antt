@@ -2,8 +2,8 @@
 use Rattle.layout_fault.proofs.Told.{fault-told, found-told}
 use Rattle.layout_fault.proofs.layout_fault.Goals as goal
 
-pub returns-in-Fault : goal.returns-in-Fault
-returns-in-Fault c = fault-told _ (c.layout-found.ensures.fault c.in-Fault.is)
+pub returns-in-None : goal.returns-in-None
+returns-in-None c = fault-told _ (c.layout.ensures.fault c.in-None.is)
 
-pub returns-in-Found : goal.returns-in-Found
-returns-in-Found c = found-told _ _ (c.layout-found.ensures.found _ c.in-Found.is)
+pub returns-in-Some : goal.returns-in-Some
+returns-in-Some c = found-told _ _ (c.layout.ensures.found _ c.in-Some.is)

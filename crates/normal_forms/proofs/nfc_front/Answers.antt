@@ -30,16 +30,16 @@ pub returns-in_default : goal.returns-in_default
 returns-in_default c = fault_stands _ _ _ _ _ (c.layout-found.ensures.fault c.in_default.is)
 
 pub decomposed-requires : goal.decomposed-requires
-decomposed-requires c = c.layout-found.ensures.found _ c.in-Found.is
+decomposed-requires c = c.layout-found.ensures.found _ c.in-Some.is
 
 pub returns-in_err-n : goal.returns-in_err-n
 returns-in_err-n c =
-    let told = refused_stands _ _ _ _ _ _ _ (c.layout-found.ensures.found _ c.in-Found.is) nfc _ _ c.in_err-n.was (omega arith) c.decomposed.ensures in
+    let told = refused_stands _ _ _ _ _ _ _ (c.layout-found.ensures.found _ c.in-Some.is) nfc _ _ c.in_err-n.was (omega arith) c.decomposed.ensures in
     let same : c.from_residual.result ≡ Err c.in_err-n.field-0.0 = search rules in
     rw same told
 
 pub index_pairs-requires : goal.index_pairs-requires
-index_pairs-requires c = record { laid = c.layout-found.ensures.found _ c.in-Found.is; unpaired_value = refl }
+index_pairs-requires c = record { laid = c.layout-found.ensures.found _ c.in-Some.is; unpaired_value = refl }
 
 pub slice_bounds-compose-end : goal.slice_bounds-compose-end
 slice_bounds-compose-end c = sym c.index_pairs.ensures.size
@@ -58,8 +58,8 @@ slice_bounds-compose-end-5 c = sym (length-take-le _ _ (there-at-After-compose-a
 
 pub compose-left-requires : goal.compose-left-requires
 compose-left-requires c =
-    record { laid = c.layout-found.ensures.found _ c.in-Found.is; unpaired = c.index_pairs.ensures; ready = ordered_ready _ _ _ _ _ _ _ (there-at-After-compose-arg-1 c) }
+    record { laid = c.layout-found.ensures.found _ c.in-Some.is; unpaired = c.index_pairs.ensures; ready = ordered_ready _ _ _ _ _ _ _ (there-at-After-compose-arg-1 c) }
 
 pub returns : goal.returns
 returns c =
-    composed_stands _ _ _ _ _ _ _ (c.layout-found.ensures.found _ c.in-Found.is) _ _ _ (omega arith) (there-at-After-slice_known-5-1 c) c.compose-left.ensures.composed_into
+    composed_stands _ _ _ _ _ _ _ (c.layout-found.ensures.found _ c.in-Some.is) _ _ _ (omega arith) (there-at-After-slice_known-5-1 c) c.compose-left.ensures.composed_into

@@ -6,7 +6,7 @@ pub report_labels-requires : goal.report_labels-requires
 report_labels-requires c =
     let p = c.requires in
     let l = c in
-    record { laid = l.layout.ensures.found _ c.in-Found.is; least_work_in_bounds = (p.enough, p.short, p.some_name); every = p.labels }
+    record { laid = l.layout.ensures.found _ c.in-Some.is; least_work_in_bounds = (p.enough, p.short, p.some_name); every = p.labels }
 
-pub returns-in-Fault : goal.returns-in-Fault
-returns-in-Fault c = absurd (never_fault _ c.requires.table (c.layout.ensures.fault c.in-Fault.is))
+pub returns-in-None : goal.returns-in-None
+returns-in-None c = absurd (never_fault _ c.requires.table (c.layout.ensures.fault c.in-None.is))
