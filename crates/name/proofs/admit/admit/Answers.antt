@@ -2,7 +2,7 @@
 use Rattle.sections.specs.Laid.{Laid}
 use Rattle.name.proofs.Admitting.{admitted-fault, admitted-work, admitted_long, admitted_scalar, admitted-all}
 use Rattle.name.proofs.admit.admit.Goals as goal
-use Rattle.name.proofs.admit.admit.Goals.{In-Some, In-None, Then-input-gt-MOST_INPUT, Then-work-lt-LEAST_WORK}
+use Rattle.name.proofs.admit.admit.Goals.{In-Some-first_not_scalar, In-None, Then-input-gt-MOST_INPUT, Then-work-lt-LEAST_WORK}
 
 -- the sections are found, once the match has said so
 laid-at-Then-work-lt-LEAST_WORK : (c : Then-work-lt-LEAST_WORK) → Laid c.args.words.now c.in-Some.ix
