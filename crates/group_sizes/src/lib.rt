@@ -131,8 +131,5 @@ pub fn groups_fit(part: &[u32]) -> Seen
         sorted = sorted & group.sorted;
         at += group.size;
     }
-    Seen {
-        fits: true,
-        sorted,
-    }
+    Seen { fits: true, sorted }
 }
