@@ -98,7 +98,7 @@ fn group_size(rest: &[u32]) -> GroupSeen
     if pairs.fits {
         let size = group_end(rest, to, flags / 4 % 2 == 1);
         return GroupSeen {
-            size: size,
+            size,
             sorted: pairs.sorted,
         };
     }
@@ -112,6 +112,7 @@ pub fn groups_fit(part: &[u32]) -> Seen
     let mut at: usize = 0;
     let mut left: usize = MOST_GROUPS;
     let mut sorted = true;
+    // by hand: a record's length is its own, and the place goes on by it
     while at < part.len() {
         if left == 0 {
             return Seen {
@@ -130,8 +131,5 @@ pub fn groups_fit(part: &[u32]) -> Seen
         sorted = sorted & group.sorted;
         at += group.size;
     }
-    Seen {
-        fits: true,
-        sorted: sorted,
-    }
+    Seen { fits: true, sorted }
 }

@@ -30,13 +30,13 @@ fn sets_found(words: &[u32], ix: Sections) -> Sets
     let escape = pairs_in(words, ix.escape);
     let quick = pairs_in(words, ix.quick);
     Sets {
-        valid: valid,
-        ignored: ignored,
-        fenced: fenced,
-        marks: marks,
-        nsm: nsm,
-        escape: escape,
-        quick: quick,
+        valid,
+        ignored,
+        fenced,
+        marks,
+        nsm,
+        escape,
+        quick,
     }
 }
 
@@ -53,13 +53,13 @@ fn others_found(words: &[u32], ix: Sections) -> Others
     let groups = groups_in(words, ix.groups);
     let wholes = wholes_in(words, ix.wholes);
     Others {
-        mapped: mapped,
-        decompositions: decompositions,
-        emoji: emoji,
-        exclusions: exclusions,
-        classes: classes,
-        groups: groups,
-        wholes: wholes,
+        mapped,
+        decompositions,
+        emoji,
+        exclusions,
+        classes,
+        groups,
+        wholes,
     }
 }
 

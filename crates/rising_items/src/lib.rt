@@ -9,10 +9,8 @@ pub fn items_rise(items: &[u32]) -> bool
     ensures { (result ≡ true) ↔ Apart 1 0 items.now }
 {
     let mut rise = true;
-    let mut i: usize = 1;
-    while i < items.len() {
+    for i in 1..items.len() {
         rise = rise & (items[i - 1] < items[i]);
-        i += 1;
     }
     rise
 }

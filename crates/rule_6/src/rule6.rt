@@ -21,8 +21,8 @@ use sections::Sections;
 use sound_choices::choices::find_first;
 use sound_parts::spared::{classes_spare_of, plain_head};
 use sound_rounds::rounds::{choose_rounds, no_syllables, reach};
-use table::lookup::{counted, head_in};
 use table::Span;
+use table::lookup::{counted, head_in};
 use text::hangul::is_syllable;
 
 const WINDOW: u32 = 0x10000;

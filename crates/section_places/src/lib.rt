@@ -17,10 +17,7 @@ fn span_at(words: &[u32], at: usize) -> Span
         let n = words[at] as usize;
         if n < words.len() - at {
             let from = at + 1;
-            return Span {
-                from: from,
-                to: from + n,
-            };
+            return Span { from, to: from + n };
         }
     }
     let past = words.len() + 1;
@@ -84,21 +81,21 @@ pub fn places(words: &[u32]) -> Sections
     let sorted = none_sorted();
     let starts = no_starts();
     Sections {
-        valid: valid,
-        ignored: ignored,
-        fenced: fenced,
-        marks: marks,
-        nsm: nsm,
-        mapped: mapped,
-        decompositions: decompositions,
-        emoji: emoji,
-        exclusions: exclusions,
-        classes: classes,
-        groups: groups,
-        wholes: wholes,
-        escape: escape,
-        quick: quick,
-        sorted: sorted,
-        starts: starts,
+        valid,
+        ignored,
+        fenced,
+        marks,
+        nsm,
+        mapped,
+        decompositions,
+        emoji,
+        exclusions,
+        classes,
+        groups,
+        wholes,
+        escape,
+        quick,
+        sorted,
+        starts,
     }
 }

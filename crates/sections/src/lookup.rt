@@ -22,12 +22,11 @@ pub fn in_section(words: &[u32], s: Span, sorted: bool, c: u32) -> bool
     requires { Fits words.now s × PairsKnown (within s words.now) sorted }
     ensures { result ≡ in_pairs c (within s words.now) }
 {
-    let from = s.from;
-    let to = s.to;
+    let part = s.of(words);
     if sorted {
-        return in_apart(&words[from..to], c);
+        return in_apart(part, c);
     }
-    in_pairs(&words[from..to], c)
+    in_pairs(part, c)
 }
 
 // The class of the first triple of a section with c in it, or 0.
@@ -35,12 +34,11 @@ fn class_section(words: &[u32], s: Span, sorted: bool, c: u32) -> u32
     requires { Fits words.now s × (sorted ≡ true → Apart 3 1 (within s words.now)) }
     ensures { result ≡ class_among c (within s words.now) }
 {
-    let from = s.from;
-    let to = s.to;
+    let part = s.of(words);
     if sorted {
-        return class_apart(&words[from..to], c);
+        return class_apart(part, c);
     }
-    class_in(&words[from..to], c)
+    class_in(part, c)
 }
 
 // Whether c is one of the items of a section.
@@ -48,12 +46,11 @@ fn mem_section(words: &[u32], s: Span, sorted: bool, c: u32) -> bool
     requires { Fits words.now s × (sorted ≡ true → Apart 1 0 (within s words.now)) }
     ensures { result ≡ mem c (within s words.now) }
 {
-    let from = s.from;
-    let to = s.to;
+    let part = s.of(words);
     if sorted {
-        return mem_apart(&words[from..to], c);
+        return mem_apart(part, c);
     }
-    mem_in(&words[from..to], c)
+    mem_in(part, c)
 }
 
 // Where the items of the first record of a section with head c stand among the words.
@@ -61,16 +58,11 @@ fn items_section(words: &[u32], s: Span, sorted: bool, marks: Marks, c: u32) -> 
     requires { Fits words.now s × HeadsKnown (within s words.now) sorted marks }
     ensures { ItemsFound words.now most_items (items_of (heads_in (within s words.now)) c) result }
 {
-    let from = s.from;
-    let to = s.to;
-    let found = items_by(&words[from..to], sorted, marks, c);
-    match found {
-        Some(t) => Some(Span {
-            from: from + t.from,
-            to: from + t.to,
-        }),
-        None => None,
-    }
+    let items = items_by(s.of(words), sorted, marks, c)?;
+    Some(Span {
+        from: s.from + items.from,
+        to: s.from + items.to,
+    })
 }
 
 // Whether c is valid.

@@ -44,34 +44,26 @@ pub fn pairs_in(words: &[u32], s: Span) -> Seen
     requires { Fits words.now s }
     ensures { Sees (is_some (ranges (within s words.now))) (Apart 2 1 (within s words.now)) result }
 {
-    let from = s.from;
-    let to = s.to;
-    told(pairs_order(&words[from..to]))
+    told(pairs_order(s.of(words)))
 }
 
 pub fn classes_in(words: &[u32], s: Span) -> Seen
     requires { Fits words.now s }
     ensures { Sees (is_some (class_ranges (within s words.now))) (Apart 3 1 (within s words.now)) result }
 {
-    let from = s.from;
-    let to = s.to;
-    told(triples_order(&words[from..to]))
+    told(triples_order(s.of(words)))
 }
 
 pub fn heads_in(words: &[u32], s: Span, most: usize) -> HeadsSeen
     requires { Fits words.now s × (most ≤ most_items) }
     ensures { SeesHeads (within s words.now) most result }
 {
-    let from = s.from;
-    let to = s.to;
-    let found = heads_order(&words[from..to], most);
-    let order = found.order;
-    let marks = found.marks;
-    let heads = told(order);
+    let found = heads_order(s.of(words), most);
+    let heads = told(found.order);
     HeadsSeen {
         fits: heads.fits,
         sorted: heads.sorted,
-        marks: marks,
+        marks: found.marks,
     }
 }
 
@@ -79,18 +71,13 @@ pub fn firsts_in(words: &[u32], s: Span) -> FirstsSeen
     requires { Fits words.now s }
     ensures { SeesFirsts (within s words.now) result }
 {
-    let from = s.from;
-    let to = s.to;
-    let found = firsts_order(&words[from..to]);
-    let order = found.order;
-    let places = found.places;
-    let numbers = found.numbers;
-    let firsts = told(order);
+    let found = firsts_order(s.of(words));
+    let firsts = told(found.order);
     FirstsSeen {
         fits: firsts.fits,
         sorted: firsts.sorted,
-        places: places,
-        numbers: numbers,
+        places: found.places,
+        numbers: found.numbers,
     }
 }
 
@@ -98,31 +85,24 @@ pub fn wholes_in(words: &[u32], s: Span) -> bool
     requires { Fits words.now s }
     ensures { result ≡ wholes_fit (within s words.now) }
 {
-    let from = s.from;
-    let to = s.to;
-    wholes_fit(&words[from..to])
+    wholes_fit(s.of(words))
 }
 
 pub fn groups_in(words: &[u32], s: Span) -> Seen
     requires { Fits words.now s }
     ensures { Sees (groups_within most_groups (within s words.now)) (GroupsApart (groups_in (within s words.now))) result }
 {
-    let from = s.from;
-    let to = s.to;
-    groups_fit(&words[from..to])
+    groups_fit(s.of(words))
 }
 
 pub fn excluded_in(words: &[u32], s: Span) -> Seen
     requires { Fits words.now s }
     ensures { Sees (is_some (excluded (within s words.now))) (Apart 1 0 (within (behind_count s) words.now)) result }
 {
-    let from = s.from;
-    let to = s.to;
-    if excluded_fit(&words[from..to]) {
-        let first = from + 1;
+    if excluded_fit(s.of(words)) {
         return Seen {
             fits: true,
-            sorted: items_rise(&words[first..to]),
+            sorted: items_rise(&words[s.from + 1..s.to]),
         };
     }
     Seen {

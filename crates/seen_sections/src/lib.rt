@@ -70,18 +70,11 @@ fn sorted_of(s: Sets, o: Others) -> Sorted
 fn starts_of(o: Others) -> Starts
     ensures { result ≡ starts_of o }
 {
-    let mapped = o.mapped;
-    let mapped_marks = mapped.marks;
-    let decompositions = o.decompositions;
-    let decomposition_marks = decompositions.marks;
-    let emoji = o.emoji;
-    let places = emoji.places;
-    let numbers = emoji.numbers;
     Starts {
-        mapped: mapped_marks,
-        decompositions: decomposition_marks,
-        emoji: places,
-        numbers: numbers,
+        mapped: o.mapped.marks,
+        decompositions: o.decompositions.marks,
+        emoji: o.emoji.places,
+        numbers: o.emoji.numbers,
     }
 }
 
@@ -89,38 +82,9 @@ fn starts_of(o: Others) -> Starts
 pub fn found_of(ix: Sections, s: Sets, o: Others) -> Sections
     ensures { result ≡ found_of ix s o }
 {
-    let valid = ix.valid;
-    let ignored = ix.ignored;
-    let fenced = ix.fenced;
-    let marks = ix.marks;
-    let nsm = ix.nsm;
-    let mapped = ix.mapped;
-    let decompositions = ix.decompositions;
-    let emoji = ix.emoji;
-    let exclusions = ix.exclusions;
-    let classes = ix.classes;
-    let groups = ix.groups;
-    let wholes = ix.wholes;
-    let escape = ix.escape;
-    let quick = ix.quick;
-    let sorted = sorted_of(s, o);
-    let starts = starts_of(o);
     Sections {
-        valid: valid,
-        ignored: ignored,
-        fenced: fenced,
-        marks: marks,
-        nsm: nsm,
-        mapped: mapped,
-        decompositions: decompositions,
-        emoji: emoji,
-        exclusions: exclusions,
-        classes: classes,
-        groups: groups,
-        wholes: wholes,
-        escape: escape,
-        quick: quick,
-        sorted: sorted,
-        starts: starts,
+        sorted: sorted_of(s, o),
+        starts: starts_of(o),
+        ..ix
     }
 }

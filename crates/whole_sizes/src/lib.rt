@@ -29,6 +29,7 @@ pub fn wholes_fit(part: &[u32]) -> bool
     ensures { result ≡ wholes_fit part.now }
 {
     let mut at: usize = 0;
+    // by hand: a record's length is its own, and the place goes on by it
     while at < part.len() {
         let size = whole_size(&part[at..]);
         if size == 0 {

@@ -17,38 +17,33 @@ loop-at-init c = (omega arith, refl, λ e a. a, λ h a. (refl, a))
 
 pub returns-then-left-eq0 : goal.returns-then-left-eq0
 returns-then-left-eq0 c =
-    let l = c in
-    let ws = l.args.part.now in
-    let none_left : l.loop-at.left ≡ 0 = omega arith in
-    let e : false ≡ groups_within most_groups ws = sym (l.loop-at.invariant.1 ∙ rw none_left (groups_full ws l.loop-at.at (omega arith))) in
+    let ws = c.args.part.now in
+    let none_left : c.loop-at.left ≡ 0 = omega arith in
+    let e : false ≡ groups_within most_groups ws = sym (c.loop-at.invariant.1 ∙ rw none_left (groups_full ws c.loop-at.at (omega arith))) in
     record { fits = e; sorted = λ q. absurd (false_true q); found = λ h a. e ∙ h }
 
 pub returns-then-group-eq0 : goal.returns-then-group-eq0
 returns-then-group-eq0 c =
-    let v = c in
-    let l = v in
-    let ws = l.args.part.now in
-    let sized : v.group_size-group.result.size ≡ group_size (drop l.loop-at.at ws) = rw (part_tail ws l.loop-at.at) at v.group_size-group.ensures.size in
-    let e : false ≡ groups_within most_groups ws = sym (l.loop-at.invariant.1 ∙ groups_none l.loop-at.left ws l.loop-at.at (omega arith) (omega arith)) in
+    let ws = c.args.part.now in
+    let sized : c.group_size-group.result.size ≡ group_size (drop c.loop-at.at ws) = rw (part_tail ws c.loop-at.at) at c.group_size-group.ensures.size in
+    let e : false ≡ groups_within most_groups ws = sym (c.loop-at.invariant.1 ∙ groups_none c.loop-at.left ws c.loop-at.at (omega arith) (omega arith)) in
     record { fits = e; sorted = λ q. absurd (false_true q); found = λ h a. e ∙ h }
 
 pub loop-at-preserved : goal.loop-at-preserved
 loop-at-preserved c =
-    let v = c in
-    let l = v in
-    let ws = l.args.part.now in
-    let at = l.loop-at.at in
-    let sized : v.group_size-group.result.size ≡ group_size (drop at ws) = rw (part_tail ws at) at v.group_size-group.ensures.size in
-    let more : 0 < v.group_size-group.result.size = omega arith in
-    let pairs : v.group_size-group.result.sorted ≡ true → Apart 2 1 (group_pairs (drop at ws)) = rw (part_tail ws at) at v.group_size-group.ensures.sorted in
-    let back : 0 < v.group_size-group.result.size → Apart 2 1 (group_pairs (drop at ws)) → v.group_size-group.result.sorted ≡ true = rw (part_tail ws at) at v.group_size-group.ensures.found in (
+    let ws = c.args.part.now in
+    let at = c.loop-at.at in
+    let sized : c.group_size-group.result.size ≡ group_size (drop at ws) = rw (part_tail ws at) at c.group_size-group.ensures.size in
+    let more : 0 < c.group_size-group.result.size = omega arith in
+    let pairs : c.group_size-group.result.sorted ≡ true → Apart 2 1 (group_pairs (drop at ws)) = rw (part_tail ws at) at c.group_size-group.ensures.sorted in
+    let back : 0 < c.group_size-group.result.size → Apart 2 1 (group_pairs (drop at ws)) → c.group_size-group.result.sorted ≡ true = rw (part_tail ws at) at c.group_size-group.ensures.found in (
       omega (arith, group-fits (drop at ws), length-drop at ws),
-      l.loop-at.invariant.1 ∙ groups_more l.loop-at.left ws at _ (omega arith) sized (omega arith) (omega arith),
-      λ e a. l.loop-at.invariant.2 (first_true l.loop-at.sorted v.group_size-group.result.sorted e) (apart_more ws at _ sized more (pairs (last_true l.loop-at.sorted v.group_size-group.result.sorted e)) a),
+      c.loop-at.invariant.1 ∙ groups_more c.loop-at.left ws at _ (omega arith) sized (omega arith) (omega arith),
+      λ e a. c.loop-at.invariant.2 (first_true c.loop-at.sorted c.group_size-group.result.sorted e) (apart_more ws at _ sized more (pairs (last_true c.loop-at.sorted c.group_size-group.result.sorted e)) a),
       λ h a.
-          let r = l.loop-at.invariant.3 h a in
-          let b = apart_parted ws at l.loop-at.left _ sized more (sym l.loop-at.invariant.1 ∙ h) r.1 in
-          (both_true l.loop-at.sorted v.group_size-group.result.sorted r.0 (back more b.0), b.1),
+          let r = c.loop-at.invariant.3 h a in
+          let b = apart_parted ws at c.loop-at.left _ sized more (sym c.loop-at.invariant.1 ∙ h) r.1 in
+          (both_true c.loop-at.sorted c.group_size-group.result.sorted r.0 (back more b.0), b.1),
     )
 
 pub overflow_add-at : goal.overflow_add-at
@@ -59,6 +54,5 @@ loop-at-smaller c = omega (arith, (loop-at-preserved c).0)
 
 pub returns : goal.returns
 returns c =
-    let l = c in
-    let ws = l.args.part.now in
-    record { fits = sym (l.loop-at.invariant.1 ∙ groups_end l.loop-at.left ws l.loop-at.at (omega arith)); sorted = λ e. l.loop-at.invariant.2 e (apart_end ws l.loop-at.at (omega arith)); found = λ h a. (l.loop-at.invariant.3 h a).0 }
+    let ws = c.args.part.now in
+    record { fits = sym (c.loop-at.invariant.1 ∙ groups_end c.loop-at.left ws c.loop-at.at (omega arith)); sorted = λ e. c.loop-at.invariant.2 e (apart_end ws c.loop-at.at (omega arith)); found = λ h a. (c.loop-at.invariant.3 h a).0 }

@@ -1,4 +1,3 @@
-use Prim.Native.Nat.{◌-◌}
 use Rattle.rising_items.proofs.Rises.{rises_on, rises_stop}
 use Rattle.rising_items.proofs.items_rise.Goals as goal
 

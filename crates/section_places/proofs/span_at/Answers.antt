@@ -11,5 +11,4 @@ pub returns-then-n-words : goal.returns-then-n-words
 returns-then-n-words c = span_there _ _ (omega arith) (omega arith)
 
 pub returns : goal.returns
-returns c =
-    (elim c.if-at-words.branch [ then-at-words+else-n-words w ↦ span_none _ _ (omega arith) | else-at-words w ↦ span_none _ _ (omega arith) ])
+returns c = (elim c.if-at-words.branch [ then-at-words+else-n-words w ↦ span_none _ _ (omega arith) | else-at-words w ↦ span_none _ _ (omega arith) ])

@@ -3,4 +3,4 @@ use Rattle.seen_parts.proofs.PartLaws.{sees_heads}
 use Rattle.seen_parts.proofs.heads_in.Goals as goal
 
 pub returns : goal.returns
-returns c = sees_heads _ _ _ _ c.requires.1 c.heads_order-found.ensures c.told-heads.ensures
+returns c = rw (← c.of.ensures) (sees_heads _ _ _ _ c.requires.1 c.heads_order-found.ensures c.told-heads.ensures)

@@ -3,4 +3,4 @@ use Rattle.group_sizes.proofs.ApartLaws.{sees_order}
 use Rattle.seen_parts.proofs.pairs_in.Goals as goal
 
 pub returns : goal.returns
-returns c = sees_order _ _ c.pairs_order.result _ c.pairs_order.ensures c.told.ensures
+returns c = rw (← c.of.ensures) (sees_order _ _ c.pairs_order.result _ c.pairs_order.ensures c.told.ensures)

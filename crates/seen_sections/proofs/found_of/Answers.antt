@@ -2,4 +2,4 @@
 use Rattle.seen_sections.proofs.found_of.Goals as goal
 
 pub returns : goal.returns
-returns c = rw (c.starts_of-starts.ensures, c.sorted_of-sorted.ensures)
+returns c = rw (c.starts_of.ensures, c.sorted_of.ensures)

@@ -8,23 +8,20 @@ use Rattle.whole_sizes.proofs.wholes_fit.Goals as goal
 
 pub returns-then-size-eq0 : goal.returns-then-size-eq0
 returns-then-size-eq0 c =
-    let l = c in
-    let s = l.args in
-    let sized : c.whole_size-size.result ≡ whole_size (drop l.loop-at.at s.part.now) = rw (part_tail s.part.now l.loop-at.at) at c.whole_size-size.ensures in
-    sym (l.loop-at.invariant.1 ∙ walk_none s.part.now l.loop-at.at (omega arith) (omega arith))
+    let s = c.args in
+    let sized : c.whole_size-size.result ≡ whole_size (drop c.loop-at.at s.part.now) = rw (part_tail s.part.now c.loop-at.at) at c.whole_size-size.ensures in
+    sym (c.loop-at.invariant.1 ∙ walk_none s.part.now c.loop-at.at (omega arith) (omega arith))
 
 pub loop-at-preserved : goal.loop-at-preserved
 loop-at-preserved c =
-    let l = c in
-    let s = l.args in
-    let sized : c.whole_size-size.result ≡ whole_size (drop l.loop-at.at s.part.now) = rw (part_tail s.part.now l.loop-at.at) at c.whole_size-size.ensures in
-    (omega (arith, whole-fits (drop l.loop-at.at s.part.now), length-drop l.loop-at.at s.part.now), l.loop-at.invariant.1 ∙ walk_more s.part.now l.loop-at.at _ (omega arith) sized (omega arith))
+    let s = c.args in
+    let sized : c.whole_size-size.result ≡ whole_size (drop c.loop-at.at s.part.now) = rw (part_tail s.part.now c.loop-at.at) at c.whole_size-size.ensures in
+    (omega (arith, whole-fits (drop c.loop-at.at s.part.now), length-drop c.loop-at.at s.part.now), c.loop-at.invariant.1 ∙ walk_more s.part.now c.loop-at.at _ (omega arith) sized (omega arith))
 
 pub overflow_add-at : goal.overflow_add-at
 overflow_add-at c = omega (arith, (loop-at-preserved c).0)
 
 pub returns : goal.returns
 returns c =
-    let l = c in
-    let s = l.args in
-    sym (l.loop-at.invariant.1 ∙ walk_end s.part.now l.loop-at.at (omega arith))
+    let s = c.args in
+    sym (c.loop-at.invariant.1 ∙ walk_end s.part.now c.loop-at.at (omega arith))

@@ -2,4 +2,4 @@
 use Rattle.sections.proofs.lookup.class_section.Goals as goal
 
 pub class_apart-requires : goal.class_apart-requires
-class_apart-requires c = c.requires.1 c.if-sorted.true
+class_apart-requires c = rw c.of-part.ensures (c.requires.1 c.if-sorted.true)
