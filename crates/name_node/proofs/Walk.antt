@@ -1,5 +1,5 @@
 -- The walk over the labels of a text from the right.
-use Prim.Native.Nat.{ℕ, zero, suc, ◌-◌, ◌≤◌, ◌<◌}
+use Prim.Native.Nat.{ℕ, zero, suc, ◌+◌, ◌-◌, ◌≤◌, ◌<◌}
 use native.Mathlib.Omega.{arith}
 use mathlib.Core.Path.{◌≡◌, refl, sym, ap, ap₂, ◌∙◌}
 use mathlib.Core.Bool.{false}
@@ -25,6 +25,17 @@ free_more text (suc j) l h f e =
     let q : suc j - 1 ≡ j = omega arith in
     let g : get_or text j 0 ≡ stop → ⊥ = rw q at f in
     rw (q, drop-cons text j 0 (omega (arith, h))) (ne_eqb (get_or text j 0) stop g, e)
+
+-- a label starts behind the stop before place i, from which on no stop stands
+pub starts_behind : (text : List ℕ) (i : ℕ) → 0 < i → i ≤ length text → get_or text (i - 1) 0 ≡ stop
+    → Every (λ c. eqb c stop ≡ false) (drop i text) → Starts text (i - 1 + 1)
+starts_behind text i l h e f = let back : i - 1 + 1 ≡ i = omega arith in rw back (record { within = h; free = f; behind = λ k. e })
+
+-- or at the front
+pub starts_first : (text : List ℕ) (i : ℕ) → i ≤ 0 → Every (λ c. eqb c stop ≡ false) (drop i text) → Starts text 0
+starts_first text i l f =
+    let none : i ≡ 0 = omega arith in
+    record { within = omega arith; free = rw none at f; behind = λ k. absurd (omega (arith, k)) }
 
 -- what holds of every codepoint holds of those of a part
 pub part_every : (P : ℕ → Type 0) (s : List ℕ) (n a : ℕ) → Every P s → Every P (take n (drop a s))

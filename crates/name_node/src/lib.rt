@@ -43,10 +43,8 @@ fn label_hash(label: &[u32]) -> Digest
     ensures { result.bytes ≡ keccak256 (octets_of label.now) }
 {
     let mut sponge = Keccak256::new();
-    let mut i = 0;
-    while i < label.len() {
-        sponge = absorb_one(sponge, label[i]);
-        i += 1;
+    for &c in label {
+        sponge = absorb_one(sponge, c);
     }
     sponge.digest()
 }
@@ -63,14 +61,12 @@ fn joined(rest: Digest, label: Digest) -> Digest
 fn label_start(text: &[u32]) -> usize
     ensures { Starts text.now result }
 {
-    let mut i = text.len();
-    while 0 < i {
-        if text[i - 1] == STOP {
-            return i;
+    for i in (0..text.len()).rev() {
+        if text[i] == STOP {
+            return i + 1;
         }
-        i -= 1;
     }
-    i
+    0
 }
 
 // The hash of the labels of a text, from the right.

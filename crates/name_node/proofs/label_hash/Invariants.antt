@@ -1,13 +1,9 @@
--- `label_hash`: the octets of the first i codepoints are taken.
-use Prim.Native.Nat.{◌-◌, ◌≤◌}
+-- `label_hash`: the octets of the codepoints gone by are taken.
 use mathlib.Core.Path.{◌≡◌}
-use lib.ListN.{length, take}
+use lib.ListN.{take}
 use Rattle.keccak_sponge.specs.State.{fresh, absorbed}
 use Rattle.name_node.specs.Node.{octets_of}
 use Rattle.name_node.proofs.label_hash.Given as goal
 
-abbrev pub invariant-loop-i : goal.invariant-loop-i
-invariant-loop-i l = (l.i ≤ length l.label) × (l.sponge ≡ absorbed fresh (octets_of (take l.i l.label)))
-
-abbrev pub decreases-loop-i : goal.decreases-loop-i
-decreases-loop-i l = length l.label - l.i
+abbrev pub invariant-loop-c : goal.invariant-loop-c
+invariant-loop-c l = l.sponge ≡ absorbed fresh (octets_of (take l.c-index l.label))
