@@ -15,7 +15,7 @@ use Rattle.lists.specs.Lists.{all}
 use Rattle.lists.specs.Laws.{both_left, both_right, either}
 use Rattle.line_reading.specs.Reading.{is_digit, digit_value, value_from, value_of}
 use Rattle.line_reading.specs.Promise.{number_answer}
-use Rattle.line_reading.specs.declared.reading.Number.TheVariants.{Value, Unreadable}
+use Rattle.std.specs.Prelude.{Some, None}
 
 -- a byte below `0`, and one past `9`
 pub below_digits : (b : ℕ) → b < 48 → is_digit b ≡ false
@@ -77,7 +77,7 @@ module _ {word : List ℕ} {i v : ℕ} (s : Spelling word i v) where
         small = rw power (omega (arith, s.small));
       }
 
-  pub spelling_bad : i < length word → is_digit (get_or word i 0) ≡ false → number_answer word ≡ Unreadable
+  pub spelling_bad : i < length word → is_digit (get_or word i 0) ≡ false → number_answer word ≡ None
   unfolding number_answer
   spelling_bad h t =
       let split : drop i word ≡ get_or word i 0 ∷ drop (i + 1) word = rw (add-one i, drop-cons word i 0 h) in
@@ -88,7 +88,7 @@ module _ {word : List ℕ} {i v : ℕ} (s : Spelling word i v) where
       and_false true = refl
       and_false false = refl
 
-  pub spelling_end : length word ≤ i → 1 ≤ length word → length word ≤ 8 → number_answer word ≡ Value v
+  pub spelling_end : length word ≤ i → 1 ≤ length word → length word ≤ 8 → number_answer word ≡ Some v
   unfolding number_answer
   spelling_end h k l =
       let whole : drop i word ≡ [] = drop_of_length-le word {i = i} h in
@@ -100,10 +100,10 @@ module _ {word : List ℕ} {i v : ℕ} (s : Spelling word i v) where
   pub spelling_fits : i < 8 → (d : ℕ) → d < 16 → 16 * v + d < 2 ^ 32
   spelling_fits h d l = let b : 16 ^ i ≤ 16 ^ 7 = pow-le-pow_right {n = 16} (omega arith) {i = i} {j = 7} (omega arith) in omega (arith, s.small)
 
-pub too_short : (word : List ℕ) → length word ≡ 0 → number_answer word ≡ Unreadable
+pub too_short : (word : List ℕ) → length word ≡ 0 → number_answer word ≡ None
 unfolding number_answer
 too_short word h = rw (lt-leb 1 (length word) (omega arith))
 
-pub too_long : (word : List ℕ) → 8 < length word → number_answer word ≡ Unreadable
+pub too_long : (word : List ℕ) → 8 < length word → number_answer word ≡ None
 unfolding number_answer
 too_long word h = rw (le-leb 1 (length word) (omega arith), lt-leb (length word) 8 h)

@@ -17,25 +17,25 @@ use Rattle.buffers.proofs.Parts.{mid_tail}
 use Rattle.line_reading.specs.Reading.{most_numbers, most_line, is_digit, is_number, value_of, numbers_of, read_line}
 use Rattle.line_reading.specs.Reading.{first_at}
 use Rattle.line_reading.specs.Promise.{number_answer, Read}
-use Rattle.line_reading.specs.declared.reading.Number.TheVariants.{Value, Unreadable}
+use Rattle.std.specs.Prelude.{Some, None}
 use Rattle.line_reading.proofs.Splits.{first_inside, split-whole, split-first}
 
 -- a word that was read
-pub value_number : (word : List ℕ) (v : ℕ) → number_answer word ≡ Value v → (is_number word ≡ true) × (value_of word ≡ v)
+pub value_number : (word : List ℕ) (v : ℕ) → number_answer word ≡ Some v → (is_number word ≡ true) × (value_of word ≡ v)
 unfolding number_answer
 value_number word v e = go (is_number word) refl
   where
     go : (b : Bool) → is_number word ≡ b → (is_number word ≡ true) × (value_of word ≡ v)
-    go true t = (t, let f : Value (value_of word) ≡ Value v = rw t at e in cc)
-    go false t = let f : Unreadable ≡ Value v = rw t at e in absurd (let z : ◌≡◌ {A = ℕ} 0 1 = cc in omega arith)
+    go true t = (t, let f : Some (value_of word) ≡ Some v = rw t at e in cc)
+    go false t = let f : None ≡ Some v = rw t at e in absurd (let z : ◌≡◌ {A = ℕ} 0 1 = cc in omega arith)
 
-pub no_number : (word : List ℕ) → number_answer word ≡ Unreadable → is_number word ≡ false
+pub no_number : (word : List ℕ) → number_answer word ≡ None → is_number word ≡ false
 unfolding number_answer
 no_number word e = go (is_number word) refl
   where
     go : (b : Bool) → is_number word ≡ b → is_number word ≡ false
     go false t = t
-    go true t = let f : Value (value_of word) ≡ Unreadable = rw t at e in absurd (let z : ◌≡◌ {A = ℕ} 0 1 = cc in omega arith)
+    go true t = let f : Some (value_of word) ≡ None = rw t at e in absurd (let z : ◌≡◌ {A = ℕ} 0 1 = cc in omega arith)
 
 -- a number is not empty
 pub number-some : (word : List ℕ) → is_number word ≡ true → 1 ≤ length word

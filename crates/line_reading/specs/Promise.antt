@@ -1,15 +1,11 @@
 -- What the functions of this crate promise, in the terms of Reading.antt.
-use Rattle.std.specs.Prelude.{ℕ, ◌≤◌, ◌≡◌, cond, List, length, take, drop}
+use Rattle.std.specs.Prelude.{ℕ, ◌≤◌, ◌≡◌, cond, Option, Some, None, List, length, take, drop}
 use Rattle.std.proofs.Math.Option.{none, some}
 use Rattle.line_reading.specs.Reading.{is_number, value_of, read_line}
-use Rattle.line_reading.specs.declared.reading.Number.{Number}
-use Rattle.line_reading.specs.declared.reading.Number.TheVariants as number
-use Rattle.line_reading.specs.declared.reading.Line.{Line}
-use Rattle.line_reading.specs.declared.reading.Line.TheVariants as line
 
--- the answer for a word
-unfoldable pub number_answer : List ℕ → Number
-number_answer word = cond (is_number word) (number.Value (value_of word)) number.Unreadable
+-- the answer for a word: its number, `None` where it is unreadable
+unfoldable pub number_answer : List ℕ → Option ℕ
+number_answer word = cond (is_number word) (Some (value_of word)) None
 
 -- the numbers of the line stand in front, and what stood behind them stays; what an unreadable line leaves is open
 pub record Read (line before after : List ℕ) (n : ℕ) : Type 0 where
@@ -17,6 +13,6 @@ pub record Read (line before after : List ℕ) (n : ℕ) : Type 0 where
   pub room : n ≤ length after
   pub kept : drop n after ≡ drop n before
 
-abbrev pub Reads : List ℕ → List ℕ → List ℕ → Line → Type 0
-Reads bytes before after (line.Numbers n) = Read bytes before after n
-Reads bytes before after line.Unreadable = read_line bytes ≡ none
+abbrev pub Reads : List ℕ → List ℕ → List ℕ → Option ℕ → Type 0
+Reads bytes before after (Some n) = Read bytes before after n
+Reads bytes before after None = read_line bytes ≡ none

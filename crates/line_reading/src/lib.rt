@@ -3,7 +3,7 @@
 
 mod reading;
 
-pub use reading::{Line, find, read_line};
+pub use reading::{find, read_line};
 
 // The most bytes of a line of input.
 pub const MOST_LINE: usize = 8192;

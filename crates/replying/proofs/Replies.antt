@@ -5,6 +5,7 @@ use mathlib.Core.Path.{◌≡◌, refl, ap, subst, ◌∙◌}
 use mathlib.Core.Bool.{true, false}
 use mathlib.Core.List.{List}
 use mathlib.Core.Option.{none}
+use Rattle.std.specs.Prelude.{Option, Some, None}
 use lib.ListN.{length, take}
 use Rattle.limits.specs.Limits.{most_worked, least_work}
 use Rattle.answers.specs.Values.{NameValues}
@@ -16,21 +17,19 @@ use Rattle.buffers.specs.Writes.{Writes}
 use Rattle.line_writing.specs.Writing.{answer_line, bad_line}
 use Rattle.line_reading.specs.Promise.{Read, Reads}
 use Rattle.line_writing.specs.Promise.{AnswerRoom}
-use Rattle.line_reading.specs.declared.reading.Line.{Line}
-use Rattle.line_reading.specs.declared.reading.Line.TheVariants.{Numbers, Unreadable}
 use Rattle.replying.specs.Lines.{reply_line, line_reply, reply_room}
 use Rattle.replying.specs.Promise.{Replies}
 
 -- the line that was read, by the case of the answer
-module _ (line before after : List ℕ) (r : Line) (h : Reads line before after r) where
-  pub read_of : (n : ℕ) → r ≡ Numbers n → Read line before after n
-  read_of n e = subst (λ (x : Line). Reads line before after x) e h
+module _ (line before after : List ℕ) (r : Option ℕ) (h : Reads line before after r) where
+  pub read_of : (n : ℕ) → r ≡ Some n → Read line before after n
+  read_of n e = subst (λ (x : Option ℕ). Reads line before after x) e h
 
-  pub reply_bad : (words : List ℕ) → r ≡ Unreadable → {text text' : List ℕ} {k : ℕ} → Writes bad_line text text' k
+  pub reply_bad : (words : List ℕ) → r ≡ None → {text text' : List ℕ} {k : ℕ} → Writes bad_line text text' k
       → Replies words line text text' (record { length = k; readable = false })
   unfolding line_reply
   reply_bad words e w =
-      let n : read_line line ≡ none = subst (λ (x : Line). Reads line before after x) e h in
+      let n : read_line line ≡ none = subst (λ (x : Option ℕ). Reads line before after x) e h in
       record { text = rw n w; readable = rw n }
 
 -- an answer that is accepted is no longer than its buffer

@@ -5,7 +5,6 @@ ghost use Rattle.std.specs.Prelude.{◌≤◌, length};
 ghost use Rattle.replying.specs.Lines.{reply_room};
 ghost use Rattle.replying.specs.Promise.{Replies};
 
-use line_reading::Line;
 use name_call::name;
 
 // Room for the line for a name.
@@ -24,8 +23,7 @@ pub fn write_reply(table: &[u32], line: &[u8], text: &mut [u8]) -> Reply
     ensures { Replies table.now line.now text.old text.new result }
 {
     let mut numbers = [0u32; line_reading::MOST_NUMBERS];
-    let read = line_reading::read_line(line, &mut numbers);
-    let Line::Numbers(n) = read else {
+    let Some(n) = line_reading::read_line(line, &mut numbers) else {
         let k = line_writing::write_bad(text);
         return Reply {
             length: k,

@@ -7,16 +7,16 @@ use Rattle.replying.proofs.write_reply.Goals as goal
 
 pub returns-in_default : goal.returns-in_default
 returns-in_default c =
-    let l = c.read_line-read.ensures in
+    let l = c.read_line.ensures in
     reply_bad _ _ _ _ l _ c.in_default.is c.write_bad-k.ensures
 
 pub slice_bounds-numbers-end : goal.slice_bounds-numbers-end
-slice_bounds-numbers-end c = (read_of _ _ _ _ c.read_line-read.ensures _ c.in-Numbers.is).room
+slice_bounds-numbers-end c = (read_of _ _ _ _ c.read_line.ensures _ c.in-Some.is).room
 
 pub slice_bounds-name-end : goal.slice_bounds-name-end
 slice_bounds-name-end c =
-    let l = c.read_line-read.ensures in
-    sym (length-take-le _ _ (read_of _ _ _ _ l _ c.in-Numbers.is).room)
+    let l = c.read_line.ensures in
+    sym (length-take-le _ _ (read_of _ _ _ _ l _ c.in-Some.is).room)
 
 pub write_answer-k-requires : goal.write_answer-k-requires
 write_answer-k-requires c =
@@ -26,5 +26,5 @@ write_answer-k-requires c =
 pub returns : goal.returns
 returns c =
     let read = c in
-    let l = read_of _ _ _ _ read.read_line-read.ensures _ read.in-Numbers.is in
+    let l = read_of _ _ _ _ read.read_line.ensures _ read.in-Some.is in
     reply_text _ l c.name-given.ensures refl c.write_answer-k.ensures

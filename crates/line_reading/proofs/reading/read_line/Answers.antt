@@ -1,4 +1,3 @@
-use Prim.Native.Nat.{◌-◌}
 use mathlib.Core.Path.{sym, ◌∙◌}
 use Rattle.line_reading.proofs.Readings.{empty_line, long_line, words_start, word_inside, value_number, no_number, words_bad, room_word, words_more, words_end}
 use native.Mathlib.Omega.{arith}
@@ -19,20 +18,20 @@ overflow_add-end c = record { fits = omega (arith, word_inside c.loop-value.inva
 pub slice_bounds-read_number-end : goal.slice_bounds-read_number-end
 slice_bounds-read_number-end c = omega (arith, word_inside c.loop-value.invariant c.find.ensures)
 
-pub returns-in_default : goal.returns-in_default
-returns-in_default c = words_bad c.loop-value.invariant c.find.ensures (no_number _ (sym c.read_number-word.ensures ∙ c.in_default.is))
+pub returns-in_err-value : goal.returns-in_err-value
+returns-in_err-value c = rw c.from_residual.ensures (words_bad c.loop-value.invariant c.find.ensures (no_number _ (sym c.read_number.ensures ∙ c.in_err-value.was)))
 
 pub bounds-out-n : goal.bounds-out-n
 bounds-out-n c =
-    omega (arith, room_word c.loop-value.invariant c.find.ensures (value_number _ _ (sym c.read_number-word.ensures ∙ c.in-Value.is)).0)
+    omega (arith, room_word c.loop-value.invariant c.find.ensures (value_number _ _ (sym c.read_number.ensures ∙ c.in_ok-value.was)).0)
 
 pub overflow_add-n : goal.overflow_add-n
 overflow_add-n c =
-    record { fits = omega (arith, room_word c.loop-value.invariant c.find.ensures (value_number _ _ (sym c.read_number-word.ensures ∙ c.in-Value.is)).0) }
+    record { fits = omega (arith, room_word c.loop-value.invariant c.find.ensures (value_number _ _ (sym c.read_number.ensures ∙ c.in_ok-value.was)).0) }
 
 pub returns-then-end-line : goal.returns-then-end-line
 returns-then-end-line c =
-    let good = value_number _ _ (sym c.read_number-word.ensures ∙ c.in-Value.is) in words_end c.loop-value.invariant c.find.ensures good.0 (omega arith) _ good.1 c.if-end-line.true
+    let good = value_number _ _ (sym c.read_number.ensures ∙ c.in_ok-value.was) in words_end c.loop-value.invariant c.find.ensures good.0 (omega arith) _ good.1 c.if-end-line.true
 
 pub overflow_add-at : goal.overflow_add-at
 overflow_add-at c = record { fits = omega (arith, word_inside c.loop-value.invariant c.find.ensures) }
@@ -42,4 +41,4 @@ loop-value-smaller c = omega (arith, word_inside c.loop-value.invariant c.find.e
 
 pub loop-value-preserved : goal.loop-value-preserved
 loop-value-preserved c =
-    let good = value_number _ _ (sym c.read_number-word.ensures ∙ c.in-Value.is) in words_more c.loop-value.invariant c.find.ensures good.0 (omega arith) _ good.1 (omega (arith, word_inside c.loop-value.invariant c.find.ensures))
+    let good = value_number _ _ (sym c.read_number.ensures ∙ c.in_ok-value.was) in words_more c.loop-value.invariant c.find.ensures good.0 (omega arith) _ good.1 (omega (arith, word_inside c.loop-value.invariant c.find.ensures))
