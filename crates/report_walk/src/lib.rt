@@ -42,6 +42,7 @@ fn report_label(
 {
     let mut r = sink;
     let mut i = 0;
+    // by hand: a token's length is its own, and the place goes on by it
     while i < label.len() {
         let token = next_token(words, ix, &label[i..], unpaired, w);
         let from = start + i;
@@ -73,6 +74,7 @@ fn report_labels(words: &[u32], ix: Sections, name: &[u32], out: &mut [u8], w: &
     index_pairs(words, ix, &mut unpaired);
     let mut sink = Sink { at: 0, full: false };
     let mut at = 0;
+    // by hand: a label's length is its own, and the place goes on behind its stop
     while at <= name.len() {
         let end = label_end(name, at);
         sink = report_label(words, ix, &name[at..end], at, &mut unpaired, out, w, sink);

@@ -17,7 +17,6 @@ use Rattle.tokens.specs.declared.single.Single as single
 use Rattle.tokens.specs.declared.single.Single.{Single}
 use Rattle.scanning.specs.declared.Which as which
 use Rattle.scanning.specs.declared.Which.{Which}
-use Rattle.scanning.specs.declared.Stepped as stepped
 use Rattle.scanning.specs.declared.Stepped.{Stepped}
 use Rattle.scanning.specs.declared.Scanned as scanned
 use Rattle.finder.specs.Emoji.{Found, strip, find}
@@ -42,7 +41,7 @@ one_items ws c s x f i e =
 
 module _ (t : Table) (ws : List ℕ) (c : ℕ) (s : Step) (x : Single) (f : SingleFound ws c s x) (w : List ℕ) (run : Run) where
   pub one-valid : x ≡ single.TheVariants.Valid → (w' : List ℕ) (r : Run) → TextPut t w w' c run r
-      → StepPut t s w w' run (stepped.TheVariants.Went 1 which.TheVariants.Codepoint r)
+      → StepPut t s w w' run (Some (record { taken = 1; which = which.TheVariants.Codepoint; run = r }))
   one-valid e w' r p =
       let q : text (c ∷ []) ≡ s = rw e at f.same in
       record {
@@ -57,7 +56,7 @@ module _ (t : Table) (ws : List ℕ) (c : ℕ) (s : Step) (x : Single) (f : Sing
       }
 
   pub one-mapped : (i : Span) → x ≡ single.TheVariants.Mapped i → (w' : List ℕ) (r : Run) → ItemsPut t w w' (within i ws) run r
-      → StepPut t s w w' run (stepped.TheVariants.Went 1 which.TheVariants.Codepoint r)
+      → StepPut t s w w' run (Some (record { taken = 1; which = which.TheVariants.Codepoint; run = r }))
   one-mapped i e w' r p =
       let q : text (within i ws) ≡ s = rw e at f.same in
       record {
@@ -71,7 +70,7 @@ module _ (t : Table) (ws : List ℕ) (c : ℕ) (s : Step) (x : Single) (f : Sing
             };
       }
 
-  pub one-ignored : x ≡ single.TheVariants.Ignored → StepPut t s w w run (stepped.TheVariants.Went 1 which.TheVariants.Codepoint run)
+  pub one-ignored : x ≡ single.TheVariants.Ignored → StepPut t s w w run (Some (record { taken = 1; which = which.TheVariants.Codepoint; run = run }))
   one-ignored e =
       let q : ignored ≡ s = rw e at f.same in
       record {
@@ -85,7 +84,7 @@ module _ (t : Table) (ws : List ℕ) (c : ℕ) (s : Step) (x : Single) (f : Sing
             };
       }
 
-  pub one_disallowed : x ≡ single.TheVariants.Disallowed → StepPut t s w w run stepped.TheVariants.Disallowed
+  pub one_disallowed : x ≡ single.TheVariants.Disallowed → StepPut t s w w run None
   one_disallowed e = record { same = refl; went = sym (rw e at f.same) }
 
 pub step_sequence : (ws rest : List ℕ) (o : Option Found) (m : Answer Match) → FoundBy ws rest o m
@@ -98,7 +97,7 @@ step_sequence ws rest o m d u e =
 module _ (t : Table) (ws : List ℕ) where
   pub step_emoji : (rest : List ℕ) (m : Answer Match) → 1 ≤ length rest → FoundBy ws rest (find t.emoji rest) m
       → (u : Match) → m ≡ Some u → (w w' : List ℕ) (run r : Run) → EmojiPut ws w w' u.sequence run r
-      → StepPut t (first_step t rest) w w' run (stepped.TheVariants.Went u.taken (which.TheVariants.Emoji u.number u.selectors) r)
+      → StepPut t (first_step t rest) w w' run (Some (record { taken = u.taken; which = which.TheVariants.Emoji u.number u.selectors; run = r }))
   step_emoji rest m h d u e w w' run r p =
       let f : Found = record { number = u.number; taken = record { length = u.taken; selectors = u.selectors }; stripped = strip (within u.sequence ws) } in
       let some-found : some f ≡ find t.emoji rest = rw e at d.same in
@@ -115,7 +114,7 @@ module _ (t : Table) (ws : List ℕ) where
       }
 
   pub step_alone : (rest : List ℕ) (m : Answer Match) → 1 ≤ length rest → FoundBy ws rest (find t.emoji rest) m → m ≡ None
-      → (w w' : List ℕ) (run : Run) (r : Stepped) → StepPut t (codepoint_step t (get_or rest 0 0)) w w' run r → StepPut t (first_step t rest) w w' run r
+      → (w w' : List ℕ) (run : Run) (r : Answer Stepped) → StepPut t (codepoint_step t (get_or rest 0 0)) w w' run r → StepPut t (first_step t rest) w w' run r
   step_alone rest m h d e w w' run r p = rw (first_alone t rest h (sym (rw e at d.same))) p
 
 -- the steps before the place `at` are laid down
@@ -139,32 +138,32 @@ module _ (t : Table) (l w₀ : List ℕ) where
     pub scan_left : 1 ≤ length lent
     scan_left = walked_left t l at h
 
-    scan_went : (w' : List ℕ) (x : Stepped) → StepPut t (first_step t lent) w w' run x → (k : ℕ) (m : Which) (r : Run)
-        → x ≡ stepped.TheVariants.Went k m r → StepPut t here w w' run (stepped.TheVariants.Went k m r)
-    scan_went w' x q k m r e = rw (rest_is l at, e) at q
+    scan_went : (w' : List ℕ) (x : Answer Stepped) → StepPut t (first_step t lent) w w' run x → (r : Stepped)
+        → x ≡ Some r → StepPut t here w w' run (Some r)
+    scan_went w' x q r e = rw (rest_is l at, e) at q
 
-    pub scan_taken : (w' : List ℕ) (x : Stepped) → StepPut t (first_step t lent) w w' run x → (k : ℕ) (m : Which) (r : Run)
-        → x ≡ stepped.TheVariants.Went k m r → (1 ≤ k) × (at + k ≤ length l)
-    scan_taken w' x q k m r e =
-        let g : Went t here w w' run k m r = (scan_went w' x q k m r e).went in
-        walked-taken t l at h k g.taken
+    pub scan_taken : (w' : List ℕ) (x : Answer Stepped) → StepPut t (first_step t lent) w w' run x → (r : Stepped)
+        → x ≡ Some r → (1 ≤ r.taken) × (at + r.taken ≤ length l)
+    scan_taken w' x q r e =
+        let g : Went t here w w' run r.taken r.which r.run = (scan_went w' x q r e).went in
+        walked-taken t l at h r.taken g.taken
 
-    pub scan_more : (w' : List ℕ) (x : Stepped) → StepPut t (first_step t lent) w w' run x → (k : ℕ) (m : Which) (r : Run)
-        → x ≡ stepped.TheVariants.Went k m r → Scanning t l w₀ w' r (at + k)
-    scan_more w' x p' k m r e =
-        let q : StepPut t here w w' run (stepped.TheVariants.Went k m r) = scan_went w' x p' k m r e in
-        let g : Went t here w w' run k m r = q.went in
+    pub scan_more : (w' : List ℕ) (x : Answer Stepped) → StepPut t (first_step t lent) w w' run x → (r : Stepped)
+        → x ≡ Some r → Scanning t l w₀ w' r.run (at + r.taken)
+    scan_more w' x p' r e =
+        let q : StepPut t here w w' run (Some r) = scan_went w' x p' r e in
+        let g : Went t here w w' run r.taken r.which r.run = q.went in
         record {
           done = p.done ++ here ∷ [];
-          walked = walked_more t l at h p.done p.walked k g.taken g.allowed;
+          walked = walked_more t l at h p.done p.walked r.taken g.taken g.allowed;
           same = q.same ∙ p.same;
           lays = g.lays p.done p.lays;
         }
 
-    pub scan_disallowed : (w' : List ℕ) (x : Stepped) → StepPut t (first_step t lent) w w' run x → x ≡ stepped.TheVariants.Disallowed
+    pub scan_disallowed : (w' : List ℕ) (x : Answer Stepped) → StepPut t (first_step t lent) w w' run x → x ≡ None
         → Scans t l w₀ w' (scanned.TheVariants.Disallowed at)
     scan_disallowed w' x p' x-is =
-        let q : StepPut t here w w' run stepped.TheVariants.Disallowed = rw (rest_is l at, x-is) at p' in
+        let q : StepPut t here w w' run None = rw (rest_is l at, x-is) at p' in
         record { same = q.same ∙ p.same; is = walked_disallowed t l at h p.done p.walked q.went }
 
   pub scan_stop : (w : List ℕ) (run : Run) (at : ℕ) → Scanning t l w₀ w run at → length l ≤ at

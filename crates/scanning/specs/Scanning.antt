@@ -1,5 +1,5 @@
 -- What the steps of the scan answer, and the scan itself.
-use Rattle.std.specs.Prelude.{ℕ, ◌≤◌, ◌<◌, ◌≡◌, not, List, [], ◌∷◌, ◌++◌, length}
+use Rattle.std.specs.Prelude.{ℕ, ◌≤◌, ◌<◌, ◌≡◌, not, List, [], ◌∷◌, ◌++◌, length, Option as Answer, Some, None}
 use Rattle.std.proofs.Math.Option.{Option, none, some}
 use Rattle.lists.specs.Lists.{any}
 use Rattle.table.specs.Table.{Table}
@@ -8,7 +8,6 @@ use Rattle.laying.specs.declared.Run.{Run}
 use Rattle.scanning.specs.declared.Tally.{Tally}
 use Rattle.scanning.specs.declared.Which as which
 use Rattle.scanning.specs.declared.Which.{Which}
-use Rattle.scanning.specs.declared.Stepped as stepped
 use Rattle.scanning.specs.declared.Stepped.{Stepped}
 use Rattle.scanning.specs.declared.Scanned as scanned
 use Rattle.scanning.specs.declared.Scanned.{Scanned}
@@ -48,12 +47,12 @@ pub record Went (t : Table) (s : Step) (w w' : List ℕ) (run : Run) (k : ℕ) (
   pub which : chosen_by m ≡ chosen s
   pub lays : (ss : List Step) → Laying (four_rounds t) ss run w → Laying (four_rounds t) (ss ++ s ∷ []) r w'
 
-abbrev pub StepWent : Table → Step → List ℕ → List ℕ → Run → Stepped → Type 0
-StepWent t s w w' run stepped.TheVariants.Disallowed = s ≡ disallowed
-StepWent t s w w' run (stepped.TheVariants.Went k m r) = Went t s w w' run k m r
+abbrev pub StepWent : Table → Step → List ℕ → List ℕ → Run → Answer Stepped → Type 0
+StepWent t s w w' run None = s ≡ disallowed
+StepWent t s w w' run (Some r) = Went t s w w' run r.taken r.which r.run
 
 -- what a step answers; words of the work area beyond the cells are open
-pub record StepPut (t : Table) (s : Step) (w w' : List ℕ) (run : Run) (r : Stepped) : Type 0 where
+pub record StepPut (t : Table) (s : Step) (w w' : List ℕ) (run : Run) (r : Answer Stepped) : Type 0 where
   pub same : length w' ≡ length w
   pub went : StepWent t s w w' run r
 

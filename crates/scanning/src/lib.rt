@@ -20,15 +20,12 @@ pub enum Which {
     Codepoint,
 }
 
-// What one step gave: a disallowed codepoint, or the run behind it, how much of the label it took, and what that was.
+// What one step gave: how much of the label it took, what that was, and the run behind it.
 #[derive(Clone, Copy)]
-pub enum Stepped {
-    Disallowed,
-    Went {
-        taken: usize,
-        which: Which,
-        run: Run,
-    },
+pub struct Stepped {
+    pub taken: usize,
+    pub which: Which,
+    pub run: Run,
 }
 
 // The tokens of a label: their worked length, or a number over MOST_WORKED where it is over, and whether there are emoji and text.
@@ -46,49 +43,49 @@ pub enum Scanned {
     Tokens(Tally),
 }
 
-// Takes one codepoint that no emoji sequence takes.
-fn take_one(words: &[u32], ix: Sections, w: &mut [u32], run: Run, c: u32) -> Stepped
+// Takes one codepoint that no emoji sequence takes, unless it is disallowed.
+fn take_one(words: &[u32], ix: Sections, w: &mut [u32], run: Run, c: u32) -> Option<Stepped>
     requires laid { Laid words.now ix }
     requires least_work_in_bounds { least_work ≤ length w.old }
     ensures { StepPut (the_table words.now) (codepoint_step (the_table words.now) c) w.old w.new run result }
 {
     let found = alone(words, ix, c);
     match found {
-        Single::Valid => Stepped::Went {
+        Single::Valid => Some(Stepped {
             taken: 1,
             which: Which::Codepoint,
             run: put_text(words, ix, w, run, c),
-        },
-        Single::Mapped(s) => Stepped::Went {
+        }),
+        Single::Mapped(s) => Some(Stepped {
             taken: 1,
             which: Which::Codepoint,
             run: put_items(words, ix, w, run, s),
-        },
-        Single::Ignored => Stepped::Went {
+        }),
+        Single::Ignored => Some(Stepped {
             taken: 1,
             which: Which::Codepoint,
             run,
-        },
-        Single::Disallowed => Stepped::Disallowed,
+        }),
+        Single::Disallowed => None,
     }
 }
 
-// Takes one step at the start of the rest of a label: an emoji sequence, or else one codepoint.
-fn step(words: &[u32], ix: Sections, rest: &[u32], w: &mut [u32], run: Run) -> Stepped
+// Takes one step at the start of the rest of a label: an emoji sequence, or else one codepoint, unless it is disallowed.
+fn step(words: &[u32], ix: Sections, rest: &[u32], w: &mut [u32], run: Run) -> Option<Stepped>
     requires laid { Laid words.now ix }
     requires least_work_in_bounds { (least_work ≤ length w.old) × (1 ≤ length rest.now) }
     ensures { StepPut (the_table words.now) (first_step (the_table words.now) rest.now) w.old w.new run result }
 {
     let found = find(words, ix, rest);
     match found {
-        Some(m) => Stepped::Went {
+        Some(m) => Some(Stepped {
             taken: m.taken,
             which: Which::Emoji {
                 number: m.number,
                 selectors: m.selectors,
             },
             run: put_emoji(words, w, run, m.sequence),
-        },
+        }),
         None => take_one(words, ix, w, run, rest[0]),
     }
 }
@@ -111,15 +108,11 @@ pub fn scan(words: &[u32], ix: Sections, label: &[u32], w: &mut [u32]) -> Scanne
     while at < label.len() {
         let went = step(words, ix, &label[at..], w, run);
         match went {
-            Stepped::Went {
-                taken,
-                which: _,
-                run: next,
-            } => {
-                run = next;
-                at += taken;
+            Some(next) => {
+                run = next.run;
+                at += next.taken;
             }
-            Stepped::Disallowed => {
+            None => {
                 return Scanned::Disallowed(at);
             }
         }

@@ -47,6 +47,7 @@ fn show_labels(
     if name.len() == 0 {
         at = 1;
     }
+    // by hand: a label's length is its own, and the place goes on behind its stop
     while at <= name.len() {
         let end = label_end(name, at);
         let judged = judge_label(

@@ -36,6 +36,7 @@ pub fn show_label(
 {
     let mut end = at;
     let mut i = 0;
+    // by hand: a token's length is its own, and the place goes on by it
     while i < label.len() {
         let token = next_token(words, ix, &label[i..], unpaired, w);
         let taken = token.taken;

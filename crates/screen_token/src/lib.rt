@@ -20,8 +20,7 @@ pub fn is_greek(greek: u32, kind: Kind) -> bool
     ensures { result ≡ is_greek greek kind }
 {
     match kind {
-        Kind::Emoji => false,
-        Kind::Ascii => false,
+        Kind::Emoji | Kind::Ascii => false,
         Kind::Group(g) => g.number == greek as usize,
     }
 }
@@ -31,12 +30,10 @@ fn show_text(w: &mut [u32], n: usize)
     requires { n ≤ length w.old }
     ensures { ShowsText w.old w.new n }
 {
-    let mut i = 0;
-    while i < n {
+    for i in 0..n {
         if w[i] == 0x3BE {
             w[i] = 0x39E;
         }
-        i += 1;
     }
 }
 
@@ -57,9 +54,7 @@ pub fn put_token(
 {
     if token.emoji {
         let s = sequence(words, ix, token.number);
-        let from = s.from;
-        let to = s.to;
-        return put_label(answer, at, true, &words[from..to]);
+        return put_label(answer, at, true, s.of(words));
     }
     let n = token.length;
     if !greek {

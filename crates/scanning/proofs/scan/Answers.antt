@@ -19,14 +19,14 @@ overflow_add-at c =
     let s = c in
     let h = s.loop-at-test.true in
     let l = s.loop-at.invariant in
-    omega (arith, (scan_taken _ _ _ _ _ _ l h _ _ s.step-went.ensures _ _ _ c.in-Went.is).1)
+    omega (arith, (scan_taken _ _ _ _ _ _ l h _ _ s.step-went.ensures _ c.in-Some.is).1)
 
 pub loop-at-smaller : goal.loop-at-smaller
 loop-at-smaller c =
     let s = c in
     let h = s.loop-at-test.true in
     let l = s.loop-at.invariant in
-    let k = scan_taken _ _ _ _ _ _ l h _ _ s.step-went.ensures _ _ _ c.in-Went.is in
+    let k = scan_taken _ _ _ _ _ _ l h _ _ s.step-went.ensures _ c.in-Some.is in
     omega (arith, k.0, k.1)
 
 pub loop-at-preserved : goal.loop-at-preserved
@@ -34,17 +34,17 @@ loop-at-preserved c =
     let s = c in
     let h = s.loop-at-test.true in
     let l = s.loop-at.invariant in
-    scan_more _ _ _ _ _ _ l h _ _ s.step-went.ensures _ _ _ c.in-Went.is
+    scan_more _ _ _ _ _ _ l h _ _ s.step-went.ensures _ c.in-Some.is
 
-pub shape_of-w-in-Disallowed : goal.shape_of-w-in-Disallowed
-shape_of-w-in-Disallowed c =
+pub shape_of-w-in-None : goal.shape_of-w-in-None
+shape_of-w-in-None c =
     let s = c in
     s.step-went.ensures.same ∙ s.loop-at.invariant.same
 
-pub returns-in-Disallowed : goal.returns-in-Disallowed
-returns-in-Disallowed c =
+pub returns-in-None : goal.returns-in-None
+returns-in-None c =
     let s = c in
-    scan_disallowed _ _ _ _ _ _ s.loop-at.invariant s.loop-at-test.true _ _ s.step-went.ensures c.in-Disallowed.is
+    scan_disallowed _ _ _ _ _ _ s.loop-at.invariant s.loop-at-test.true _ _ s.step-went.ensures c.in-None.is
 
 pub shape_of-w : goal.shape_of-w
 shape_of-w c = c.loop-at.invariant.same

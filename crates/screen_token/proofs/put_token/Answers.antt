@@ -10,18 +10,18 @@ use Rattle.screen_token.proofs.put_token.Goals as goal
 use Rattle.screen_token.proofs.put_token.Goals.{else-not-greek, then-not-greek}
 
 pub returns-then-token : goal.returns-then-token
-returns-then-token c = token_emoji _ _ _ _ _ _ _ _ _ _ c.sequence-s.ensures c.if-token.true c.put_label.ensures
+returns-then-token c = token_emoji _ _ _ _ _ _ _ _ _ _ c.sequence-s.ensures c.if-token.true (rw c.of.ensures at c.put_label.ensures)
 
-pub slice_bounds-put_label-end-2 : goal.slice_bounds-put_label-end-2
-slice_bounds-put_label-end-2 c =
+pub slice_bounds-put_label-end : goal.slice_bounds-put_label-end
+slice_bounds-put_label-end c =
     let h : ShownSo c.args.greek c.args.w.now c.if-not-greek.w c.args.token.length = (elim c.if-not-greek.branch [ then-not-greek v ↦ rw v.w-is (so_shown _ _ _ _ (not-true _ v.if-not-greek.true-raw) v.show_text.ensures) | else-not-greek v ↦ rw v.w-is (so_kept _ _ _ (not-false _ v.if-not-greek.false-raw)) ]) in
     omega (arith, h.same, c.requires.least_work_in_bounds.0, c.requires.least_work_in_bounds.1)
 
-pub slice_bounds-put_label-end-3 : goal.slice_bounds-put_label-end-3
-slice_bounds-put_label-end-3 c = sym (length-take-le _ _ (slice_bounds-put_label-end-2 c))
+pub slice_bounds-put_label-end-2 : goal.slice_bounds-put_label-end-2
+slice_bounds-put_label-end-2 c = sym (length-take-le _ _ (slice_bounds-put_label-end c))
 
 pub put_label-requires-2 : goal.put_label-requires-2
-put_label-requires-2 c = (c.requires.least_work_in_bounds.2, omega (arith, slice_bounds-put_label-end-3 c, c.requires.least_work_in_bounds.1))
+put_label-requires-2 c = (c.requires.least_work_in_bounds.2, omega (arith, slice_bounds-put_label-end-2 c, c.requires.least_work_in_bounds.1))
 
 pub shape_of-w : goal.shape_of-w
 shape_of-w c =
