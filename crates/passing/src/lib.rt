@@ -86,12 +86,10 @@ pub fn run_passes(
     requires seconds_held { SecondsHeld (the_table words.now) held }
     ensures { Asked (the_table words.now) unpaired.new (all (passes8 (the_table words.now)) (counted_from from (to - from))) result }
 {
-    let mut c = from;
-    while c < to {
+    for c in from..to {
         if !passes(words, ix, unpaired, held, c) {
             return false;
         }
-        c += 1;
     }
     true
 }
@@ -118,12 +116,10 @@ pub fn syllables_pass(words: &[u32], ix: Sections, unpaired: &mut [u32], held: b
     requires seconds_held { SecondsHeld (the_table words.now) held }
     ensures { Asked (the_table words.now) unpaired.new (all (passes8 (the_table words.now)) (second_syllables (the_table words.now))) result }
 {
-    let mut l: u32 = 0;
-    while l < 19 {
+    for l in 0..19 {
         if !leading_passes(words, ix, unpaired, held, l) {
             return false;
         }
-        l += 1;
     }
     true
 }

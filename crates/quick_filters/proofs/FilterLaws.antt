@@ -1,17 +1,18 @@
 -- Laws of filters.
 use Prim.Native.Nat.{ℕ, ◌+◌, ◌≤◌, ◌<◌}
 use native.Mathlib.Omega.{arith}
-use mathlib.Core.Path.{◌≡◌, refl, sym, ◌∙◌}
+use mathlib.Core.Path.{◌≡◌, refl, sym, ap, ◌∙◌}
 use mathlib.Core.Bool.{Bool, true, false, ◌&&◌, ◌||◌}
-use mathlib.Core.List.{List}
-use lib.ListN.{length, get_or, drop}
+use mathlib.Core.List.{List, ◌++◌}
+use lib.ListN.{length, get_or, drop, get_or-append, length-append, length-drop}
+use lib.Seq.{drop_at, drop-drop, get_or-drop}
 use lib.Dec.{leb, eqb}
 use borrow.Author.Tests.{eq-eqb, leb-true, leb-false}
 use Rattle.lists.specs.Laws.{both_left, both_right}
 use Rattle.lists.specs.Tests.{never, not_so}
 use Rattle.bit_sets.specs.Sets.{has, Put}
 use Rattle.halving.specs.Halving.{FirstCovers}
-use Rattle.quick_filters.specs.Filter.{filter_words, place_of, strewn_of, last_of, holds, Grown, Noted, RunNoted, RunsNoted}
+use Rattle.quick_filters.specs.Filter.{filter_words, place_of, strewn_of, last_of, holds, Grown, Noted, RunNoted}
 
 or_right : (a b : Bool) → b ≡ true → (a || b) ≡ true
 or_right true b e = refl
@@ -128,9 +129,6 @@ pub record Noting (step last : ℕ) (ws old cur : List ℕ) (i : ℕ) : Type 0 w
   pub same : (c : ℕ) (f : List ℕ → Bool) (z : Bool) (found : List ℕ → ℕ → Bool) → FirstCovers step last c f z found → holds cur c ≡ false → f ws ≡ f (drop i ws)
 
 module _ (step last : ℕ) (ws old : List ℕ) where
-  pub noting_start : Noting step last ws old old 0
-  noting_start = record { inside = omega arith; grown = grown_none old; same = λ c f z found w e. refl }
-
   module _ (cur : List ℕ) (i : ℕ) (n : Noting step last ws old cur i) where
     pub noting_on : (new : List ℕ) → i + step ≤ length ws → RunNoted cur new (get_or ws i 0) (get_or ws (i + last) 0) → Noting step last ws old new (i + step)
     noting_on new h p =
@@ -140,8 +138,28 @@ module _ (step last : ℕ) (ws old : List ℕ) where
           same = λ c f z found w e. n.same c f z found w (was_clear cur new c p.grown e) ∙ w.miss ws i h (λ a b. never (holds new c) (p.each c a b) e);
         }
 
-    pub noting_broken : RunsNoted step last ws old cur false
-    noting_broken = record { grown = n.grown; skips = λ e. never true refl (sym e) }
+-- the walk by chunks: `rest` is what is left of the words, from the place that the walk has come to
+pub record Chunked (step last : ℕ) (ws old cur rest : List ℕ) (size : ℕ) : Type 0 where
+  pub at : ℕ
+  pub noting : Noting step last ws old cur at
+  pub left : rest ≡ drop at ws
+  pub sized : size ≡ step
 
-    pub noting_stop : length ws < i + step → RunsNoted step last ws old cur true
-    noting_stop h = record { grown = n.grown; skips = λ e. record { none = λ c f z found w k. n.same c f z found w k ∙ w.end ws i h } }
+module _ (step last : ℕ) (ws old cur rest : List ℕ) (size : ℕ) (w : Chunked step last ws old cur rest size) where
+  pub chunked_on : (x rest' : List ℕ) (size' : ℕ) → rest ≡ x ++ rest' → length x ≡ size → size' ≡ size → last < step → (new : List ℕ)
+      → RunNoted cur new (get_or x 0 0) (get_or x last 0) → Chunked step last ws old new rest' size'
+  chunked_on x rest' size' cut long z few new p =
+      let here : drop w.at ws ≡ x ++ rest' = sym w.left ∙ cut in
+      let full : length x ≡ step = long ∙ w.sized in
+      let room : w.at + step ≤ length ws = omega (arith, length-drop w.at ws, ap (λ (l : List ℕ). length l) here, length-append x rest', full, few) in
+      let word : (k : ℕ) → k < length x → get_or x k 0 ≡ get_or ws (w.at + k) 0 =
+      λ k h. sym (get_or-append x rest' 0 k h) ∙ ap (λ (l : List ℕ). get_or l k 0) (sym here) ∙ get_or-drop w.at ws k 0 in
+      let zero : w.at + 0 ≡ w.at = omega arith in
+      let first : get_or x 0 0 ≡ get_or ws w.at 0 = word 0 (omega (arith, full, few)) ∙ ap (λ (n : ℕ). get_or ws n 0) zero in
+      let end : get_or x last 0 ≡ get_or ws (w.at + last) 0 = word last (omega (arith, full, few)) in
+      record {
+        at = w.at + step;
+        noting = noting_on step last ws old cur w.at w.noting new room (rw (first, end) at p);
+        left = sym (drop_at x rest' step full) ∙ ap (λ (l : List ℕ). drop step l) (sym here) ∙ drop-drop step w.at ws;
+        sized = z ∙ w.sized;
+      }

@@ -52,10 +52,8 @@ fn note_run(set: &mut [u32], from: u32, to: u32)
     requires { length set.old ≡ filter_words }
     ensures { RunNoted set.old set.new from to }
 {
-    let mut c = from;
-    while c < to {
+    for c in from..to {
         note(set, c);
-        c += 1;
     }
     note(set, to);
 }
@@ -66,10 +64,9 @@ pub fn note_runs(part: &[u32], step: usize, last: usize, set: &mut [u32], most: 
     ensures { RunsNoted step last part.now set.old set.new result }
 {
     let mut left = most;
-    let mut i: usize = 0;
-    while step <= part.len() - i {
-        let from = part[i];
-        let to = part[i + last];
+    for entry in part.chunks_exact(step) {
+        let from = entry[0];
+        let to = entry[last];
         if to < from {
             return false;
         }
@@ -78,7 +75,6 @@ pub fn note_runs(part: &[u32], step: usize, last: usize, set: &mut [u32], most: 
         }
         left = left - (to - from) - 1;
         note_run(set, from, to);
-        i += step;
     }
     true
 }

@@ -31,8 +31,7 @@ pub fn find_slot(part: &[u32], slots: &[u32], x: u32, y: u32) -> usize
     ensures { result < slot_count → Came part.now slots.now x y result }
 {
     let start = hash(x, y);
-    let mut j: u32 = 0;
-    while j < TRIES {
+    for j in 0..TRIES {
         let at = ((start + j) % 2048) as usize;
         let v = slots[at] as usize;
         if v == 0 {
@@ -41,7 +40,6 @@ pub fn find_slot(part: &[u32], slots: &[u32], x: u32, y: u32) -> usize
         if same_words(part, v, x, y) {
             return at;
         }
-        j += 1;
     }
     SLOTS
 }

@@ -18,6 +18,7 @@ pub fn note_heads(part: &[u32], heads: &mut [u32]) -> bool
     requires { Holds as_headed part.now × (length heads.old ≡ filter_words) }
     ensures { HeadsNoted part.now heads.old heads.new result }
 {
+    // by hand: a record's length is its own, and the place goes on by it
     let mut i: usize = 0;
     while i < part.len() {
         let head = part[i];
@@ -56,6 +57,7 @@ fn lift(part: &[u32], from: &[u32], to: &mut [u32]) -> bool
     ensures { Lifted part.now from.now to.old to.new result }
 {
     let mut any = false;
+    // by hand: a record's length is its own, and the place goes on by it
     let mut i: usize = 0;
     while i < part.len() {
         let n = part[i + 1] as usize;
@@ -85,6 +87,7 @@ pub fn index_records(part: &[u32], off: usize, slots: &mut [u32]) -> bool
     requires part_len_bound { (length part.now ≤ most_looked) × (slots.old ≡ replicate slot_count 0) }
     ensures { result ≡ true → Indexed part.now off slots.new }
 {
+    // by hand: a record's length is its own, and the place goes on by it
     let mut i: usize = 0;
     while i < part.len() {
         let n = part[i + 1] as usize;

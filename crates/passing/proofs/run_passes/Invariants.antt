@@ -1,5 +1,4 @@
 -- `rule8::run_passes` meets its contract.
-use Prim.Native.Nat.{◌-◌}
 use Rattle.table.specs.Layout.{the_table}
 use Rattle.unpaired.specs.Unpaired.{Unpaired}
 use Rattle.soundness.specs.QuickCheck.{passes8}
@@ -8,6 +7,3 @@ use Rattle.passing.proofs.run_passes.Given as goal
 
 abbrev pub invariant-loop-c : goal.invariant-loop-c
 invariant-loop-c l = RunSoFar (passes8 (the_table l.words)) l.from l.to l.c × Unpaired (the_table l.words) l.unpaired
-
-abbrev pub decreases-loop-c : goal.decreases-loop-c
-decreases-loop-c l = l.to - l.c

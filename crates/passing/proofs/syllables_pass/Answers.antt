@@ -1,7 +1,5 @@
-use Prim.Native.Nat.{◌-◌}
 use mathlib.Core.Path.{sym, ◌∙◌}
 use borrow.Author.Tests.{not-true, not-false}
-use Rattle.soundness.specs.Concerned.{leading_passes}
 use Rattle.passing.proofs.RunLaws.{run_start, leading_broken, leading_on, leading_done}
 use Rattle.passing.proofs.syllables_pass.Goals as goal
 

@@ -1,5 +1,4 @@
 use Rattle.quick_filters.proofs.FilterLaws.{run_start, run_on, run-stop}
-use Prim.Native.Nat.{◌-◌}
 use mathlib.Core.Path.{refl, ◌∙◌}
 use Rattle.quick_filters.proofs.filters.note_run.Goals as goal
 

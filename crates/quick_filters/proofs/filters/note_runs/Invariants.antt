@@ -1,11 +1,7 @@
--- `note_runs` meets its contract, by the laws of a walk over entries. The measure is the length of what is left.
-use Rattle.quick_filters.proofs.FilterLaws.{Noting}
-use Prim.Native.Nat.{◌-◌}
-use lib.ListN.{length}
+-- `note_runs` meets its contract, by the laws of a walk over entries.
+use Rattle.std.specs.Slice.Iter.{chunks_exact_rest, chunks_exact_size}
+use Rattle.quick_filters.proofs.FilterLaws.{Chunked}
 use Rattle.quick_filters.proofs.filters.note_runs.Given as goal
 
-abbrev pub invariant-loop-i : goal.invariant-loop-i
-invariant-loop-i l = Noting l.step l.last l.part l.initial.set l.set l.i
-
-abbrev pub decreases-loop-i : goal.decreases-loop-i
-decreases-loop-i l = length l.part - l.i
+abbrev pub invariant-loop-entry : goal.invariant-loop-entry
+invariant-loop-entry l = Chunked l.step l.last l.part l.initial.set l.set (chunks_exact_rest l.entry-iterator) (chunks_exact_size l.entry-iterator)

@@ -1,5 +1,5 @@
 use Rattle.quick_filters.proofs.SlotLaws.{asked_start, asked-next, came_empty, came_found, positive}
-use Prim.Native.Nat.{◌+◌, ◌-◌, ◌%◌}
+use Prim.Native.Nat.{◌+◌, ◌%◌}
 use native.Mathlib.Omega.{arith}
 use Rattle.quick_filters.proofs.slots.find_slot.Goals as goal
 

