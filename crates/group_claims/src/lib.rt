@@ -2,7 +2,6 @@
 #![tactic(auto)]
 
 ghost use Rattle.std.specs.Prelude.{◌≡◌, true, ◌&&◌, ◌≤◌, ◌<◌, length, leb, eqb};
-ghost use Rattle.table.specs.Spans.{Fits, within};
 ghost use Rattle.table.specs.Layout.{most_groups};
 ghost use Rattle.table.specs.Lookup.{holds};
 ghost use Rattle.table.specs.Part.{in_pairs};
@@ -14,7 +13,6 @@ ghost use Rattle.group_claims.specs.Gaps.{Between};
 
 use group_numbers::{BATCH, meet};
 use sorting::{count_below, if_below};
-use table::Span;
 use table::lookup::group_at;
 
 // Claims a place for group n, up to `end`; a group that has claimed it before gets one number with n.
@@ -53,10 +51,7 @@ fn first(xs: &[u32]) -> u32
 fn in_gap(low: u32, high: u32, a: u32, b: u32) -> bool
     ensures { result ≡ true → (low < a) × (b < high) }
 {
-    if if_below(if_below(1, low, a), b, high) != 0 {
-        return true;
-    }
-    false
+    if_below(if_below(1, low, a), b, high) != 0
 }
 
 // Claims the numbers of the batch from a to b for group n. Answers the first number of the batch that is not below a, or one that no codepoint has.
@@ -119,28 +114,6 @@ fn take_pairs(
     }
 }
 
-// The same for the pairs of a part.
-fn take_pairs_of(
-    part: &[u32],
-    s: Span,
-    xs: &[u32],
-    ends: &mut [u64; BATCH],
-    owners: &mut [u8; BATCH],
-    k: &mut [u32],
-    n: usize,
-)
-    requires fits { Fits part.now s }
-    requires xs_value { in_order xs.now ≡ true }
-    requires xs_len_bound { (length xs.now ≤ batch) × (n < most_groups) }
-    requires claims { Claims ends.old owners.old k.old }
-    ensures { Takes (λ i x. eqb i n && in_pairs x (within s part.now)) xs.now
-        (claimed ends.old owners.old k.old) (claimed ends.new owners.new k.new) }
-{
-    let from = s.from;
-    let to = s.to;
-    take_pairs(&part[from..to], xs, ends, owners, k, n);
-}
-
 // The same for every group of a section.
 pub fn take_groups(
     part: &[u32],
@@ -156,11 +129,12 @@ pub fn take_groups(
     ensures { Takes (λ i x. holds (nth (groups_in part.now) i) x) xs.now
         (claimed ends.old owners.old k.old) (claimed ends.new owners.new k.new) }
 {
+    // by hand: a record's length is its own, and the place goes on by it
     let mut n: usize = 0;
     let mut at: usize = 0;
     while at < part.len() {
         let group = group_at(part, at);
-        take_pairs_of(part, group.pairs, xs, ends, owners, k, n);
+        take_pairs(group.pairs.of(part), xs, ends, owners, k, n);
         n += 1;
         at = group.next;
     }

@@ -4,7 +4,7 @@ use native.Mathlib.Omega.{arith}
 use mathlib.Core.Path.{◌≡◌, refl, sym, ◌∙◌, ap}
 use mathlib.Core.Bool.{Bool, true, false, ◌&&◌, false≢true}
 use mathlib.Core.List.{List, [], ◌∷◌, ◌++◌, append-nil}
-use mathlib.Core.Logic.{◌⊎◌, ⊎_elim}
+use mathlib.Core.Logic.{⊎_elim}
 use lib.ListN.{length, get_or, take, drop, set, replicate, length-set, length-take, length-drop, length-replicate, drop_of_length-le}
 use lib.Seq.{take-nil, drop-nil, drop-drop, take-take, take_at, drop_at, take-set-le, length-take-le}
 use lib.Dec.{eqb, ltb}
@@ -108,8 +108,8 @@ module _ (ws memo : List ℕ) (w : Memo ws memo) (v : ℕ) where
         found = rw here s;
       }
 
-pub recalled_old : (ws memo : List ℕ) (valid confused : Span) (r : ℕ) → Memo ws memo → Sought ws valid confused memo r → r < slot_count → Recalled ws valid confused memo r
-recalled_old ws memo valid confused r w s h = record { kept = w; few = h; found = s.found h }
+pub recalled_old : (ws memo : List ℕ) (valid confused : Span) (r : ℕ) → Memo ws memo → Sought ws valid confused memo r → Recalled ws valid confused memo r
+recalled_old ws memo valid confused r w s = record { kept = w; few = s.few; found = s.found }
 
 -- spans whose numbers are the same are the same
 pub spans_same : (a b : Span) → same_spans a b ≡ true → a ≡ b
@@ -124,8 +124,8 @@ pub sought_here : (ws memo : List ℕ) (valid confused : Span) (j : ℕ) → Mem
     → (same_spans (valid_in (slot_at memo j)) valid && same_spans (confused_in (slot_at memo j)) confused) ≡ true → Sought ws valid confused memo j
 sought_here ws memo valid confused j w h e =
     record {
-      few = omega arith;
-      found = λ _.
+      few = h;
+      found =
           record {
             slot = w.each j h;
             key =
@@ -136,9 +136,6 @@ sought_here ws memo valid confused j w h e =
                 };
           };
     }
-
-pub sought_nowhere : (ws memo : List ℕ) (valid confused : Span) → Sought ws valid confused memo slot_count
-sought_nowhere ws memo valid confused = record { few = omega arith; found = λ h. absurd (omega arith) }
 
 -- two tests, the second of which is asked where the first passes
 pub second-asked : (a b r : Bool) → a ≡ true → r ≡ b → r ≡ (a && b)

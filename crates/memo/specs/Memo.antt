@@ -1,5 +1,5 @@
 -- What the look-alike test remembers: the components of the wholes that it met last, each in a slot of its own.
-use Rattle.std.specs.Prelude.{ℕ, ◌+◌, ◌*◌, ◌≤◌, ◌<◌, ◌≡◌, Bool, ◌&&◌, ◌||◌, List, length, get_or, take, drop, eqb}
+use Rattle.std.specs.Prelude.{ℕ, ◌+◌, ◌*◌, ◌<◌, ◌≡◌, Bool, ◌&&◌, ◌||◌, List, length, get_or, take, drop, eqb}
 use Rattle.lists.specs.Lists.{mem}
 use Rattle.table.specs.declared.Span.{Span}
 use Rattle.table.specs.Spans.{within}
@@ -62,10 +62,10 @@ pub record Memo (ws memo : List ℕ) : Type 0 where
   pub size : length memo ≡ memo_size
   pub each : (j : ℕ) → j < slot_count → Slot ws (slot_at memo j)
 
--- where the slot for a whole is looked for: it is for that whole, or none is found
+-- the slot that is found for a whole is for that whole
 pub record Sought (ws : List ℕ) (valid confused : Span) (memo : List ℕ) (r : ℕ) : Type 0 where
-  pub few : r ≤ slot_count
-  pub found : r < slot_count → SlotFor ws valid confused (slot_at memo r)
+  pub few : r < slot_count
+  pub found : SlotFor ws valid confused (slot_at memo r)
 
 -- a slot is for the whole now
 pub record Recalled (ws : List ℕ) (valid confused : Span) (memo : List ℕ) (r : ℕ) : Type 0 where

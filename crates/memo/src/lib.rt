@@ -3,7 +3,7 @@
 // next. A slot of zeros is for a whole without members, so that zeros are a memo.
 #![tactic(auto)]
 
-ghost use Rattle.std.specs.Prelude.{◌≡◌, ◌&&◌, ◌≤◌, length, eqb};
+ghost use Rattle.std.specs.Prelude.{◌≡◌, ◌&&◌, ◌≤◌, length, eqb, IfSome};
 ghost use Rattle.sections.specs.Laid.{Laid};
 ghost use Rattle.table.specs.Spans.{Fits};
 ghost use Rattle.table.specs.Layout.{most_words};
@@ -38,21 +38,19 @@ fn same_span(from: u32, to: u32, s: Span) -> bool
     from as usize == s.from && to as usize == s.to
 }
 
-// The slot for a whole, or SLOTS.
-fn find(words: &[u32], memo: &[u32], valid: Span, confused: Span) -> usize
+// The slot for a whole, if there is one.
+fn find(words: &[u32], memo: &[u32], valid: Span, confused: Span) -> Option<usize>
     requires { Memo words.now memo.now }
-    ensures { Sought words.now valid confused memo.now result }
+    ensures { IfSome result (Sought words.now valid confused memo.now) }
 {
-    let mut j: usize = 0;
-    while j < SLOTS {
+    for j in 0..SLOTS {
         let from = SLOT * j;
         let to = from + SLOT;
         if is_for(&memo[from..to], valid, confused) {
-            return j;
+            return Some(j);
         }
-        j += 1;
     }
-    SLOTS
+    None
 }
 
 // Writes the places of a whole's lists in front of a slot.
@@ -74,19 +72,12 @@ fn fill(words: &[u32], ix: Sections, slot: &mut [u32], valid: Span, confused: Sp
     requires slot_len { length slot.old ≡ slot_size }
     ensures { SlotFor words.now valid confused slot.new }
 {
-    let g = ix.groups;
-    let first = g.from;
-    let last = g.to;
-    let a = valid.from;
-    let b = valid.to;
-    let c = confused.from;
-    let d = confused.to;
     put_key(slot, valid, confused);
     components(
-        &words[first..last],
+        ix.groups.of(words),
         &mut slot[4..],
-        &words[a..b],
-        &words[c..d],
+        valid.of(words),
+        confused.of(words),
     );
 }
 
@@ -97,8 +88,7 @@ pub fn recall(words: &[u32], ix: Sections, memo: &mut [u32], valid: Span, confus
     requires memo { Memo words.now memo.old }
     ensures { Recalled words.now valid confused memo.new result }
 {
-    let found = find(words, memo, valid, confused);
-    if found < SLOTS {
+    if let Some(found) = find(words, memo, valid, confused) {
         return found;
     }
     let j = memo[NEXT] as usize % SLOTS;

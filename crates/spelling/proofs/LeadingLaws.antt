@@ -1,12 +1,14 @@
 -- Laws of rule 11 over codepoints with tags beside them: what it says of the tokens, and of the walk over a work area.
-use Prim.Native.Nat.{ℕ}
+use Prim.Native.Nat.{ℕ, ◌+◌}
 use native.Mathlib.Omega.{arith}
 use mathlib.Core.Path.{◌≡◌, refl, sym, ◌∙◌}
 use mathlib.Core.Bool.{Bool, true, false, ◌&&◌, ◌||◌}
 use mathlib.Core.List.{List, [], ◌∷◌, ◌++◌}
-use lib.ListN.{length, replicate, length-replicate}
+use lib.ListN.{length, get_or, drop, replicate, length-replicate}
+use lib.Seq.{get_or-drop}
 use lib.Dec.{eqb}
 use borrow.Author.Tests.{eq-eqb, ne_eqb}
+use Rattle.limits.specs.Limits.{most_worked}
 use Rattle.table.specs.Table.{Table}
 use Rattle.tokens.specs.Tokens.{Token, emoji, text, codepoints, joined_tokens}
 use Rattle.tokens.specs.Cells.{token_tags, tags_of}
@@ -56,6 +58,10 @@ unfolding leading_at joined_tokens tags_of leading_mark
 leading_tokens t [] = refl
 leading_tokens t (x ∷ ts) =
     leading_append t (codepoints x) (token_tags x) (joined_tokens ts) (tags_of ts) (tag_length x) ∙ rw (token_leading t x, leading_tokens t ts)
+
+-- a tag, by its place in the work area
+pub tag_at : (w : List ℕ) (i : ℕ) → get_or (drop most_worked w) i 0 ≡ get_or w (most_worked + i) 0
+tag_at w i = get_or-drop most_worked w i 0
 
 -- a walk over the cells: the codepoints and tags that are left
 module _ (t : Table) (whole : Bool) (a ks : List ℕ) (l : whole ≡ leading_at t a ks) where

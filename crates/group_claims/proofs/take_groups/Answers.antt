@@ -1,5 +1,4 @@
 use mathlib.Core.Path.{sym, ◌∙◌}
-use Prim.Native.Nat.{◌-◌}
 use native.Mathlib.Omega.{arith}
 use Rattle.table.proofs.GroupWalks.{group-room, group_few, pairs_fit, next_more, next_inside}
 use Rattle.group_claims.proofs.TakeLaws.{groups_start, groups_on, groups-stop}
@@ -15,12 +14,17 @@ group_at-group-requires c =
     let p = c.loop-at in
     group-room _ p.n p.at _ p.invariant c.loop-at-test.true
 
-pub take_pairs_of-requires : goal.take_pairs_of-requires
-take_pairs_of-requires c =
+pub of-requires : goal.of-requires
+of-requires c =
+    let p = c.loop-at in
+    pairs_fit _ p.n p.at _ p.invariant c.loop-at-test.true _ c.group_at-group.ensures
+
+pub take_pairs-requires : goal.take_pairs-requires
+take_pairs-requires c =
     let p = c.loop-at in
     let a = c.requires in
     let h = c.loop-at-test.true in
-    record { fits = pairs_fit _ p.n p.at _ p.invariant h _ c.group_at-group.ensures; xs_value = a.xs_value; xs_len_bound = (a.xs_len_bound, group_few _ p.n p.at _ p.invariant h); claims = p.invariant.so.takes.claims }
+    record { xs_value = a.xs_value; xs_len_bound = (a.xs_len_bound, group_few _ p.n p.at _ p.invariant h); claims = p.invariant.so.takes.claims }
 
 pub overflow_add-n : goal.overflow_add-n
 overflow_add-n c =
@@ -37,7 +41,7 @@ loop-at-smaller c =
 pub loop-at-preserved : goal.loop-at-preserved
 loop-at-preserved c =
     let p = c.loop-at in
-    groups_on _ _ _ _ p.n p.at p.invariant c.loop-at-test.true _ c.group_at-group.ensures _ c.take_pairs_of.ensures
+    groups_on _ _ _ _ p.n p.at p.invariant c.loop-at-test.true _ c.group_at-group.ensures _ (rw c.of.ensures at c.take_pairs.ensures)
 
 pub shape_of-k : goal.shape_of-k
 shape_of-k c = c.loop-at.invariant.so.takes.claims.numbers.size ∙ sym c.requires.claims.numbers.size

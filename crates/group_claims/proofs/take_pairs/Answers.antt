@@ -1,4 +1,3 @@
-use Prim.Native.Nat.{◌-◌}
 use mathlib.Core.Path.{sym, ◌∙◌}
 use Rattle.group_claims.proofs.TakeLaws.{pair_start, pair_on, pair-stop}
 use Rattle.group_claims.proofs.ClaimLaws.{take-between}
