@@ -12,6 +12,7 @@ ghost use Rattle.rule_4.specs.Strips.{plain_sequence, same_stripped, distinct_st
 
 use finder::shared::shared;
 use sections::Sections;
+use sound_parts::records::all_sequences;
 use table::Span;
 use table::lookup::{counted, mem_in};
 
@@ -93,9 +94,7 @@ fn same_stripped_of(items: &[u32], part: &[u32], s: Span) -> bool
     requires { Fits part.now s }
     ensures { result ≡ same_stripped items.now (within s part.now) }
 {
-    let from = s.from;
-    let to = s.to;
-    same_stripped(items, &part[from..to])
+    same_stripped(items, s.of(part))
 }
 
 // The first item, or 0.
@@ -132,6 +131,7 @@ pub fn any_same(part: &[u32], sorted: bool, items: &[u32]) -> bool
     let bounded = is_bounded(sorted, items);
     let certain = is_bounded(true, items);
     let first = first_of(items);
+    // by hand: a record's length is its own, and where the sequences are sorted the walk ends early
     let mut i: usize = 0;
     while i < part.len() {
         let s = counted(part, i);
@@ -168,6 +168,7 @@ fn distinct_stripped(part: &[u32], sorted: bool) -> bool
     requires firsts_steady { sorted ≡ true → FirstsSteady part.now }
     ensures { result ≡ distinct_stripped (records_in sequences part.now) }
 {
+    // by hand: each record is asked with those behind it, and its length is its own
     let mut i: usize = 0;
     while i < part.len() {
         let s = counted(part, i);
@@ -179,29 +180,12 @@ fn distinct_stripped(part: &[u32], sorted: bool) -> bool
     true
 }
 
-fn plain_sequence_of(part: &[u32], s: Span) -> bool
-    requires { Fits part.now s }
-    ensures { result ≡ plain_sequence (within s part.now) }
-{
-    let from = s.from;
-    let to = s.to;
-    plain_sequence(&part[from..to])
-}
-
 // Whether all of the sequences are plain.
 fn plain_sequences(part: &[u32]) -> bool
     requires { Holds sequences part.now }
     ensures { result ≡ all plain_sequence (records_in sequences part.now) }
 {
-    let mut i: usize = 0;
-    while i < part.len() {
-        let s = counted(part, i);
-        if !plain_sequence_of(part, s) {
-            return false;
-        }
-        i = s.to;
-    }
-    true
+    all_sequences(part, plain_sequence)
 }
 
 fn sequences_fit(part: &[u32], sorted: bool) -> bool
@@ -221,9 +205,7 @@ fn sequences_fit_of(words: &[u32], sorted: bool, s: Span) -> bool
     requires firsts_steady { sorted ≡ true → FirstsSteady (within s words.now) }
     ensures { result ≡ (all plain_sequence (records_in sequences (within s words.now)) && distinct_stripped (records_in sequences (within s words.now))) }
 {
-    let from = s.from;
-    let to = s.to;
-    sequences_fit(&words[from..to], sorted)
+    sequences_fit(s.of(words), sorted)
 }
 
 // Rule 4: no sequence holds 2E, starts with FE0F or has two FE0F together; stripped, no two are equal.

@@ -56,11 +56,6 @@ module _ (t : Table) (h : ℕ) (s : List ℕ) where
       unfolding pair_of
       pair-first k f g = rw (are_two s two, e, eq-eqb (class_of t h) 0 f, first_is s two, g)
 
--- a record with other items
-pub other_items : (t : Table) (s : List ℕ) (h : ℕ) (items : List ℕ) → same_list s items ≡ false → same_pair t s h items ≡ false
-unfolding same_pair
-other_items t s h items e = rw e
-
 -- Two lists of one length compared word by word have come to i.
 pub record SameSoFar (a b : List ℕ) (i : ℕ) : Type 0 where
   pub inside : i ≤ length a

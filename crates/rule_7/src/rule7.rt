@@ -11,6 +11,7 @@ ghost use Rattle.rule_7.specs.Pairs.{pair_of, same_pair, same_pair_in, pair_fits
 
 use sections::Sections;
 use sections::lookup::is_excluded;
+use sound_parts::records::any_heads;
 use table::Span;
 use table::lookup::counted;
 use text::class::class_of;
@@ -61,49 +62,16 @@ fn same_pair(words: &[u32], ix: Sections, items: &[u32], head: u32, others: &[u3
     false
 }
 
-fn same_items_of(items: &[u32], part: &[u32], s: Span) -> bool
-    requires { Fits part.now s }
-    ensures { result ≡ same_list items.now (within s part.now) }
-{
-    let from = s.from;
-    let to = s.to;
-    same_items(items, &part[from..to])
-}
-
-fn same_pair_of(
-    words: &[u32],
-    ix: Sections,
-    items: &[u32],
-    head: u32,
-    part: &[u32],
-    s: Span,
-) -> bool
-    requires laid { Laid words.now ix }
-    requires fits { Fits part.now s }
-    ensures { result ≡ same_pair (the_table words.now) items.now head (within s part.now) }
-{
-    let from = s.from;
-    let to = s.to;
-    same_pair(words, ix, items, head, &part[from..to])
-}
-
 // Whether one of the records is a composition pair with the items. Most have other items, and are told by these alone.
 fn any_pair(words: &[u32], ix: Sections, part: &[u32], items: &[u32]) -> bool
     requires laid { Laid words.now ix }
     requires holds { Holds as_headed part.now }
     ensures { result ≡ any (same_pair_in (the_table words.now) items.now) (records_in as_headed part.now) }
 {
-    let mut i: usize = 0;
-    while i < part.len() {
-        let s = counted(part, i + 1);
-        if same_items_of(items, part, s) {
-            if same_pair_of(words, ix, items, part[i], part, s) {
-                return true;
-            }
-        }
-        i = s.to;
-    }
-    false
+    any_heads(
+        part,
+        |head, others| same_pair(words, ix, items, head, others),
+    )
 }
 
 // Whether the items are a Hangul pair.
@@ -153,6 +121,7 @@ fn pairs_fit(words: &[u32], ix: Sections, part: &[u32]) -> bool
     requires holds { Holds as_headed part.now }
     ensures { result ≡ pairs_fit (the_table words.now) (records_in as_headed part.now) }
 {
+    // by hand: each record is asked with those behind it, and its length is its own
     let mut i: usize = 0;
     while i < part.len() {
         let s = counted(part, i + 1);
@@ -170,9 +139,7 @@ fn pairs_fit_of(words: &[u32], ix: Sections, s: Span) -> bool
     requires holds { Holds as_headed (within s words.now) }
     ensures { result ≡ pairs_fit (the_table words.now) (records_in as_headed (within s words.now)) }
 {
-    let from = s.from;
-    let to = s.to;
-    pairs_fit(words, ix, &words[from..to])
+    pairs_fit(words, ix, s.of(words))
 }
 
 // Rule 7: no two composition pairs are equal, and none is a Hangul pair.

@@ -2,20 +2,20 @@
 #![tactic(auto)]
 
 ghost use Rattle.std.specs.Prelude.{◌≡◌};
-ghost use Rattle.lists.specs.Lists.{all, any};
+ghost use Rattle.lists.specs.Lists.{all};
 ghost use Rattle.sections.specs.Laid.{Laid};
 ghost use Rattle.table.specs.Spans.{Fits, within};
 ghost use Rattle.table.specs.Layout.{the_table};
 ghost use Rattle.table.specs.Part.{records_in};
 ghost use Rattle.text.specs.QuickCheck.{is_second};
 ghost use Rattle.sound_parts.specs.Parts.{Holds, as_headed};
-ghost use Rattle.second_items.specs.Seconds.{second_is, second_is_in, second_held, second_held_in, SecondsHeld};
+ghost use Rattle.second_items.specs.Seconds.{second_is, second_held, second_held_in, SecondsHeld};
 
 use rule_7::rule7::is_pair;
 use sections::Sections;
 use sections::lookup::in_quick_check;
+use sound_parts::records::{all_heads, any_heads};
 use table::Span;
-use table::lookup::counted;
 use text::hangul::{is_trailing, is_vowel};
 
 // Whether a decomposition is a composition pair with the second item x.
@@ -30,44 +30,6 @@ fn second_is(words: &[u32], ix: Sections, head: u32, items: &[u32], x: u32) -> b
         return false;
     }
     is_pair(words, ix, head, items)
-}
-
-fn second_is_of(words: &[u32], ix: Sections, head: u32, part: &[u32], s: Span, x: u32) -> bool
-    requires laid { Laid words.now ix }
-    requires fits { Fits part.now s }
-    ensures { result ≡ second_is (the_table words.now) x head (within s part.now) }
-{
-    let from = s.from;
-    let to = s.to;
-    second_is(words, ix, head, &part[from..to], x)
-}
-
-// Whether one of the records is a composition pair with the second item x.
-fn any_second(words: &[u32], ix: Sections, part: &[u32], x: u32) -> bool
-    requires laid { Laid words.now ix }
-    requires holds { Holds as_headed part.now }
-    ensures { result ≡ any (second_is_in (the_table words.now) x) (records_in as_headed part.now) }
-{
-    let mut i: usize = 0;
-    while i < part.len() {
-        let s = counted(part, i + 1);
-        if second_is_of(words, ix, part[i], part, s, x) {
-            return true;
-        }
-        i = s.to;
-    }
-    false
-}
-
-fn any_second_of(words: &[u32], ix: Sections, s: Span, x: u32) -> bool
-    requires laid { Laid words.now ix }
-    requires fits { Fits words.now s }
-    requires holds { Holds as_headed (within s words.now) }
-    ensures { result ≡ any (second_is_in (the_table words.now) x) (records_in as_headed (within s words.now)) }
-{
-    let from = s.from;
-    let to = s.to;
-    any_second(words, ix, &words[from..to], x)
 }
 
 // Whether x is the second item of a composition pair, Hangul included. Where the set holds every second item of the table, as `held` may say,
@@ -88,7 +50,10 @@ pub fn is_second(words: &[u32], ix: Sections, held: bool, x: u32) -> bool
             return false;
         }
     }
-    any_second_of(words, ix, ix.decompositions, x)
+    any_heads(
+        ix.decompositions.of(words),
+        |head, items| second_is(words, ix, head, items, x),
+    )
 }
 
 // Whether a decomposition is no composition pair, or its second item is in the set.
@@ -105,40 +70,15 @@ pub fn second_held(words: &[u32], ix: Sections, head: u32, items: &[u32]) -> boo
     !is_pair(words, ix, head, items)
 }
 
-fn second_held_of(words: &[u32], ix: Sections, head: u32, part: &[u32], s: Span) -> bool
-    requires laid { Laid words.now ix }
-    requires fits { Fits part.now s }
-    ensures { result ≡ second_held (the_table words.now) head (within s part.now) }
-{
-    let from = s.from;
-    let to = s.to;
-    second_held(words, ix, head, &part[from..to])
-}
-
-// Whether the second item of each composition pair of the records is in the set.
-fn seconds_held(words: &[u32], ix: Sections, part: &[u32]) -> bool
-    requires laid { Laid words.now ix }
-    requires holds { Holds as_headed part.now }
-    ensures { result ≡ all (second_held_in (the_table words.now)) (records_in as_headed part.now) }
-{
-    let mut i: usize = 0;
-    while i < part.len() {
-        let s = counted(part, i + 1);
-        if !second_held_of(words, ix, part[i], part, s) {
-            return false;
-        }
-        i = s.to;
-    }
-    true
-}
-
+// Whether the second item of each composition pair of the records of a part is in the set.
 pub fn seconds_held_of(words: &[u32], ix: Sections, s: Span) -> bool
     requires laid { Laid words.now ix }
     requires fits { Fits words.now s }
     requires holds { Holds as_headed (within s words.now) }
     ensures { result ≡ all (second_held_in (the_table words.now)) (records_in as_headed (within s words.now)) }
 {
-    let from = s.from;
-    let to = s.to;
-    seconds_held(words, ix, &words[from..to])
+    all_heads(
+        s.of(words),
+        |head, items| second_held(words, ix, head, items),
+    )
 }

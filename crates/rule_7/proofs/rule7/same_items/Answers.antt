@@ -1,4 +1,3 @@
-use Prim.Native.Nat.{◌-◌}
 use Rattle.rule_7.proofs.PairLaws.{differ_length, same_start, same_differ, same_on, same_done}
 use Rattle.rule_7.proofs.rule7.same_items.Goals as goal
 
