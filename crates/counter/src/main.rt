@@ -36,6 +36,7 @@ fn read_full<R: Read>(input: &mut R, buf: &mut [u8]) -> usize
     ensures { result ≤ length buf.new }
 {
     let mut done = 0;
+    // by hand: the step is what a read gives
     while done < buf.len() {
         let Ok(n) = read_some(input, &mut buf[done..]) else {
             break;

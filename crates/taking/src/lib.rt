@@ -58,6 +58,7 @@ pub fn take_piece<W: Write>(
     let mut held = state.held;
     let mut names = state.names;
     let mut at = 0;
+    // by hand: the step is the line's own length
     while at < piece.len() {
         let taken = lines::take_line(&piece[at..], line, held);
         match taken {
