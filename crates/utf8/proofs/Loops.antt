@@ -13,23 +13,16 @@ use Rattle.lists.specs.Lists.{joined_map, place_with}
 use Rattle.lists.specs.Laws.{joined_append}
 use Rattle.answers.specs.Verdict.{Verdict, accepted, refused, next}
 use Rattle.scalar.specs.Scalar.{is_scalar}
+use Rattle.std.specs.Prelude.{Some, None}
 use Rattle.utf8.specs.declared.ReadAnswer.TheVariants as reading
 use Rattle.utf8.specs.declared.WriteAnswer.TheVariants as writing
 use Rattle.utf8_decode.specs.declared.Decoded.{Decoded}
-use Rattle.utf8_decode.specs.declared.Decoded.TheVariants.{Scalar, IllFormed}
 use Rattle.utf8_scheme.specs.Scheme.{octets, starts_with, read_from, read, write}
 use Rattle.utf8_scheme.specs.Inverse.{first-none}
 use Rattle.utf8_scheme.specs.Reading.{octets_few, sequence_long, sequence-read, ill_formed_read, end_read}
 use Rattle.utf8_decode.specs.Decoding.{DecodedIs}
 use Rattle.utf8_encode.specs.Storing.{Holds, Stores, Appends}
 use Rattle.utf8.specs.Promise.{ReadStands, WriteStands}
-
--- what the match found
-pub found_scalar : (rest : List ℕ) (r : Decoded) (value len : ℕ) → r ≡ Scalar value len → DecodedIs rest r → DecodedIs rest (Scalar value len)
-found_scalar rest r value len e d = subst (λ (x : Decoded). DecodedIs rest x) e d
-
-pub found_none : (rest : List ℕ) (r : Decoded) → r ≡ IllFormed → DecodedIs rest r → DecodedIs rest IllFormed
-found_none rest r e d = subst (λ (x : Decoded). DecodedIs rest x) e d
 
 -- `done` was read from the bytes before `at`, n codepoints
 pub record Reading (bytes before now : List ℕ) (at n : ℕ) : Type 0 where
@@ -63,28 +56,28 @@ onto c done (accepted cs) = rw (append_assoc done (c ∷ []) cs)
 onto c done (refused n p) = refl
 
 module _ {bytes before now : List ℕ} {at n : ℕ} (r : Reading bytes before now at n) where
-  module _ (value len : ℕ) (d : DecodedIs (take (length bytes - at) (drop at bytes)) (Scalar value len)) where
-    begins : starts_with (drop at bytes) value ≡ true
+  module _ (found : Decoded) (d : DecodedIs (take (length bytes - at) (drop at bytes)) (Some found)) where
+    begins : starts_with (drop at bytes) found.value ≡ true
     begins = rw (mid_tail at bytes) at d.0
 
     -- the sequence lies within the bytes
-    pub reading-fits : (1 ≤ len) × (at + len ≤ length bytes)
+    pub reading-fits : (1 ≤ found.length) × (at + found.length ≤ length bytes)
     reading-fits =
-        let few = octets_few value in
-        let long : length (octets value) ≤ length bytes - at = rw length-drop at (sequence_long at value (drop at bytes) begins) in
+        let few = octets_few found.value in
+        let long : length (octets found.value) ≤ length bytes - at = rw length-drop at (sequence_long at found.value (drop at bytes) begins) in
         (omega (arith, d.1, few.0), omega (arith, d.1, long, r.within, few.0))
 
-    pub reading_more : {now' : List ℕ} {m : ℕ} → Stores now now' n value m → Reading bytes before now' (at + len) m
+    pub reading_more : {now' : List ℕ} {m : ℕ} → Stores now now' n found.value m → Reading bytes before now' (at + found.length) m
     reading_more s =
         let k = reading-fits in
-        let e : len ≡ length (octets value) = d.1 in
-        let behind : drop (length (octets value)) (drop at bytes) ≡ drop (at + len) bytes = rw (← e) (drop-drop len at bytes) in
+        let e : found.length ≡ length (octets found.value) = d.1 in
+        let behind : drop (length (octets found.value)) (drop at bytes) ≡ drop (at + found.length) bytes = rw (← e) (drop-drop found.length at bytes) in
         record {
-          done = r.done ++ (value ∷ []);
+          done = r.done ++ (found.value ∷ []);
           goes =
               r.goes
-              ∙ ap (λ (v : Verdict (List ℕ)). next v (λ cs. accepted (r.done ++ cs))) (sequence-read at value (drop at bytes) begins)
-              ∙ onto value r.done (read_from (at + length (octets value)) 0 (drop (length (octets value)) (drop at bytes)))
+              ∙ ap (λ (v : Verdict (List ℕ)). next v (λ cs. accepted (r.done ++ cs))) (sequence-read at found.value (drop at bytes) begins)
+              ∙ onto found.value r.done (read_from (at + length (octets found.value)) 0 (drop (length (octets found.value)) (drop at bytes)))
               ∙ rw (behind, ← e);
           holds = s.holds r.done r.holds;
           few = omega (arith, s.next, r.few, k.0);
@@ -93,7 +86,7 @@ module _ {bytes before now : List ℕ} {at n : ℕ} (r : Reading bytes before no
         }
 
   -- no sequence starts here
-  pub reading-stop : at < length bytes → DecodedIs (take (length bytes - at) (drop at bytes)) IllFormed → ReadStands bytes before now (reading.IllFormed at)
+  pub reading-stop : at < length bytes → DecodedIs (take (length bytes - at) (drop at bytes)) None → ReadStands bytes before now (reading.IllFormed at)
   reading-stop h d =
       let e : read_from at 0 (drop at bytes) ≡ refused 30 at =
       ill_formed_read at (drop at bytes) (rw length-drop (omega arith)) (first-none (drop at bytes) (rw (mid_tail at bytes) at d)) in

@@ -4,7 +4,7 @@ ghost use Rattle.utf8_encode.specs.Storing.{Stores};
 ghost use Rattle.utf8.specs.Promise.{ReadStands};
 
 use crate::ReadAnswer;
-use utf8_decode::{Decoded, decode};
+use utf8_decode::decode;
 
 // Stores a codepoint at place n, if there is room, and answers the next place.
 fn put_codepoint(answer: &mut [u32], n: usize, c: u32) -> usize
@@ -24,13 +24,12 @@ pub fn read_front(bytes: &[u8], answer: &mut [u32]) -> ReadAnswer
     let mut at = 0;
     let mut n = 0;
     while at < bytes.len() {
-        let found = decode(&bytes[at..]);
-        match found {
-            Decoded::Scalar { value, length } => {
-                n = put_codepoint(answer, n, value);
-                at += length;
+        match decode(&bytes[at..]) {
+            Some(found) => {
+                n = put_codepoint(answer, n, found.value);
+                at += found.length;
             }
-            Decoded::IllFormed => return ReadAnswer::IllFormed(at),
+            None => return ReadAnswer::IllFormed(at),
         }
     }
     ReadAnswer::Read(n)

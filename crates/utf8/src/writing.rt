@@ -10,14 +10,11 @@ pub fn write_front(codepoints: &[u32], answer: &mut [u8]) -> WriteAnswer
     ensures { WriteStands codepoints.now answer.old answer.new result }
 {
     let mut n = 0;
-    let mut i = 0;
-    while i < codepoints.len() {
-        let c = codepoints[i];
+    for (i, &c) in codepoints.iter().enumerate() {
         if !is_scalar(c) {
             return WriteAnswer::NotScalar(i);
         }
         n = append(answer, n, c);
-        i += 1;
     }
     WriteAnswer::Written(n)
 }

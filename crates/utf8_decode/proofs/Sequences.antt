@@ -13,7 +13,7 @@ use Rattle.scalar.specs.Scalar.{is_scalar}
 use Rattle.utf8_scheme.specs.Scheme.{tail, octets, starts_with}
 use Rattle.utf8_scheme.specs.Inverse.{Row, one, two, three, four, starts_begins, begins_starts, scalar_most}
 use Rattle.utf8_decode.specs.Decoding.{Tail, DecodedIs}
-use Rattle.utf8_decode.specs.declared.Decoded.TheVariants.{Scalar}
+use Rattle.std.specs.Prelude.{Some, None}
 
 -- a byte that is not 0 is there
 inside : (s : List ℕ) (i : ℕ) → 1 ≤ get_or s i 0 → i < length s
@@ -28,23 +28,14 @@ high_scalar : (c : ℕ) → 0xE000 ≤ c → c ≤ 0x10FFFF → is_scalar c ≡ 
 high_scalar c h k = rw (le-leb c 0x10FFFF k, le-leb 0xD800 c (omega arith), lt-leb c 0xDFFF h)
 
 -- a tail octet and its payload bits
-pub tail_none : (o : ℕ) → (o / 0x40 ≡ 0x2 → ⊥) → Tail o 0x40
-tail_none o h = record { most = omega arith; none = λ e n f. h (omega arith); bits = λ k. absurd (omega arith) }
+pub tail_none : (o : ℕ) → (o / 0x40 ≡ 0x2 → ⊥) → Tail o None
+tail_none o h n f = h (omega arith)
 
-pub tail-past : (s : List ℕ) (i : ℕ) → length s ≤ i → Tail (get_or s i 0) 0x40
+pub tail-past : (s : List ℕ) (i : ℕ) → length s ≤ i → Tail (get_or s i 0) None
 tail-past s i h = rw (get_or-eq_default s 0 {n = i} h) (tail_none 0 (λ e. omega arith))
 
-pub tail-some : (o : ℕ) → o / 0x40 ≡ 0x2 → Tail o (bit_and o 0x3F)
-tail-some o h =
-    rw (masked 6 o)
-    (record { most = omega arith; none = λ e n f. omega (arith, e, f); bits = λ k. omega (arith, k) })
-
--- payload bits that are there
-payload : (o b : ℕ) → Tail o b → (b ≡ 0x40 → ⊥) → (o ≡ 0x80 + b) × (b < 0x40)
-payload o b t n = let h : b < 0x40 = small t.most in (t.bits h, h)
-  where
-    small : b ≤ 0x40 → b < 0x40
-    small m = omega arith
+pub tail-some : (o : ℕ) → o / 0x40 ≡ 0x2 → Tail o (Some (bit_and o 0x3F))
+tail-some o h = rw (masked 6 o) (omega arith, omega arith)
 
 -- a number and its digits to the base 40
 three_digits : (x a b c : ℕ) → x ≡ c / 0x1000 → a ≡ c / 0x40 % 0x40 → b ≡ c % 0x40 → (x * 0x40 + a) * 0x40 + b ≡ c
@@ -57,6 +48,13 @@ four_digits x a b d c e f g h =
   where
     last : (y : ℕ) → y ≡ c / 0x40 → y * 0x40 + d ≡ c
     last y k = omega arith
+
+-- the number that the payload bits spell
+pub spelled_3 : (x a b : ℕ) {v y : ℕ} → y ≡ x * 0x40 + a → v ≡ y * 0x40 + b → v ≡ (x * 0x40 + a) * 0x40 + b
+spelled_3 x a b e f = f ∙ ap (λ (y : ℕ). y * 0x40 + b) e
+
+pub spelled_4 : (x a b d : ℕ) {v y z : ℕ} → y ≡ x * 0x40 + a → z ≡ y * 0x40 + b → v ≡ z * 0x40 + d → v ≡ ((x * 0x40 + a) * 0x40 + b) * 0x40 + d
+spelled_4 x a b d e f g = g ∙ ap (λ (y : ℕ). y * 0x40 + d) (spelled_3 x a b e f)
 
 three_parts : (x a b v : ℕ) → v ≡ (x * 0x40 + a) * 0x40 + b → a < 0x40 → b < 0x40
     → (v / 0x1000 ≡ x) × (v / 0x40 % 0x40 ≡ a) × (v % 0x40 ≡ b)
@@ -78,7 +76,7 @@ four_parts x a b d v e f g h =
 
 -- an octet below 80 is a sequence by itself
 module _ (rest : List ℕ) (c : ℕ) (some : 1 ≤ length rest) (lead : c ≡ get_or rest 0 0) (low : c < 0x80) where
-  pub one_is : DecodedIs rest (Scalar c 1)
+  pub one_is : DecodedIs rest (Some (record { value = c; length = 1 }))
   unfolding octets
   one_is = (
     begins_starts rest c (record { scalar = low_scalar c (omega arith); row = one some low (sym lead) }),
@@ -118,22 +116,20 @@ module _ (rest : List ℕ) (x : ℕ) (lead : get_or rest 0 0 ≡ 0xC0 + x) (few 
       go (three k m n a b d) = absurd (omega arith)
       go (four k m n a b d g) = absurd (omega arith)
 
-  pub two_cut : (b : ℕ) → Tail (get_or rest 1 0) b → b ≡ 0x40 → (c : ℕ) → starts_with rest c ≡ true → ⊥
-  two_cut b t e c h = t.none e c (two_only c h).2
+  pub two_cut : Tail (get_or rest 1 0) None → DecodedIs rest None
+  two_cut t c h = t c (two_only c h).2
 
-  module _ (b v : ℕ) (t : Tail (get_or rest 1 0) b) (there : b ≡ 0x40 → ⊥) (value : v ≡ x * 0x40 + b) where
+  module _ (b v : ℕ) (e : Tail (get_or rest 1 0) (Some b)) (value : v ≡ x * 0x40 + b) where
     pub two_overlong : v < 0x80 → (c : ℕ) → starts_with rest c ≡ true → ⊥
     two_overlong o c h =
         let k = two_only c h in
-        let e = payload (get_or rest 1 0) b t there in
-        omega (arith, k.0, k.1, k.2, e.0)
+        omega (arith, k.0, k.1, k.2, e.1)
 
-    pub two_is : 0x80 ≤ v → DecodedIs rest (Scalar v 2)
+    pub two_is : 0x80 ≤ v → DecodedIs rest (Some (record { value = v; length = 2 }))
     unfolding octets
     two_is o =
-        let e = payload (get_or rest 1 0) b t there in
-        let small : b < 0x40 = e.1 in
-        let bits : get_or rest 1 0 ≡ 0x80 + b = e.0 in
+        let small : b < 0x40 = e.0 in
+        let bits : get_or rest 1 0 ≡ 0x80 + b = e.1 in
         let n : v < 0x800 = omega arith in (
           begins_starts rest v
               (record { scalar = low_scalar v (omega arith); row = two (inside rest 1 (omega arith)) o n (omega arith) (omega arith) }),
@@ -152,21 +148,19 @@ module _ (rest : List ℕ) (x : ℕ) (lead : get_or rest 0 0 ≡ 0xE0 + x) (few 
       go (three k m n a b d) = (m, omega arith, b, d, (starts_begins rest c h).scalar)
       go (four k m n a b d g) = absurd (omega arith)
 
-  pub three_cut : (a : ℕ) → Tail (get_or rest 1 0) a → a ≡ 0x40 → (c : ℕ) → starts_with rest c ≡ true → ⊥
-  three_cut a t e c h = t.none e (c / 0x40) (three_only c h).2
+  pub three_cut : Tail (get_or rest 1 0) None → DecodedIs rest None
+  three_cut t c h = t (c / 0x40) (three_only c h).2
 
-  pub three_cut_2 : (b : ℕ) → Tail (get_or rest 2 0) b → b ≡ 0x40 → (c : ℕ) → starts_with rest c ≡ true → ⊥
-  three_cut_2 b t e c h = t.none e c (three_only c h).3
+  pub three_cut_2 : Tail (get_or rest 2 0) None → DecodedIs rest None
+  three_cut_2 t c h = t c (three_only c h).3
 
-  module _ (a b v : ℕ) (s : Tail (get_or rest 1 0) a) (there : a ≡ 0x40 → ⊥) (t : Tail (get_or rest 2 0) b) (there' : b ≡ 0x40 → ⊥)
+  module _ (a b v : ℕ) (p : Tail (get_or rest 1 0) (Some a)) (q : Tail (get_or rest 2 0) (Some b))
       (value : v ≡ (x * 0x40 + a) * 0x40 + b) where
     -- no other number than v can be meant
     three_value : (c : ℕ) → starts_with rest c ≡ true → v ≡ c
     three_value c h =
         let k = three_only c h in
-        let p = payload (get_or rest 1 0) a s there in
-        let q = payload (get_or rest 2 0) b t there' in
-        value ∙ three_digits x a b c k.1 (omega (arith, p.0, k.2)) (omega (arith, q.0, k.3))
+        value ∙ three_digits x a b c k.1 (omega (arith, p.1, k.2)) (omega (arith, q.1, k.3))
 
     pub three_overlong : v < 0x800 → (c : ℕ) → starts_with rest c ≡ true → ⊥
     three_overlong o c h = omega (arith, (three_only c h).0, three_value c h)
@@ -174,17 +168,15 @@ module _ (rest : List ℕ) (x : ℕ) (lead : get_or rest 0 0 ≡ 0xE0 + x) (few 
     pub three_surrogate : is_scalar v ≡ false → (c : ℕ) → starts_with rest c ≡ true → ⊥
     three_surrogate o c h = false≢true (sym o ∙ ap is_scalar (three_value c h) ∙ (three_only c h).4)
 
-    pub three_is : 0x800 ≤ v → is_scalar v ≡ true → DecodedIs rest (Scalar v 3)
+    pub three_is : 0x800 ≤ v → is_scalar v ≡ true → DecodedIs rest (Some (record { value = v; length = 3 }))
     unfolding octets
     three_is o k =
-        let p = payload (get_or rest 1 0) a s there in
-        let q = payload (get_or rest 2 0) b t there' in
-        let d = three_parts x a b v value p.1 q.1 in
-        let n : v < 0x10000 = omega (arith, p.1, q.1) in (
+        let d = three_parts x a b v value p.0 q.0 in
+        let n : v < 0x10000 = omega (arith, p.0, q.0) in (
           begins_starts rest v
               (record {
                 scalar = k;
-                row = three (inside rest 2 (omega (arith, q.0))) o n (omega (arith, lead, d.0)) (omega (arith, p.0, d.1)) (omega (arith, q.0, d.2));
+                row = three (inside rest 2 (omega (arith, q.1))) o n (omega (arith, lead, d.0)) (omega (arith, p.1, d.1)) (omega (arith, q.1, d.2));
               }),
           rw (le-ltb v 0x80 (omega (arith, o)), le-ltb v 0x800 o, lt-ltb v 0x10000 n),
         )
@@ -204,24 +196,21 @@ module _ (rest : List ℕ) (x : ℕ) (lead : get_or rest 0 0 ≡ 0xF0 + x) (few 
       go (three k m n a b d) = absurd (omega arith)
       go (four k m n a b d g) = (m, omega arith, b, d, g, (starts_begins rest c h).scalar)
 
-  pub four_cut : (a : ℕ) → Tail (get_or rest 1 0) a → a ≡ 0x40 → (c : ℕ) → starts_with rest c ≡ true → ⊥
-  four_cut a t e c h = t.none e (c / 0x1000) (four_only c h).2
+  pub four_cut : Tail (get_or rest 1 0) None → DecodedIs rest None
+  four_cut t c h = t (c / 0x1000) (four_only c h).2
 
-  pub four_cut_2 : (b : ℕ) → Tail (get_or rest 2 0) b → b ≡ 0x40 → (c : ℕ) → starts_with rest c ≡ true → ⊥
-  four_cut_2 b t e c h = t.none e (c / 0x40) (four_only c h).3
+  pub four_cut_2 : Tail (get_or rest 2 0) None → DecodedIs rest None
+  four_cut_2 t c h = t (c / 0x40) (four_only c h).3
 
-  pub four_cut_3 : (d : ℕ) → Tail (get_or rest 3 0) d → d ≡ 0x40 → (c : ℕ) → starts_with rest c ≡ true → ⊥
-  four_cut_3 d t e c h = t.none e c (four_only c h).4
+  pub four_cut_3 : Tail (get_or rest 3 0) None → DecodedIs rest None
+  four_cut_3 t c h = t c (four_only c h).4
 
-  module _ (a b d v : ℕ) (s : Tail (get_or rest 1 0) a) (there : a ≡ 0x40 → ⊥) (t : Tail (get_or rest 2 0) b) (there' : b ≡ 0x40 → ⊥)
-      (u : Tail (get_or rest 3 0) d) (there'' : d ≡ 0x40 → ⊥) (value : v ≡ ((x * 0x40 + a) * 0x40 + b) * 0x40 + d) where
+  module _ (a b d v : ℕ) (p : Tail (get_or rest 1 0) (Some a)) (q : Tail (get_or rest 2 0) (Some b)) (r : Tail (get_or rest 3 0) (Some d))
+      (value : v ≡ ((x * 0x40 + a) * 0x40 + b) * 0x40 + d) where
     four_value : (c : ℕ) → starts_with rest c ≡ true → v ≡ c
     four_value c h =
         let k = four_only c h in
-        let p = payload (get_or rest 1 0) a s there in
-        let q = payload (get_or rest 2 0) b t there' in
-        let r = payload (get_or rest 3 0) d u there'' in
-        value ∙ four_digits x a b d c k.1 (omega (arith, p.0, k.2)) (omega (arith, q.0, k.3)) (omega (arith, r.0, k.4))
+        value ∙ four_digits x a b d c k.1 (omega (arith, p.1, k.2)) (omega (arith, q.1, k.3)) (omega (arith, r.1, k.4))
 
     pub four_overlong : v < 0x10000 → (c : ℕ) → starts_with rest c ≡ true → ⊥
     four_overlong o c h = omega (arith, (four_only c h).0, four_value c h)
@@ -229,19 +218,16 @@ module _ (rest : List ℕ) (x : ℕ) (lead : get_or rest 0 0 ≡ 0xF0 + x) (few 
     pub four_beyond : 0x10FFFF < v → (c : ℕ) → starts_with rest c ≡ true → ⊥
     four_beyond o c h = omega (arith, scalar_most c (four_only c h).5, four_value c h)
 
-    pub four_is : 0x10000 ≤ v → v ≤ 0x10FFFF → DecodedIs rest (Scalar v 4)
+    pub four_is : 0x10000 ≤ v → v ≤ 0x10FFFF → DecodedIs rest (Some (record { value = v; length = 4 }))
     unfolding octets
     four_is o k =
-        let p = payload (get_or rest 1 0) a s there in
-        let q = payload (get_or rest 2 0) b t there' in
-        let r = payload (get_or rest 3 0) d u there'' in
-        let m = four_parts x a b d v value p.1 q.1 r.1 in (
+        let m = four_parts x a b d v value p.0 q.0 r.0 in (
           begins_starts rest v
               (record {
                 scalar = high_scalar v (omega (arith, o)) k;
                 row =
-                    four (inside rest 3 (omega (arith, r.0))) o k (omega (arith, lead, m.0)) (omega (arith, p.0, m.1))
-                    (omega (arith, q.0, m.2)) (omega (arith, r.0, m.3));
+                    four (inside rest 3 (omega (arith, r.1))) o k (omega (arith, lead, m.0)) (omega (arith, p.1, m.1))
+                    (omega (arith, q.1, m.2)) (omega (arith, r.1, m.3));
               }),
           rw (le-ltb v 0x80 (omega (arith, o)), le-ltb v 0x800 (omega (arith, o)), le-ltb v 0x10000 o),
         )

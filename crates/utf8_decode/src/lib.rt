@@ -7,28 +7,25 @@ ghost use Rattle.utf8_decode.specs.Decoding.{Tail, DecodedIs};
 
 use scalar::is_scalar;
 
-// No payload bits: there is no tail octet.
-const NO_TAIL: u32 = 0x40;
-
 // The sequence that starts the rest of the bytes: its scalar value and the number of its octets.
 #[derive(Clone, Copy)]
-pub enum Decoded {
-    Scalar { value: u32, length: usize },
-    IllFormed,
+pub struct Decoded {
+    pub value: u32,
+    pub length: usize,
 }
 
-// The payload bits of the tail octet at place i.
-fn tail_bits(rest: &[u8], i: usize) -> u32
+// The payload bits of the tail octet at place i, if there is one.
+fn tail_bits(rest: &[u8], i: usize) -> Option<u32>
     ensures { Tail (get_or rest.now i 0) result }
 {
     if rest.len() <= i {
-        return NO_TAIL;
+        return None;
     }
     let b = rest[i] as u32;
     if b >> 6 != 0b10 {
-        return NO_TAIL;
+        return None;
     }
-    b & 0x3F
+    Some(b & 0x3F)
 }
 
 // x with six bits behind it.
@@ -40,91 +37,73 @@ fn with_bits(x: u32, bits: u32) -> u32
 }
 
 // Two octets, 110xxxxx 10xxxxxx; x are the payload bits of the lead.
-fn two(rest: &[u8], x: u32) -> Decoded
+fn two(rest: &[u8], x: u32) -> Option<Decoded>
     requires { (get_or rest.now 0 0 ≡ 0xC0 + x) × (x < 0x20) }
     ensures { DecodedIs rest.now result }
 {
-    let b = tail_bits(rest, 1);
-    if b == NO_TAIL {
-        return Decoded::IllFormed;
-    }
+    let b = tail_bits(rest, 1)?;
     let c = with_bits(x, b);
     if c < 0x80 {
-        return Decoded::IllFormed;
+        return None;
     }
-    Decoded::Scalar {
+    Some(Decoded {
         value: c,
         length: 2,
-    }
+    })
 }
 
 // Three octets, 1110xxxx 10xxxxxx 10xxxxxx.
-fn three(rest: &[u8], x: u32) -> Decoded
+fn three(rest: &[u8], x: u32) -> Option<Decoded>
     requires { (get_or rest.now 0 0 ≡ 0xE0 + x) × (x < 0x10) }
     ensures { DecodedIs rest.now result }
 {
-    let a = tail_bits(rest, 1);
-    if a == NO_TAIL {
-        return Decoded::IllFormed;
-    }
-    let b = tail_bits(rest, 2);
-    if b == NO_TAIL {
-        return Decoded::IllFormed;
-    }
+    let a = tail_bits(rest, 1)?;
+    let b = tail_bits(rest, 2)?;
     let c = with_bits(with_bits(x, a), b);
     if c < 0x800 {
-        return Decoded::IllFormed;
+        return None;
     }
     if !is_scalar(c) {
-        return Decoded::IllFormed;
+        return None;
     }
-    Decoded::Scalar {
+    Some(Decoded {
         value: c,
         length: 3,
-    }
+    })
 }
 
 // Four octets, 11110xxx 10xxxxxx 10xxxxxx 10xxxxxx.
-fn four(rest: &[u8], x: u32) -> Decoded
+fn four(rest: &[u8], x: u32) -> Option<Decoded>
     requires { (get_or rest.now 0 0 ≡ 0xF0 + x) × (x < 0x8) }
     ensures { DecodedIs rest.now result }
 {
-    let a = tail_bits(rest, 1);
-    if a == NO_TAIL {
-        return Decoded::IllFormed;
-    }
-    let b = tail_bits(rest, 2);
-    if b == NO_TAIL {
-        return Decoded::IllFormed;
-    }
-    let d = tail_bits(rest, 3);
-    if d == NO_TAIL {
-        return Decoded::IllFormed;
-    }
+    let a = tail_bits(rest, 1)?;
+    let b = tail_bits(rest, 2)?;
+    let d = tail_bits(rest, 3)?;
     let c = with_bits(with_bits(with_bits(x, a), b), d);
     if c < 0x10000 {
-        return Decoded::IllFormed;
+        return None;
     }
     if 0x10FFFF < c {
-        return Decoded::IllFormed;
+        return None;
     }
-    Decoded::Scalar {
+    Some(Decoded {
         value: c,
         length: 4,
-    }
+    })
 }
 
-// The sequence that starts the rest.
-pub fn decode(rest: &[u8]) -> Decoded
+// The sequence that starts the rest, if one does.
+pub fn decode(rest: &[u8]) -> Option<Decoded>
     requires { 1 ≤ length rest.now }
     ensures { DecodedIs rest.now result }
 {
     let lead = rest[0] as u32;
     if lead >> 7 == 0 {
-        return Decoded::Scalar {
+        return Some(Decoded {
             value: lead,
             length: 1,
-        };
+        });
     }
     if lead >> 5 == 0b110 {
         return two(rest, lead & 0x1F);
@@ -135,5 +114,5 @@ pub fn decode(rest: &[u8]) -> Decoded
     if lead >> 3 == 0b11110 {
         return four(rest, lead & 0x07);
     }
-    Decoded::IllFormed
+    None
 }

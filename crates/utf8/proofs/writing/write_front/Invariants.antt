@@ -1,11 +1,6 @@
 -- `utf8::writing::write_front` meets its contract: the codepoints before i are written.
-use Prim.Native.Nat.{◌-◌}
-use lib.ListN.{length}
 use Rattle.utf8.proofs.Loops.{Writing}
 use Rattle.utf8.proofs.writing.write_front.Given as goal
 
 abbrev pub invariant-loop-i : goal.invariant-loop-i
 invariant-loop-i l = Writing l.codepoints l.initial.answer l.answer l.n l.i
-
-abbrev pub decreases-loop-i : goal.decreases-loop-i
-decreases-loop-i l = length l.codepoints - l.i
