@@ -45,6 +45,7 @@ fn judge_labels(
     if name.len() == 0 {
         at = 1;
     }
+    // by hand: the step is the label's own length
     while at <= name.len() {
         let end = label_end(name, at);
         let judged = judge_label(

@@ -46,6 +46,7 @@ fn file_labels(
     let mut place = 0;
     let mut len = 0;
     let mut same = true;
+    // by hand: the step is the label's own length
     while at <= name.len() {
         let end = label_end(name, at);
         let judged = judge_label(

@@ -41,17 +41,17 @@ returns-then-is_barred c =
     one-barred _ _ _ _ _ _ c.label_end-end.ensures c.if-end-input.false _ _ c.judge_label.ensures.judges _ c.in_ok-judged.was
     (sym c.is_barred.ensures ∙ c.if-is_barred.true)
 
-pub slice_bounds-put_label-length : goal.slice_bounds-put_label-length
-slice_bounds-put_label-length c = judged-room _ _ _ _ _ _ _ _ c.judge_label.ensures.judges _ c.in_ok-judged.was c.requires.least_work_in_bounds.0
+pub slice_bounds-put_label-end : goal.slice_bounds-put_label-end
+slice_bounds-put_label-end c = judged-room _ _ _ _ _ _ _ _ c.judge_label.ensures.judges _ c.in_ok-judged.was c.requires.least_work_in_bounds.0
 
-pub slice_bounds-put_label-length-2 : goal.slice_bounds-put_label-length-2
-slice_bounds-put_label-length-2 c = judged_count _ _ _ _ _ _ _ _ c.judge_label.ensures.judges _ c.in_ok-judged.was
+pub slice_bounds-put_label-end-2 : goal.slice_bounds-put_label-end-2
+slice_bounds-put_label-end-2 c = judged_count _ _ _ _ _ _ _ _ c.judge_label.ensures.judges _ c.in_ok-judged.was
 
 pub put_label-length-requires : goal.put_label-length-requires
 put_label-length-requires c = (omega arith, judged_short _ _ _ _ _ _ _ _ c.judge_label.ensures.judges _ c.in_ok-judged.was)
 
-pub returns-else-is_barred : goal.returns-else-is_barred
-returns-else-is_barred c =
+pub returns : goal.returns
+returns c =
     one_accepted _ _ _ _ _ _ c.label_end-end.ensures c.if-end-input.false _ _ c.judge_label.ensures.judges _ c.in_ok-judged.was
     (sym c.is_barred.ensures ∙ c.if-is_barred.false) _ _ c.put_label-length.ensures
 
