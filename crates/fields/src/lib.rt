@@ -5,7 +5,9 @@ ghost use Rattle.std.specs.Prelude.{◌≡◌};
 ghost use Rattle.answers.specs.Values.{unpack_values, name_values, label_values, broken_rule};
 ghost use Rattle.fields.specs.Fields.{unpack_fields, name_fields, label_fields, label_numbers, kind_numbers, kind_fields, soundness_numbers, soundness_fields};
 
-use answers::{AcceptedLabel, AcceptedName, Kind, Refusal, Soundness, Unpacked, number_of, place_of};
+use answers::{
+    AcceptedLabel, AcceptedName, Kind, Refusal, Soundness, Unpacked, number_of, place_of,
+};
 
 // A kind: 1 emoji, 2 ASCII, 3 a group with its number and 1 where it is restricted; other fields are 0.
 #[derive(Clone, Copy)]

@@ -13,8 +13,8 @@ ghost use Rattle.groups.specs.Call.{group_values, group_call};
 use answers::Refusal;
 use layout::layout;
 use limits::MOST_INPUT;
-use sections::lookup::in_section;
 use sections::Sections;
+use sections::lookup::in_section;
 use table::lookup::group_at;
 
 // The first group that holds a text: its number and its flags.

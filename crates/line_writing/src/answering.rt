@@ -14,8 +14,6 @@ pub fn write_answer(answer: Result<AcceptedName, Refusal>, buffer: &[u32], out: 
 {
     match answer {
         Ok(accepted) => write_ok(&buffer[..accepted.length], out),
-        Err(refusal) => {
-            write_no(number_of(refusal) as u64, place_of(refusal) as u64, out)
-        }
+        Err(refusal) => { write_no(number_of(refusal) as u64, place_of(refusal) as u64, out) }
     }
 }

@@ -59,4 +59,3 @@ pub returns-in_err-judged : goal.returns-in_err-judged
 returns-in_err-judged c =
     let p = err_from_is_err_and c.from_residual.result c.from_residual.ensures.1 in
     rw (p.1, p.2) (one_refused _ _ _ _ _ _ c.label_end-end.ensures c.if-end-input.false _ _ c.judge_label.ensures.judges _ c.in_err-judged.was)
-

@@ -16,4 +16,3 @@ pub returns-in_err-ix : goal.returns-in_err-ix
 returns-in_err-ix c =
     let p = err_from_is_err_and c.from_residual.result c.from_residual.ensures.1 in
     rw (p.1, p.2) (name_not_admitted _ _ _ _ _ _ c.admit.ensures _ c.in_err-ix.was)
-

@@ -8,4 +8,3 @@ use Rattle.name.proofs.admit.first_not_scalar.Given as goal
 
 abbrev pub invariant-loop-i : goal.invariant-loop-i
 invariant-loop-i l = Search (λ c. not (is_scalar c)) l.input l.i
-

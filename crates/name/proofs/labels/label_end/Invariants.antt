@@ -6,4 +6,3 @@ use Rattle.name.proofs.labels.label_end.Given as goal
 
 abbrev pub invariant-loop-i : goal.invariant-loop-i
 invariant-loop-i l = Seeking l.input l.at l.i
-
