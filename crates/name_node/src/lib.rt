@@ -80,6 +80,7 @@ pub fn node_of(text: &[u32]) -> Digest
     }
     let mut start = label_start(text);
     node = joined(node, label_hash(&text[start..]));
+    // by hand: the step is the label's own length
     while 0 < start {
         let end = start - 1;
         start = label_start(&text[..end]);

@@ -23,6 +23,7 @@ pub fn read_front(bytes: &[u8], answer: &mut [u32]) -> ReadAnswer
 {
     let mut at = 0;
     let mut n = 0;
+    // by hand: the step is the sequence's own length
     while at < bytes.len() {
         match decode(&bytes[at..]) {
             Some(found) => {
