@@ -27,7 +27,6 @@ use Rattle.namehash.specs.Namehash.{then4, node_of, namehash_call}
 use Rattle.namehash.specs.Promise.{NamehashCalls}
 use types.Run.{OneOf}
 use denote.Enum.Declared.{tag_of}
-use Rattle.core.specs.contracts.result.Result as nameAnswers
 use Rattle.utf8.specs.declared.WriteAnswer.TheVariants as writing
 use Rattle.utf8.specs.contracts.WriteAnswer as writeAnswers
 
@@ -107,17 +106,12 @@ module _ (setting : ℕ) (words input before mid work mid-work : List ℕ) (foun
       omega (arith, fits, ap (λ (x : NameValues). x.length) (told_as (Ok (record { length = len; labels = n })) e).values)
 
   -- the name call refused
-  pub name_refused : (g : Digest) → OneOf (1 ∷ []) (tag_of nameAnswers.the_type found) → g.bytes ≡ replicate 32 0
+  pub name_refused : (g : Digest) (f : Refusal) → found ≡ Err f → g.bytes ≡ replicate 32 0
       → NamehashCalls setting words input before mid work mid-work (record { answer = found; node = g })
   unfolding namehash_call v
-  name_refused g t z = go found refl t
-    where
-      go : (r : Result AcceptedName Refusal) → found ≡ r → OneOf (1 ∷ []) (tag_of nameAnswers.the_type r)
-          → NamehashCalls setting words input before mid work mid-work (record { answer = found; node = g })
-      go (Ok a) e u = absurd (omega (arith, u))
-      go (Err f) e u =
-          let h = refused_hash input (length before) (length work) mid mid-work v f g.bytes (told_as (Err f) e) z in
-          record { ends = rw e h.ends; node = h.is }
+  name_refused g f e z =
+      let h = refused_hash input (length before) (length work) mid mid-work v f g.bytes (told_as (Err f) e) z in
+      record { ends = rw e h.ends; node = h.is }
 
   module _ (len n : ℕ) (e : found ≡ Ok (record { length = len; labels = n })) where
     -- it accepted, and the writer takes the answer

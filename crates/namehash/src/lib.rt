@@ -26,12 +26,15 @@ pub fn namehash(
     ensures { NamehashCalls setting words.now input.now answer.old answer.new work.old work.new result }
 {
     let found = name_call::name(input, words, setting, answer, work);
-    let Ok(AcceptedName { length, labels }) = found else {
-        let none = no_node();
-        return HashedName {
-            answer: found,
-            node: none,
-        };
+    let length = match found {
+        Ok(name) => name.length,
+        Err(_) => {
+            let none = no_node();
+            return HashedName {
+                answer: found,
+                node: none,
+            };
+        }
     };
     let mut room = [0u8; 0];
     let written = utf8::write(&answer[..length], &mut room);

@@ -11,25 +11,23 @@ use Rattle.namehash.proofs.namehash.Goals as goal
 use Rattle.namehash.proofs.namehash.Goals.{In-Ok, In_default-written}
 
 -- what is accepted has room in the answer buffer
-room : (c : In-Ok) → c.in-Ok.length ≤ length c.name-found.new.answer
+room : (c : In-Ok) → c.in-Ok.name.length ≤ length c.name-found.new.answer
 room c =
     let name = c in
     let args = name.args in
     name_room _ _ _ args.answer.now _ args.work.now _ name.name-found.result name.name-found.ensures _ _ c.in-Ok.is name.name-found.auto.answer
 
 -- what is accepted has room-at-In_default-written in the answer buffer
-room-at-In_default-written : (c : In_default-written) → c.in-Ok.length ≤ length c.name-found.new.answer
+room-at-In_default-written : (c : In_default-written) → c.in-Ok.name.length ≤ length c.name-found.new.answer
 room-at-In_default-written c =
     let name = c in
     let args = name.args in
     name_room _ _ _ args.answer.now _ args.work.now _ name.name-found.result name.name-found.ensures _ _ c.in-Ok.is name.name-found.auto.answer
 
-pub returns-in_default : goal.returns-in_default
-returns-in_default c =
-    let match = c in
-    let name = match in
-    let args = name.args in
-    name_refused _ _ _ args.answer.now _ args.work.now _ name.name-found.result name.name-found.ensures _ match.in_default.in_default-own.keys2 c.no_node-none.ensures
+pub returns-in-Err : goal.returns-in-Err
+returns-in-Err c =
+    let args = c.args in
+    name_refused _ _ _ args.answer.now _ args.work.now _ c.name-found.result c.name-found.ensures _ _ c.in-Err.is c.no_node-none.ensures
 
 pub slice_bounds-write-end : goal.slice_bounds-write-end
 slice_bounds-write-end c = room c
