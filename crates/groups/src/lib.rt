@@ -51,6 +51,7 @@ fn group_in(part: &[u32], sorted: bool, text: &[u32]) -> GroupSearch
     let mut asked: usize = 0;
     let mut next: usize = 0;
     let mut at: usize = 0;
+    // by hand: 01 names nested loops left by a label; a group's length is its own
     'groups: while at < part.len() {
         let number = next;
         let group = group_at(part, at);

@@ -42,7 +42,7 @@ fn first_in(part: &[u32], sorted: bool, c: u32) -> bool
     requires firsts_steady { sorted ≡ true → FirstsSteady part.now }
     ensures { result ≡ any (starts_with c) (records_in sequences part.now) }
 {
-    // By hand: a record's length is its own, and the place goes on by it.
+    // by hand: a record's length is its own, and the place goes on by it
     let mut i: usize = 0;
     while i < part.len() {
         let first = part[i + 1];
@@ -132,7 +132,7 @@ fn keeps_apart(words: &[u32], ix: Sections, emoji: &[u32], items: &[u32]) -> boo
     if items.len() <= first {
         return true;
     }
-    // By hand: the place goes on to the next item that is no FE0F.
+    // by hand: the place goes on to the next item that is no FE0F
     let mut i = next_item(items, first + 1);
     while i < items.len() {
         if parts_at(words, ix, emoji, items, i) {
@@ -161,7 +161,7 @@ fn sequences_apart(words: &[u32], ix: Sections, emoji: &[u32]) -> bool
     requires emoji_known { EmojiKnown (the_table words.now) ix emoji.now }
     ensures { result ≡ all (keeps_apart (the_table words.now)) (records_in sequences emoji.now) }
 {
-    // By hand: a record's length is its own, and the place goes on by it.
+    // by hand: a record's length is its own, and the place goes on by it
     let mut i: usize = 0;
     while i < emoji.len() {
         let s = counted(emoji, i);

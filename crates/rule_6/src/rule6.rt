@@ -69,7 +69,7 @@ fn heads_fit(part: &[u32]) -> bool
     requires { Holds as_headed part.now }
     ensures { result ≡ heads_fit (records_in as_headed part.now) }
 {
-    // By hand: a record's length is its own, and the place goes on by it.
+    // by hand: a record's length is its own, and the place goes on by it
     let mut i: usize = 0;
     while i < part.len() {
         let s = counted(part, i + 1);

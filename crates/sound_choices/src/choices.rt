@@ -55,7 +55,7 @@ fn first_in(part: &[u32], base: u32, seen: &mut [u32], first: &mut [u32])
     ensures { FirstsIn base (records_in as_headed part.now) first.old first.new seen.new }
 {
     clear(seen);
-    // By hand: a record's length is its own, and the place goes on by it.
+    // by hand: a record's length is its own, and the place goes on by it
     let mut at: usize = 0;
     let mut i: u32 = 0;
     while at < part.len() {
@@ -117,7 +117,7 @@ pub fn choose_in(part: &[u32], first: &[u32], set: &[u32], base: u32, rows: &mut
     ensures { Put rows.old rows.new (row_of row (records_in as_headed part.now)
         (λ i. chooses_in base (head_at (records_in as_headed part.now) i) i first.now set.now)) }
 {
-    // By hand: a record's length is its own, and the place goes on by it.
+    // by hand: a record's length is its own, and the place goes on by it
     let mut at: usize = 0;
     let mut i: u32 = 0;
     while at < part.len() {
@@ -151,7 +151,7 @@ pub fn put_chosen(part: &[u32], rows: &[u32], row: u32, base: u32, set: &mut [u3
     ensures { Put set.old set.new
         (λ d. mem (base + d) (chosen_items (λ i. has rows.now (row + i)) 0 (records_in as_headed part.now))) }
 {
-    // By hand: a record's length is its own, and the place goes on by it.
+    // by hand: a record's length is its own, and the place goes on by it
     let mut at: usize = 0;
     let mut i: u32 = 0;
     while at < part.len() {

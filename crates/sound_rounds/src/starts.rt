@@ -21,7 +21,7 @@ pub fn put_heads(part: &[u32], base: u32, set: &mut [u32])
     requires set_len { length set.old ≡ window_words }
     ensures { Put set.old set.new (λ d. mem (base + d) (heads_of (records_in as_headed part.now))) }
 {
-    // By hand: a record's length is its own, and the place goes on by it.
+    // by hand: a record's length is its own, and the place goes on by it
     let mut i: usize = 0;
     while i < part.len() {
         let s = counted(part, i + 1);
@@ -36,7 +36,7 @@ pub fn put_groups(gs: &[u32], base: u32, set: &mut [u32])
     requires set_len { length set.old ≡ window_words }
     ensures { Put set.old set.new (λ d. in_groups (base + d) (records_in groups gs.now)) }
 {
-    // By hand: a record's length is its own, and the place goes on by it.
+    // by hand: a record's length is its own, and the place goes on by it
     let mut i: usize = 0;
     while i < gs.len() {
         let group = group_at(gs, i);

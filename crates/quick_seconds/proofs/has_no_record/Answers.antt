@@ -6,9 +6,9 @@ use Rattle.quick_seconds.proofs.SecondLaws.{no_record}
 use Rattle.table.specs.Layout.{the_table}
 use Rattle.quick_seconds.proofs.has_no_record.Goals as goal
 
-pub returns-in-At : goal.returns-in-At
-returns-in-At c = λ e. never true refl (sym e)
+pub returns-in-Some : goal.returns-in-Some
+returns-in-Some c = λ e. never true refl (sym e)
 
-pub returns-in-Nothing : goal.returns-in-Nothing
-returns-in-Nothing c =
-    λ e. no_record (the_table c.args.words.now) _ _ c.decomposition_items.result c.decomposition_items.ensures c.in-Nothing.is
+pub returns-in-None : goal.returns-in-None
+returns-in-None c =
+    λ e. no_record (the_table c.args.words.now) _ _ c.decomposition_items.result c.decomposition_items.ensures c.in-None.is
