@@ -51,13 +51,13 @@ fn same_items(a: &[u32], b: &[u32]) -> bool
     true
 }
 
-// Whether a decomposition is a composition pair with the items.
-fn same_pair(words: &[u32], ix: Sections, items: &[u32], head: u32, others: &[u32]) -> bool
-    requires { Laid words.now ix }
+// Whether a decomposition is a composition pair with the items. The sections are lent, since most have other items: none is copied for them.
+fn same_pair(words: &[u32], ix: &Sections, items: &[u32], head: u32, others: &[u32]) -> bool
+    requires { Laid words.now ix.now }
     ensures { result ≡ same_pair (the_table words.now) items.now head others.now }
 {
     if same_items(items, others) {
-        return is_pair(words, ix, head, others);
+        return is_pair(words, *ix, head, others);
     }
     false
 }
@@ -70,7 +70,7 @@ fn any_pair(words: &[u32], ix: Sections, part: &[u32], items: &[u32]) -> bool
 {
     any_heads(
         part,
-        |head, others| same_pair(words, ix, items, head, others),
+        |head, others| same_pair(words, &ix, items, head, others),
     )
 }
 
