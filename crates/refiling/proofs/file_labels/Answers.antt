@@ -68,7 +68,7 @@ pub loop-at-preserved : goal.loop-at-preserved
 loop-at-preserved c =
     let j = c.judge_label-judged.ensures in
     let i = c.loop-at.invariant in
-    (rw c.same-alike.ensures (go_more _ _ _ _ _ _ _ i.0 _ c.label_end-end.ensures _ _ _ j.judges _ c.in-Ok.is), record { same = j.judges.same ∙ i.1.same; pairs = j.unpaired_2; remembered = j.memo_2 })
+    (rw c.same-alike.ensures (go_more _ _ _ _ _ _ _ i.0 _ c.label_end-end.ensures _ _ _ j.judges _ _ _ c.in-Ok.is), record { same = j.judges.same ∙ i.1.same; pairs = j.unpaired_2; remembered = j.memo_2 })
 
 pub shape_of-unpaired-in-Err : goal.shape_of-unpaired-in-Err
 shape_of-unpaired-in-Err c = c.judge_label-judged.ensures.unpaired_2.size ∙ sym c.requires.lent.pairs.size
