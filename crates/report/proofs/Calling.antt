@@ -70,12 +70,15 @@ module _ (setting : ℕ) (words input front front' before work mid : List ℕ) (
         rw (told_refused input front' v f (told_as (Err f) e)) (record { values = refl; bytes = z; cleared = cleared })
 
     -- a name without labels has no lines
-    pub call_none : (len : ℕ) → found ≡ Ok (record { length = len; labels = 0 }) → after ≡ replicate (length before) 0
+    pub call_none : (a : AcceptedName) → found ≡ Ok a → a.labels ≡ 0 → after ≡ replicate (length before) 0
         → ReportCalls setting words input before after work work' (Written 0)
     unfolding report_call report lines
-    call_none len e z = go v refl (told_as (Ok (record { length = len; labels = 0 })) e)
+    call_none a e n z = go v refl (told_as (Ok (record { length = a.length; labels = 0 })) e')
       where
-        go : (u : Verdict (List Label)) → v ≡ u → Told (name_answering input) u front' (name_values (Ok (record { length = len; labels = 0 })))
+        e' : found ≡ Ok (record { length = a.length; labels = 0 })
+        e' = e ∙ ap (λ (k : ℕ). Ok (record { length = a.length; labels = k })) n
+
+        go : (u : Verdict (List Label)) → v ≡ u → Told (name_answering input) u front' (name_values (Ok (record { length = a.length; labels = 0 })))
             → ReportCalls setting words input before after work work' (Written 0)
         go (accepted ls) q t =
             let none : labels_of input ≡ [] = labels_none (labels_of input) (ap (λ (x : NameValues). x.labels) t.0) in

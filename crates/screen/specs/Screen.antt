@@ -5,7 +5,8 @@ use Rattle.answers.specs.declared.AcceptedName.{AcceptedName}
 use Rattle.std.specs.Prelude.{ℕ, List, length, Result}
 use Rattle.answers.specs.Verdict.{Verdict, accepted, next}
 use Rattle.answers.specs.Values.{NameValues, name_values}
-use Rattle.ending.specs.Ending.{Answering, Result, then15, result_of}
+use Rattle.ending.specs.Ending as ending
+use Rattle.ending.specs.Ending.{Answering, then15, result_of}
 use Rattle.ending.specs.Ends.{Ends, Judged}
 use Rattle.table.specs.Table.{Table}
 use Rattle.table.specs.Layout.{the_table}
@@ -34,7 +35,7 @@ screen_verdict greek setting words name room work = then15 (form_answering (scre
 
 -- The call with the number of the Greek group and a setting, on the words of a table and a name, with an answer buffer of `room` words and a work
 -- area of `work` words: what it answers, and every word of both buffers afterwards.
-unfoldable pub screen_call : ℕ → ℕ → List ℕ → List ℕ → ℕ → ℕ → Result NameValues
+unfoldable pub screen_call : ℕ → ℕ → List ℕ → List ℕ → ℕ → ℕ → ending.Result NameValues
 unfolding screen_verdict
 screen_call greek setting words name room work =
     result_of (screen_answering (the_table words) greek name) room work (screen_verdict greek setting words name room work)

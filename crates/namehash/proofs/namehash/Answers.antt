@@ -8,7 +8,7 @@ use Rattle.name_node.specs.Octets.{written_scalars}
 use Rattle.namehash.proofs.Calling.{name_room, name_refused, name_written, name_unwritten, writer_refused, writer_took}
 use borrow.Enum.Refused.{opened}
 use Rattle.namehash.proofs.namehash.Goals as goal
-use Rattle.namehash.proofs.namehash.Goals.{In-Ok, In_default-written}
+use Rattle.namehash.proofs.namehash.Goals.{In-Ok, In_default}
 
 -- what is accepted has room in the answer buffer
 room : (c : In-Ok) → c.in-Ok.name.length ≤ length c.name-found.new.answer
@@ -17,9 +17,9 @@ room c =
     let args = name.args in
     name_room _ _ _ args.answer.now _ args.work.now _ name.name-found.result name.name-found.ensures _ _ c.in-Ok.is name.name-found.auto.answer
 
--- what is accepted has room-at-In_default-written in the answer buffer
-room-at-In_default-written : (c : In_default-written) → c.in-Ok.name.length ≤ length c.name-found.new.answer
-room-at-In_default-written c =
+-- what is accepted has room-at-In_default in the answer buffer
+room-at-In_default : (c : In_default) → c.in-Ok.name.length ≤ length c.name-found.new.answer
+room-at-In_default c =
     let name = c in
     let args = name.args in
     name_room _ _ _ args.answer.now _ args.work.now _ name.name-found.result name.name-found.ensures _ _ c.in-Ok.is name.name-found.auto.answer
@@ -50,15 +50,15 @@ returns-in-NotScalar c =
     c.no_node-none-in-NotScalar.ensures
 
 pub slice_bounds-node_of-end : goal.slice_bounds-node_of-end
-slice_bounds-node_of-end c = room-at-In_default-written c
+slice_bounds-node_of-end c = room-at-In_default c
 
 pub slice_bounds-node_of-end-2 : goal.slice_bounds-node_of-end-2
-slice_bounds-node_of-end-2 c = sym (length-take-le _ _ (room-at-In_default-written c))
+slice_bounds-node_of-end-2 c = sym (length-take-le _ _ (room-at-In_default c))
 
 pub node_of-node-requires : goal.node_of-node-requires
 node_of-node-requires c =
     let write = c in
-    let took = writer_took _ [] _ write.write-written.result write.write-written.ensures (opened c.in_default-written.in_default-written-own.keys2) in
+    let took = writer_took _ [] _ write.write-written.result write.write-written.ensures (opened c.in_default.in_default-own.keys2) in
     written_scalars _ took.0 took.1
 
 pub returns : goal.returns
@@ -68,6 +68,6 @@ returns c =
     let found = write in
     let name = found in
     let args = name.args in
-    let took = writer_took _ [] _ write.write-written.result write.write-written.ensures (opened match.in_default-written.in_default-written-own.keys2) in
+    let took = writer_took _ [] _ write.write-written.result write.write-written.ensures (opened match.in_default.in_default-own.keys2) in
     name_written _ _ _ args.answer.now _ args.work.now _ name.name-found.result name.name-found.ensures _ _ found.in-Ok.is _ took.0 took.1
     c.node_of-node.ensures
