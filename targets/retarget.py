@@ -3,8 +3,7 @@
 The module is what the toolchain lowered the proved crates to, for x86-64, as LLVM's text. It carries over since it does not know how large a
 pointer is: structs are arrays of bytes with their offsets written out, in which a pointer has a slot of 8 bytes (on a machine of 32 bits half of
 it is used), no pointer is made of a number or becomes one, and no constant holds one. Lines of another shape than those below are refused. The
-toolchain's own copy of a part (COPIES) may besides see by their addresses whether two parts overlap, and copy as many bytes as it is told; its room for a
-turn (ROOMS) may be cleared by a store of 16 bytes. Both are written in other words below."""
+toolchain's own copy of a part (COPIES) may besides see by their addresses whether two parts overlap, and copy as many bytes as it is told."""
 
 import re
 
@@ -62,10 +61,8 @@ SHAPES = [
     r'!llvm\.ident = !\{!0\}|!\d+ = !\{[^"{}]*\}|!0 = !\{!"rattle logic=[0-9a-f]+"\}',
 ]
 COPIES = re.compile(r'define internal void @"core::ptr::copy_drop::copy_bits::<i\d+>"\(.*')
-ROOMS = re.compile(r'define internal .* @"core::slots::rooms::with_room::<[^"]*>"\(.*')
 ADDRESS = re.compile(rf"  (?P<to>%\w+) = ptrtoaddr ptr (?P<from>{WORD}) to i64")
 COPIED = re.compile(rf"  call void @llvm\.memmove\.p0\.p0\.i64\(ptr (?P<to>{WORD}), ptr (?P<from>{WORD}), i64 (?P<length>%\w+), i1 false\)")
-CLEARED = re.compile(rf"  store i128 0, ptr (?P<at>{WORD}), align \d+")
 STEP = re.compile(rf"  (?P<to>%\w+) = getelementptr(?: inbounds)?(?: nuw)? i8, ptr (?P<from>{WORD}), i64 (?P<step>{WORD})")
 REACH = re.compile(rf"  (?:%\w+ = load (?P<kind>{ONE}), ptr |store (?P<stored>{ONE}) {WORD}, ptr )(?P<at>{WORD}),")
 PAIRED = re.compile(rf"  (?P<to>%\w+) = load \{{ (?P<first>{ONE}), (?P<second>{ONE}) \}}, ptr (?P<at>{WORD}), align (?P<align>\d+){META}")
@@ -77,7 +74,7 @@ def check(text):
     more = ()  # what the function at hand may have besides
     for number, line in enumerate(text.splitlines(), 1):
         if line.startswith("define "):
-            more = (ADDRESS, COPIED) if COPIES.fullmatch(line) else (CLEARED,) if ROOMS.fullmatch(line) else ()
+            more = (ADDRESS, COPIED) if COPIES.fullmatch(line) else ()
         if not SHAPE.fullmatch(line) and not any(shape.fullmatch(line) for shape in more):
             raise Unknown(f"line {number} of the module does not carry over: {line[:200]}")
     for due in (f'target datalayout = "{LAYOUT}"', f'target triple = "{TRIPLE}"'):
@@ -116,14 +113,12 @@ def parted(text):
 
 
 def spelled(text, bits):
-    """The module with what the toolchain's copy and its room have besides in the words of the other lines: an address is a number, for a machine of 32
-    bits the length of a copy has as many, and 16 bytes are cleared as others are."""
+    """The module with what the toolchain's copy has besides in the words of the other lines: an address is a number of 64 bits, and for a machine of 32 bits
+    the length of a copy has as many."""
     lines = []
     for number, line in enumerate(text.splitlines()):
         if match := ADDRESS.fullmatch(line):
             line = f"  {match['to']} = ptrtoint ptr {match['from']} to i64"
-        elif match := CLEARED.fullmatch(line):
-            line = f"  call void @llvm.memset.p0.i64(ptr {match['at']}, i8 0, i64 16, i1 false)"
         elif bits == 32 and (match := COPIED.fullmatch(line)):
             lines.append(f"  %length{number} = trunc i64 {match['length']} to i32")
             line = f"  call void @llvm.memmove.p0.p0.i32(ptr {match['to']}, ptr {match['from']}, i32 %length{number}, i1 false)"

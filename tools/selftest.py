@@ -387,6 +387,25 @@ class Targets(unittest.TestCase):
         self.assertIn("attributes #2 = { inlinehint nounwind }\n", self.changed(inlined)[0])
         self.assertIn("i64 16, i1 false", self.changed(bits=64)[0])
 
+    def test_the_copy_of_the_library(self):
+        """An address and a length that is not written out are taken in that function alone, and there in other words."""
+        body = """start:
+  %r8 = ptrtoaddr ptr %a1 to i64
+  call void @llvm.memmove.p0.p0.i64(ptr %a1, ptr %a0, i64 %r8, i1 false)
+  ret void
+}
+"""
+        head = 'define internal void @"{}"(ptr noundef %a0, ptr noundef %a1) #0 {{\n'
+        copy = MODULE.replace("define {", head.format("core::ptr::copy_drop::copy_bits::<i32>") + body + "\ndefine {", 1)
+        lines = self.changed(copy)[0].splitlines()
+        self.assertIn("  %r8 = ptrtoint ptr %a1 to i64", lines)
+        at = next(n for n, line in enumerate(lines) if line.startswith("  %length"))
+        self.assertRegex(lines[at], r"^  %length\d+ = trunc i64 %r8 to i32$")
+        self.assertRegex(lines[at + 1], r"^  call void @llvm\.memmove\.p0\.p0\.i32\(ptr %a1, ptr %a0, i32 %length\d+, i1 false\)$")
+        self.assertIn("  call void @llvm.memmove.p0.p0.i64(ptr %a1, ptr %a0, i64 %r8, i1 false)", self.changed(copy, bits=64)[0].splitlines())
+        other = MODULE.replace("define {", head.format("low::other") + body + "\ndefine {", 1)
+        self.assertRaises(header.Unknown, self.changed, other)
+
     def test_a_pair_is_read_part_by_part(self):
         """Each where the module for x86-64 has it, whatever a pointer's size on the machine; and no other line is another."""
         def read(first, second, align=8):
