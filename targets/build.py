@@ -22,7 +22,7 @@ CLANG = ("-mllvm -no-trap-after-noreturn -ffunction-sections -fdata-sections -ml
 AARCH64 = "-mllvm -aarch64-load-store-renaming=false".split()
 # What tools/staticlib adds for x86-64 alone. The first keeps the stack of NFD small, and leaves more single words after refusal 13: elsewhere it was not
 # tried. With the second a copy of a sponge, with bytes of a label, stays on the stack of WebAssembly.
-X86 = "-mllvm -recursive-inline-max-stacksize=256 -mllvm -inline-threshold=130".split()
+X86 = "-mllvm -recursive-inline-max-stacksize=64 -mllvm -inline-threshold=130".split()
 C = ["-std=c11", "-ffreestanding", "-nostdinc", "-Wall", "-Wextra", f"-I{HERE / 'include'}", f"-I{ROOT / 'include'}"]
 
 # What a compiler for ARM calls for memcpy, memmove and memset (the run-time ABI of ARM, 4.3.4).

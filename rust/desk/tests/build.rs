@@ -169,7 +169,7 @@ fn the_module_of_an_archive_is_kept() {
     let read = |name: &str| fs::read_to_string(repository.0.join("target/staticlib").join(name)).expect("a file");
     assert_eq!(read("boundary.bc"), "the module of boundary\n");
     let words = "-x ir module.bc -o module.o -mllvm -inline-max-stacksize=2048 \
-                 -mllvm -recursive-inline-max-stacksize=256 -mllvm -inline-threshold=130";
+                 -mllvm -recursive-inline-max-stacksize=64 -mllvm -inline-threshold=130";
     assert_eq!(read("libboundary.a"), format!("{words}\nthe module of boundary\n"));
     assert_eq!(read("boundary.words"), words.replace(' ', "\n") + "\n");
 }
