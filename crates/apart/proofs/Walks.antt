@@ -1,150 +1,172 @@
 -- Laws of a walk over entries of one length that sees whether they fit and stand apart.
-use Prim.Native.Nat.{ℕ, ◌+◌, ◌-◌, ◌*◌, ◌/◌, ◌%◌, ◌<◌, ◌≤◌}
+use Prim.Native.Nat.{ℕ, zero, suc, ◌+◌, ◌-◌, ◌*◌, ◌/◌, ◌%◌, ◌<◌, ◌≤◌}
 use native.Mathlib.Numerals.{add-one}
 use native.Mathlib.Nat.{suc-mul, zero-mul, div-add-mod'}
 use native.Mathlib.Omega.{arith}
 use mathlib.Core.Path.{◌≡◌, refl, sym, ◌∙◌, ap}
 use mathlib.Core.Bool.{Bool, true, false, not, ◌&&◌, false≢true}
-use mathlib.Core.List.{List, [], ◌∷◌}
+use mathlib.Core.List.{List, [], ◌∷◌, ◌++◌}
 use mathlib.Core.Option.{Option, none, some}
 use lib.ListN.{length, get_or, drop, length-drop}
+use lib.Seq.{drop-drop, get_or-drop}
 use lib.Dec.{leb, ltb, eqb}
-use borrow.Author.Tests.{leb-true, ltb-true, ltb-false, lt-ltb}
+use borrow.Author.Tests.{leb-true, le-leb, ltb-true, ltb-false}
+use Rattle.std.proofs.Common.{drop_at, length-append}
 use Rattle.lists.specs.Lists.{is_some}
 use Rattle.lists.specs.Laws.{both_left, both_right}
 use Rattle.table.specs.Layout.{only_if, in_front, ranges, class_ranges, most_class}
-use Rattle.table.proofs.Lookups.{drop-two, drop-three}
 use Rattle.apart.specs.declared.Order.{Order}
 use Rattle.apart.specs.Order.{is_fault, is_sorted, OrderOf}
 use Rattle.apart.specs.Apart.{Apart, order_if}
-use Rattle.apart.specs.Entries.{positive, entry_fits}
+use Rattle.apart.specs.Entries.{entry_fits, entry_counts}
 use Rattle.apart.specs.Tested.{chained}
+use Rattle.apart.specs.Walked.{Entries}
 
--- The first i entries are seen, one at least: f, the test of a section, goes on behind them.
-pub record Seen (f : List ℕ → Bool) (step last : ℕ) (ws : List ℕ) (fits apart : Bool) (end i : ℕ) : Type 0 where
-  pub some : 1 ≤ i
-  pub inside : i ≤ length ws / step
-  pub before : end ≡ get_or ws ((i - 1) * step + last) 0
-  pub so : f ws ≡ fits && f (drop (i * step) ws)
-  pub each : fits ≡ true → (k : ℕ) → k < i → get_or ws (k * step) 0 ≤ get_or ws (k * step + last) 0
-  pub next : apart ≡ true → (k : ℕ) → k + 1 < i → get_or ws (k * step + last) 0 < get_or ws ((k + 1) * step) 0
-  pub found : Apart step last ws → apart ≡ true
+-- So many entries are seen: f, the test of a section, goes on with the words that are left.
+pub record Seen (f : List ℕ → Bool) (step : ℕ) (ws : List ℕ) (fits apart : Bool) (floor : ℕ) (rest : List ℕ) : Type 0 where
+  pub turns : ℕ
+  pub here : rest ≡ drop (turns * step) ws
+  pub inside : turns * step ≤ length ws
+  pub before : (k : ℕ) → k + 1 ≡ turns → floor ≡ get_or ws (k * step + 1) 0 + 1
+  pub first : turns ≡ 0 → floor ≡ 0
+  pub so : f ws ≡ fits && f rest
+  pub each : fits ≡ true → (k : ℕ) → k < turns → get_or ws (k * step) 0 ≤ get_or ws (k * step + 1) 0
+  pub next : apart ≡ true → (k : ℕ) → k + 1 < turns → get_or ws (k * step + 1) 0 < get_or ws ((k + 1) * step) 0
+  pub found : Apart step 1 ws → apart ≡ true
 
--- the entry at i fits where t is true
-pub record Entry (f : List ℕ → Bool) (step last : ℕ) (ws : List ℕ) (i : ℕ) (t : Bool) : Type 0 where
-  pub so : f (drop i ws) ≡ t && f (drop (i + step) ws)
-  pub each : t ≡ true → get_or ws i 0 ≤ get_or ws (i + last) 0
+-- a word of the first of two lists
+front_word : (x ws : List ℕ) (i : ℕ) → i < length x → get_or (x ++ ws) i 0 ≡ get_or x i 0
+front_word [] ws i h = absurd (omega arith)
+front_word (a ∷ x) ws zero h = refl
+front_word (a ∷ x) ws (suc i) h = front_word x ws i (omega arith)
 
--- f, the test of a section, asks `test` of the place of each entry, and that nothing is left behind the last one
-pub record Entries (f : List ℕ → Bool) (step last : ℕ) (test : List ℕ → ℕ → Bool) : Type 0 where
-  pub here : (ws : List ℕ) (i : ℕ) → i + step ≤ length ws → Entry f step last ws i (test ws i)
-  pub left : (n : ℕ) (vs : List ℕ) → length vs ≡ n % step → f vs ≡ eqb (n % step) 0
-
-module _ {f : List ℕ → Bool} {step last : ℕ} {test : List ℕ → ℕ → Bool} (s : Entries f step last test) (ws : List ℕ) where
-  pub none_seen : length ws / step ≡ 0 → (r : Order) → r ≡ order_if (eqb (length ws % step) 0) true → OrderOf (f ws) (Apart step last ws) r
-  none_seen h r q =
-      let sum : 0 * step + length ws % step ≡ length ws = rw h at (div-add-mod' (length ws) step) in
-      let e : f ws ≡ eqb (length ws % step) 0 = s.left (length ws) ws (omega arith) in
-      rw q
-      (record {
-        fault = faulty (eqb (length ws % step) 0) ∙ ap not (sym e);
-        sorted = λ x. record { whole = λ i l. absurd (omega arith); apart = λ i j k l. absurd (omega arith) };
-        found = λ x a. right (eqb (length ws % step) 0) (sym e ∙ x);
-      })
-    where
-      right : (a : Bool) → a ≡ true → is_sorted (order_if a true) ≡ true
-      right true x = refl
-      right false x = x
-
-      faulty : (a : Bool) → is_fault (order_if a true) ≡ not a
-      faulty true = refl
-      faulty false = refl
-
-  pub seen_start : (length ws / step ≡ 0 → ⊥) → Seen f step last ws (test ws 0) true (get_or ws last 0) 1
-  seen_start n =
-      let h : 0 < length ws / step = positive _ n in
-      let e : Entry f step last ws 0 (test ws 0) = s.here ws 0 (omega (arith, entry_fits (length ws) step 0 h)) in
-      let one : 1 * step ≡ 0 + step = omega arith in
-      let here : (1 - 1) * step + last ≡ last = omega arith in
+module _ {f p : List ℕ → Bool} {step : ℕ} (s : Entries f step p) (ws : List ℕ) (two : 2 ≤ step) where
+  pub seen_start : Seen f step ws true true 0 ws
+  seen_start =
       record {
-        some = omega arith;
-        inside = omega arith;
-        before = rw here;
-        so = rw one e.so;
-        each = λ q k l. let z : k ≡ 0 = omega arith in rw (z, zero-mul) (e.each q);
+        turns = 0;
+        here = rw zero-mul;
+        inside = rw zero-mul (omega arith);
+        before = λ k e. absurd (omega arith);
+        first = λ e. refl;
+        so = refl;
+        each = λ q k l. absurd (omega arith);
         next = λ q k l. absurd (omega arith);
         found = λ a. refl;
       }
 
-  module _ (fits apart : Bool) (end i : ℕ) (w : Seen f step last ws fits apart end i) where
-    pub seen_on : i < length ws / step
-        → Seen f step last ws (fits && test ws (i * step)) (apart && ltb end (get_or ws (i * step) 0)) (get_or ws (i * step + last) 0) (i + 1)
-    seen_on h =
-        let here : i + 1 - 1 ≡ i = omega arith in
-        record {
-          some = omega arith;
-          inside = omega arith;
-          before = rw here;
-          so = w.so ∙ ap (λ (b : Bool). fits && b) e.so ∙ rw step_next (joined fits t (f (drop (i * step + step) ws)));
-          each = λ q k l. each_on (both_left fits t q) (both_right fits t q) k (ltb k i) refl l;
-          next = λ q k l. next_on (both_left apart (ltb end (get_or ws (i * step) 0)) q) (both_right apart (ltb end (get_or ws (i * step) 0)) q) k (ltb (k + 1) i) refl l;
-          found = λ a. rw (w.found a, lt-ltb end (get_or ws (i * step) 0) (ahead a));
-        }
-      where
-        -- entries that are apart: the one at i starts above the one before it
-        ahead : Apart step last ws → end < get_or ws (i * step) 0
-        ahead a = omega (arith, w.before, a.apart (i - 1) i (omega (arith, w.some)) h)
+  module _ (fits apart : Bool) (floor : ℕ) (rest : List ℕ) (w : Seen f step ws fits apart floor rest) where
+    abbrev i : ℕ
+    i = w.turns
 
-        t : Bool
-        t = test ws (i * step)
+    module _ (x : List ℕ) (behind : List ℕ) (e : rest ≡ x ++ behind) (l : length x ≡ step) where
+      room : i * step + step ≤ length ws
+      room =
+          let long : length rest ≡ length ws - i * step = ap length w.here ∙ length-drop (i * step) ws in
+          let parts : length rest ≡ length x + length behind = ap length e ∙ length-append x behind in
+          omega (arith, w.inside)
 
-        e : Entry f step last ws (i * step) t
-        e = s.here ws (i * step) (entry_fits (length ws) step i h)
+      counted : i < length ws / step
+      counted = entry_counts (length ws) step i (omega arith) room
 
-        step_next : (i + 1) * step ≡ i * step + step
-        step_next = rw add-one (suc-mul i step)
+      step_next : (i + 1) * step ≡ i * step + step
+      step_next = rw add-one (suc-mul i step)
 
-        joined : (a b d : Bool) → a && (b && d) ≡ (a && b) && d
-        joined true b d = refl
-        joined false b d = refl
+      word : (j : ℕ) → j < step → get_or ws (i * step + j) 0 ≡ get_or x j 0
+      word j h = sym (get_or-drop (i * step) ws j 0) ∙ ap (λ (v : List ℕ). get_or v j 0) (sym w.here ∙ e) ∙ front_word x behind j (omega arith)
 
-        each_on : fits ≡ true → t ≡ true → (k : ℕ) (b : Bool) → ltb k i ≡ b → k < i + 1 → get_or ws (k * step) 0 ≤ get_or ws (k * step + last) 0
-        each_on q r k true x l = w.each q k (ltb-true k i x)
-        each_on q r k false x l =
-            let m : i ≤ k = ltb-false k i x in
-            let same : k ≡ i = omega arith in
-            rw same (e.each r)
+      start : get_or ws (i * step) 0 ≡ get_or x 0 0
+      start = let z : i * step + 0 ≡ i * step = omega arith in rw z at (word 0 (omega arith))
 
-        next_on : apart ≡ true → ltb end (get_or ws (i * step) 0) ≡ true → (k : ℕ) (b : Bool) → ltb (k + 1) i ≡ b → k + 1 < i + 1
-            → get_or ws (k * step + last) 0 < get_or ws ((k + 1) * step) 0
-        next_on q r k true x l = w.next q k (ltb-true (k + 1) i x)
-        next_on q r k false x l =
-            let m : i ≤ k + 1 = ltb-false (k + 1) i x in
-            let same : k + 1 ≡ i = omega arith in
-            let prior : i - 1 ≡ k = omega arith in
-            let low : end ≡ get_or ws (k * step + last) 0 = rw prior at w.before in
-            rw same (omega (arith, low, ltb-true end (get_or ws (i * step) 0) r))
+      pub seen_on : Seen f step ws (fits && p x) (apart && leb floor (get_or x 0 0)) (get_or x 1 0 + 1) behind
+      seen_on =
+          record {
+            turns = i + 1;
+            here =
+                let d : drop step (x ++ behind) ≡ behind = drop_at x behind step l in
+                sym d ∙ ap (drop step) (sym e ∙ w.here) ∙ drop-drop step (i * step) ws ∙ ap (λ (n : ℕ). drop n ws) (sym step_next);
+            inside = rw step_next room;
+            before = λ k q. let m : k ≡ i = omega arith in rw (m, word 1 (omega arith));
+            first = λ q. absurd (omega arith);
+            so = w.so ∙ ap (λ (b : Bool). fits && b) (ap f e ∙ s.one x behind l) ∙ joined fits (p x) (f behind);
+            each = λ q k h. each_on (both_left fits (p x) q) (both_right fits (p x) q) k (ltb k i) refl h;
+            next = λ q k h. next_on (both_left apart ahead q) (both_right apart ahead q) k (ltb (k + 1) i) refl h;
+            found = λ a. rw (w.found a, le-leb floor (get_or x 0 0) (low a i refl));
+          }
+        where
+          ahead : Bool
+          ahead = leb floor (get_or x 0 0)
 
-    pub seen_stop : length ws / step ≤ i → (r : Order) → r ≡ order_if (eqb (length ws % step) 0 && fits) apart
-        → OrderOf (f ws) (Apart step last ws) r
+          joined : (a b d : Bool) → a && (b && d) ≡ (a && b) && d
+          joined true b d = refl
+          joined false b d = refl
+
+          -- entries that are apart: the one here starts above the one before it
+          low : Apart step 1 ws → (n : ℕ) → n ≡ i → floor ≤ get_or x 0 0
+          low a zero q = let z : floor ≡ 0 = w.first (sym q) in omega arith
+          low a (suc k) q =
+              let m : k + 1 ≡ i = add-one k ∙ q in
+              omega (arith, w.before k m, a.apart k i (omega arith) counted, start)
+
+          each_on : fits ≡ true → p x ≡ true → (k : ℕ) (b : Bool) → ltb k i ≡ b → k < i + 1 → get_or ws (k * step) 0 ≤ get_or ws (k * step + 1) 0
+          each_on q r k true y h = w.each q k (ltb-true k i y)
+          each_on q r k false y h =
+              let m : i ≤ k = ltb-false k i y in
+              let same : k ≡ i = omega arith in
+              rw (same, start, word 1 (omega arith)) (s.rising x l r)
+
+          next_on : apart ≡ true → leb floor (get_or x 0 0) ≡ true → (k : ℕ) (b : Bool) → ltb (k + 1) i ≡ b → k + 1 < i + 1
+              → get_or ws (k * step + 1) 0 < get_or ws ((k + 1) * step) 0
+          next_on q r k true y h = w.next q k (ltb-true (k + 1) i y)
+          next_on q r k false y h =
+              let m : i ≤ k + 1 = ltb-false (k + 1) i y in
+              let same : k + 1 ≡ i = omega arith in
+              rw same (omega (arith, w.before k same, leb-true floor (get_or x 0 0) r, start))
+
+    pub seen_stop : length rest < step → (r : Order) → r ≡ order_if (eqb (length ws % step) 0 && fits) apart → OrderOf (f ws) (Apart step 1 ws) r
     seen_stop h r q =
-        let same : i ≡ length ws / step = omega (arith, w.inside) in
-        let sum : i * step + length ws % step ≡ length ws = rw same (div-add-mod' (length ws) step) in
-        let e : f (drop (i * step) ws) ≡ whole = s.left (length ws) (drop (i * step) ws) (simp length-drop (omega arith)) in
         rw q
         (record {
-          fault = faulty whole fits apart ∙ ap not (sym (w.so ∙ ap (λ (b : Bool). fits && b) e));
+          fault = faulty whole fits apart ∙ ap not (sym told);
           sorted = λ x. let r = right whole fits apart x in
-              chained step last ws (λ k l. w.each r.0 k (omega (arith, w.inside))) (λ k l. w.next r.1 k (omega (arith, w.inside)));
-          found = λ x a. let p : fits && whole ≡ true = sym (w.so ∙ ap (λ (b : Bool). fits && b) e) ∙ x in
-              all_right whole fits apart (both_right fits whole p) (both_left fits whole p) (w.found a);
+              chained step 1 ws (λ k l. w.each r.0 k (omega (arith, all))) (λ k l. w.next r.1 k (omega (arith, all)));
+          found = λ x a. let t : fits && whole ≡ true = sym told ∙ x in
+              all_right whole fits apart (both_right fits whole t) (both_left fits whole t) (w.found a);
         })
       where
-        all_right : (a b d : Bool) → a ≡ true → b ≡ true → d ≡ true → is_sorted (order_if (a && b) d) ≡ true
-        all_right a b d p q r = rw (p, q, r)
-
         whole : Bool
         whole = eqb (length ws % step) 0
+
+        long : length rest ≡ length ws - i * step
+        long = ap length w.here ∙ length-drop (i * step) ws
+
+        -- no whole entry is left
+        all : length ws / step ≤ i
+        all = go (ltb i (length ws / step)) refl
+          where
+            go : (b : Bool) → ltb i (length ws / step) ≡ b → length ws / step ≤ i
+            go true e = absurd (omega (arith, entry_fits (length ws) step i (ltb-true i (length ws / step) e), long, h))
+            go false e = ltb-false i (length ws / step) e
+
+        most : (n : ℕ) → n ≡ i → n ≤ length ws / step
+        most zero e = omega arith
+        most (suc k) e =
+            let m : k + 1 ≡ i = add-one k ∙ e in
+            let up : (k + 1) * step ≡ k * step + step = rw add-one (suc-mul k step) in
+            let inner : k * step + step ≤ length ws = rw (← up, m) w.inside in
+            omega (arith, entry_counts (length ws) step k (omega arith) inner)
+
+        over : length rest ≡ length ws % step
+        over =
+            let same : i ≡ length ws / step = omega (arith, all, most i refl) in
+            let sum : i * step + length ws % step ≡ length ws = rw same (div-add-mod' (length ws) step) in
+            omega (arith, long)
+
+        told : f ws ≡ fits && whole
+        told = w.so ∙ ap (λ (b : Bool). fits && b) (s.left rest (omega arith) ∙ ap (λ (n : ℕ). eqb n 0) over)
+
+        all_right : (a b d : Bool) → a ≡ true → b ≡ true → d ≡ true → is_sorted (order_if (a && b) d) ≡ true
+        all_right a b d p q r = rw (p, q, r)
 
         faulty : (a b d : Bool) → is_fault (order_if (a && b) d) ≡ not (b && a)
         faulty true true true = refl
@@ -166,36 +188,41 @@ front_some true x (some xs) = refl
 front_some false x o = refl
 
 -- pairs
-abbrev pub pair_fits : List ℕ → ℕ → Bool
-pair_fits ws i = leb (get_or ws i 0) (get_or ws (i + 1) 0)
+abbrev pub pair_fits : List ℕ → Bool
+pair_fits x = leb (get_or x 0 0) (get_or x 1 0)
 
-pub pairs : Entries (λ ws. is_some (ranges ws)) 2 1 pair_fits
+pub pairs : Entries (λ ws. is_some (ranges ws)) 2 pair_fits
 unfolding ranges
-pairs =
-    record {
-      here = λ ws i h. record { so = rw (drop-two ws i (omega arith)) (front_some (pair_fits ws i) _ (ranges (drop (i + 2) ws))); each = leb-true _ _ };
-      left = left;
-    }
+pairs = record { one = one; left = left; rising = λ x l. leb-true _ _ }
   where
-    left : (n : ℕ) (vs : List ℕ) → length vs ≡ n % 2 → is_some (ranges vs) ≡ eqb (n % 2) 0
-    left n [] e = rw (← e)
-    left n (a ∷ []) e = rw (← e)
-    left n (a ∷ b ∷ vs) e = absurd (omega arith)
+    one : (x ws : List ℕ) → length x ≡ 2 → is_some (ranges (x ++ ws)) ≡ pair_fits x && is_some (ranges ws)
+    one [] ws l = absurd (omega arith)
+    one (a ∷ []) ws l = absurd (omega arith)
+    one (a ∷ b ∷ []) ws l = front_some (leb a b) _ (ranges ws)
+    one (a ∷ b ∷ c ∷ x) ws l = absurd (omega arith)
+
+    left : (ws : List ℕ) → length ws + 1 ≤ 2 → is_some (ranges ws) ≡ eqb (length ws) 0
+    left [] h = refl
+    left (a ∷ []) h = refl
+    left (a ∷ b ∷ ws) h = absurd (omega arith)
 
 -- triples
-abbrev pub triple_fits : List ℕ → ℕ → Bool
-triple_fits ws i = leb (get_or ws i 0) (get_or ws (i + 1) 0) && leb (get_or ws (i + 2) 0) most_class
+abbrev pub triple_fits : List ℕ → Bool
+triple_fits x = leb (get_or x 0 0) (get_or x 1 0) && leb (get_or x 2 0) most_class
 
-pub triples : Entries (λ ws. is_some (class_ranges ws)) 3 1 triple_fits
+pub triples : Entries (λ ws. is_some (class_ranges ws)) 3 triple_fits
 unfolding class_ranges
-triples =
-    record {
-      here = λ ws i h. record { so = rw (drop-three ws i (omega arith)) (front_some (triple_fits ws i) _ (class_ranges (drop (i + 3) ws))); each = λ q. leb-true _ _ (both_left (leb (get_or ws i 0) (get_or ws (i + 1) 0)) (leb (get_or ws (i + 2) 0) most_class) q) };
-      left = left;
-    }
+triples = record { one = one; left = left; rising = λ x l q. leb-true _ _ (both_left (leb (get_or x 0 0) (get_or x 1 0)) (leb (get_or x 2 0) most_class) q) }
   where
-    left : (n : ℕ) (vs : List ℕ) → length vs ≡ n % 3 → is_some (class_ranges vs) ≡ eqb (n % 3) 0
-    left n [] e = rw (← e)
-    left n (a ∷ []) e = rw (← e)
-    left n (a ∷ b ∷ []) e = rw (← e)
-    left n (a ∷ b ∷ k ∷ vs) e = absurd (omega arith)
+    one : (x ws : List ℕ) → length x ≡ 3 → is_some (class_ranges (x ++ ws)) ≡ triple_fits x && is_some (class_ranges ws)
+    one [] ws l = absurd (omega arith)
+    one (a ∷ []) ws l = absurd (omega arith)
+    one (a ∷ b ∷ []) ws l = absurd (omega arith)
+    one (a ∷ b ∷ c ∷ []) ws l = front_some (leb a b && leb c most_class) _ (class_ranges ws)
+    one (a ∷ b ∷ c ∷ d ∷ x) ws l = absurd (omega arith)
+
+    left : (ws : List ℕ) → length ws + 1 ≤ 3 → is_some (class_ranges ws) ≡ eqb (length ws) 0
+    left [] h = refl
+    left (a ∷ []) h = refl
+    left (a ∷ b ∷ []) h = refl
+    left (a ∷ b ∷ c ∷ ws) h = absurd (omega arith)

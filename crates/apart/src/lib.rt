@@ -1,11 +1,13 @@
 // Sections whose entries are of one length: one walk sees whether they are sorted without overlap.
 #![tactic(auto)]
 
-ghost use Rattle.std.specs.Prelude.{◌≡◌};
+ghost use Rattle.std.specs.Prelude.{◌≡◌, ◌≤◌, ℕ, Bool, List, length};
+ghost use Rattle.std.specs.Borrow.{Bor};
 ghost use Rattle.lists.specs.Lists.{is_some};
 ghost use Rattle.table.specs.Layout.{ranges, class_ranges};
 ghost use Rattle.apart.specs.Order.{OrderOf};
 ghost use Rattle.apart.specs.Apart.{Apart, order_if};
+ghost use Rattle.apart.specs.Walked.{Entries, TellsEntries};
 
 // "a class at most 255"
 const MOST_CLASS: u32 = 255;
@@ -31,46 +33,35 @@ fn order_if(fits: bool, apart: bool) -> Order
     Order::Fault
 }
 
-// How the pairs of a section stand. The walk has no branch but its end, and holds the last word before the pair.
+// How the entries of STEP words stand, where `test` says whether one fits. The walk has no branch but its end, and holds the number below which
+// no later entry may start.
+fn entries_order<const STEP: usize, F: Fn(&[u32]) -> bool>(part: &[u32], test: F) -> Order
+    requires step { 2 ≤ STEP }
+    requires callable { (entry : Bor (List ℕ)) → length entry.now ≡ STEP → F.pre test entry }
+    ensures { (f p : List ℕ → Bool) → Entries f STEP p → TellsEntries STEP (F.post test) p
+        → OrderOf (f part.now) (Apart STEP 1 part.now) result }
+{
+    let mut floor: u64 = 0;
+    let mut fits = true;
+    let mut apart = true;
+    for entry in part.chunks_exact(STEP) {
+        fits = fits & test(entry);
+        apart = apart & (floor <= entry[0] as u64);
+        floor = entry[1] as u64 + 1;
+    }
+    order_if((part.len() % STEP == 0) & fits, apart)
+}
+
+// How the pairs of a section stand.
 pub fn pairs_order(part: &[u32]) -> Order
     ensures { OrderOf (is_some (ranges part.now)) (Apart 2 1 part.now) result }
 {
-    let whole = part.len() % 2 == 0;
-    let n = part.len() / 2;
-    if n == 0 {
-        return order_if(whole, true);
-    }
-    let mut end = part[1];
-    let mut fits = part[0] <= end;
-    let mut apart = true;
-    for i in 1..n {
-        let first = part[i * 2];
-        let last = part[i * 2 + 1];
-        fits = fits & (first <= last);
-        apart = apart & (end < first);
-        end = last;
-    }
-    order_if(whole & fits, apart)
+    entries_order::<2, _>(part, |pair| pair[0] <= pair[1])
 }
 
 // How the triples of a section stand.
 pub fn triples_order(part: &[u32]) -> Order
     ensures { OrderOf (is_some (class_ranges part.now)) (Apart 3 1 part.now) result }
 {
-    let whole = part.len() % 3 == 0;
-    let n = part.len() / 3;
-    if n == 0 {
-        return order_if(whole, true);
-    }
-    let mut end = part[1];
-    let mut fits = (part[0] <= end) & (part[2] <= MOST_CLASS);
-    let mut apart = true;
-    for i in 1..n {
-        let from = part[i * 3];
-        let to = part[i * 3 + 1];
-        fits = fits & ((from <= to) & (part[i * 3 + 2] <= MOST_CLASS));
-        apart = apart & (end < from);
-        end = to;
-    }
-    order_if(whole & fits, apart)
+    entries_order::<3, _>(part, |t| (t[0] <= t[1]) & (t[2] <= MOST_CLASS))
 }

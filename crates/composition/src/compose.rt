@@ -57,6 +57,7 @@ fn compose_from(
     let mut start = first;
     let mut put = first + 1;
     let mut last: u32 = 0;
+    // By place and not zipped with the classes: the loop writes the text that it reads.
     for i in first + 1..text.len() {
         let c = text[i];
         let class = classes[i];

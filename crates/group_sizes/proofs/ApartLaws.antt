@@ -38,18 +38,16 @@ pub sees_order : (fits : Bool) (A : Type 0) (o : Order) (r : Seen) → OrderOf f
 sees_order fits A o r w q = record { fits = q.0 ∙ ap not w.fault ∙ not_not fits; sorted = λ e. w.sorted (sym q.1 ∙ e); found = λ h a. q.1 ∙ w.found h a }
 
 -- what is seen of a group, test by test
-module _ (ws : List ℕ) where
-  pub no_group_lem : 0 ≡ group_size ws → GroupSized ws (record { size = 0; sorted = false })
-  no_group_lem e = record { size = e; sorted = λ q. absurd (false_true q); found = λ p a. absurd (omega arith) }
+module _ (ws : List ℕ) (r : Seen) (w : SeesPairs (group_pairs ws) r) where
+  pub broken_group : r.fits ≡ false → 0 ≡ group_size ws
+  broken_group e = group_broken ws (sym w.fits ∙ e)
 
-  module _ (r : Seen) (w : SeesPairs (group_pairs ws) r) where
-    pub some-group : (size : ℕ) → flags_fit (get_or ws 0 0) ≡ true → get_or ws 1 0 + 2 ≤ length ws → r.fits ≡ true
-        → size ≡ size_if (is_some (group_end (has_list (get_or ws 0 0)) (drop (get_or ws 1 0 + 2) ws))) (get_or ws 1 0 + 2 + end_size (has_list (get_or ws 0 0)) (drop (get_or ws 1 0 + 2) ws))
-        → GroupSized ws (record { size = size; sorted = r.sorted })
-    some-group size h i e k = record { size = k ∙ group_there ws h i (sym w.fits ∙ e); sorted = w.sorted; found = λ p a. w.found (sym w.fits ∙ e) a }
-
-    pub broken_group : r.fits ≡ false → GroupSized ws (record { size = 0; sorted = false })
-    broken_group e = no_group_lem (group_broken ws (sym w.fits ∙ e))
+  pub some-group : flags_fit (get_or ws 0 0) ≡ true → get_or ws 1 0 + 2 ≤ length ws → r.fits ≡ true
+      → is_some (group_end (has_list (get_or ws 0 0)) (drop (get_or ws 1 0 + 2) ws)) ≡ true
+      → (size : ℕ) → size ≡ get_or ws 1 0 + 2 + end_size (has_list (get_or ws 0 0)) (drop (get_or ws 1 0 + 2) ws)
+      → GroupSized ws (record { size = size; sorted = r.sorted })
+  some-group h i e t size k =
+      record { size = k ∙ rw t at (group_there ws h i (sym w.fits ∙ e)); some = omega arith; sorted = w.sorted; found = λ a. w.found (sym w.fits ∙ e) a }
 
 -- A group in front of groups whose pairs are sorted.
 front_apart : (b : Bool) (o : Option (List Range)) (p : Option GroupEnd) (r : Option (List Group)) (f : ℕ) → ((rs : List Range) → o ≡ some rs → Apart 2 1 (spelled rs))

@@ -9,15 +9,16 @@ use mathlib.Core.Option.{Option, none, some, map}
 use lib.ListN.{length, get_or, take, drop, length-drop, drop_of_length-le}
 use lib.Seq.{drop-drop}
 use lib.Dec.{leb, eqb, leb-suc-suc, leb-suc-zero}
-use borrow.Author.Tests.{leb-true, le-leb, lt-leb, ne_eqb}
+use borrow.Author.Tests.{leb-true, le-leb, lt-leb}
 use Rattle.lists.specs.Lists.{is_some, given, and_then}
 use Rattle.table.specs.Layout.{has_list, flags_fit, only_if, in_front, ranges, group, list_part, GroupEnd, with_list, group_end, groups}
-use Rattle.table.specs.GroupPart.{list_size, end_size}
+use Rattle.table.specs.GroupPart.{list_length, end_size}
 use Rattle.whole_sizes.specs.Wholes.{size_if}
-use Rattle.group_sizes.specs.Walk.{group_size, group_pairs, groups_within}
+use Rattle.group_sizes.specs.Walk.{EndOf, group_size, group_pairs, groups_within}
 use Rattle.table.proofs.Fuels.{groups-next}
 use Rattle.table.proofs.Records.{end_rest}
-use Rattle.table.proofs.ListSizes.{list_inside, list-some}
+use Rattle.table.proofs.ListSizes.{list_inside, length-some, length-none}
+use Rattle.std.specs.Prelude.{Some, None}
 use Rattle.whole_sizes.proofs.WalkLaws.{steps_if, leb-same, size_le, last_true, first_true, part_tail, at_step, at_more, at_none}
 
 pub both_true : (a b : Bool) → a ≡ true → b ≡ true → (a && b) ≡ true
@@ -144,22 +145,26 @@ module _ (ws : List ℕ) where
   unfolding group_size
   group_there h i j = rw (h, le-leb (get_or ws 1 0 + 2) (length ws) i, j)
 
+  pub group_endless : is_some (group_end (has_list (get_or ws 0 0)) (drop (get_or ws 1 0 + 2) ws)) ≡ false → 0 ≡ group_size ws
+  unfolding group_size
+  group_endless h =
+      rw (h, and-false (flags_fit (get_or ws 0 0) && leb (get_or ws 1 0 + 2) (length ws) && is_some (ranges (take (get_or ws 1 0) (drop 2 ws)))))
+
 -- What is behind the pairs, by the size of a list that is due.
 module _ (ws : List ℕ) (at : ℕ) where
-  pub end_listed : (b : Bool) (n : ℕ) → b ≡ true → n ≡ list_size (take (length ws - at) (drop at ws)) → (n ≡ 0 → ⊥) → at + n ≡ size_if (is_some (group_end b (drop at ws))) (at + end_size b (drop at ws))
+  pub end_listed : (b : Bool) (n : ℕ) → b ≡ true → Some n ≡ list_length (take (length ws - at) (drop at ws)) → EndOf ws at b (Some (at + n))
   unfolding group_end
-  end_listed b n e m h =
-      let same : n ≡ list_size (drop at ws) = rw (part_tail ws at) at m in
-      let some-list : is_some (list_part (drop at ws)) ≡ true = list-some (drop at ws) ∙ rw (← same, ne_eqb n 0 h) in
-      rw (e, some-map with_list (list_part (drop at ws)), some-list) (ap (λ (k : ℕ). at + k) same)
+  end_listed b n e m =
+      let same : list_length (drop at ws) ≡ Some n = rw (part_tail ws at) at (sym m) in
+      let l = length-some (drop at ws) n same in
+      rw e (some-map with_list (list_part (drop at ws)) ∙ l.1, rw l.0)
 
-  pub end_missing : (b : Bool) (n : ℕ) → b ≡ true → n ≡ list_size (take (length ws - at) (drop at ws)) → n ≡ 0 → 0 ≡ size_if (is_some (group_end b (drop at ws))) (at + end_size b (drop at ws))
+  pub end_missing : (b : Bool) → b ≡ true → None ≡ list_length (take (length ws - at) (drop at ws)) → EndOf ws at b None
   unfolding group_end
-  end_missing b n e m h =
-      let same : n ≡ list_size (drop at ws) = rw (part_tail ws at) at m in
-      let no_list : is_some (list_part (drop at ws)) ≡ false = list-some (drop at ws) ∙ rw (← same, h) in
-      rw (e, some-map with_list (list_part (drop at ws)), no_list)
+  end_missing b e m =
+      let same : list_length (drop at ws) ≡ None = rw (part_tail ws at) at (sym m) in
+      rw e (some-map with_list (list_part (drop at ws)) ∙ (length-none (drop at ws) same).1)
 
-  pub end_plain : (b : Bool) → b ≡ false → at ≡ size_if (is_some (group_end b (drop at ws))) (at + end_size b (drop at ws))
+  pub end_plain : (b : Bool) → b ≡ false → EndOf ws at b (Some at)
   unfolding group_end
-  end_plain b e = rw e (omega arith)
+  end_plain b e = rw e (refl, omega arith)

@@ -15,7 +15,7 @@ ghost use Rattle.table.specs.Layout.{most_groups, flags_fit};
 ghost use Rattle.table.specs.GroupPart.{groups_in};
 ghost use Rattle.apart.specs.Order.{is_fault, is_sorted};
 ghost use Rattle.sections.specs.Known.{GroupsApart};
-ghost use Rattle.group_sizes.specs.Walk.{end_at, GroupSized, groups_within};
+ghost use Rattle.group_sizes.specs.Walk.{EndOf, GroupTold, groups_within};
 ghost use Rattle.group_sizes.specs.Sees.{Sees};
 
 // What is seen of a section: whether it is well formed, and whether it is sorted.
@@ -25,7 +25,7 @@ pub struct Seen {
     pub sorted: bool,
 }
 
-// The number of words of a group, or 0 where there is none, and whether its pairs are sorted.
+// The number of words of a group, and whether its pairs are sorted.
 #[derive(Clone, Copy)]
 struct GroupSeen {
     size: usize,
@@ -59,50 +59,43 @@ fn flags_fit(flags: u32) -> bool
     (flags <= MOST_FLAGS) & ((flags / 2 % 2 == 1) | !(flags / 4 % 2 == 1))
 }
 
-// The place behind a group whose pairs end at `at`, or 0 where a list is due and there is none.
-fn group_end(rest: &[u32], at: usize, listed: bool) -> usize
+// The place behind a group whose pairs end at `at`, if the list that is due is there.
+fn group_end(rest: &[u32], at: usize, listed: bool) -> Option<usize>
     requires { at ≤ length rest.now }
-    ensures { result ≡ end_at rest.now at listed }
+    ensures { EndOf rest.now at listed result }
 {
-    if listed {
-        let size = list_size(&rest[at..]);
-        if size == 0 {
-            return 0;
-        }
-        return at + size;
+    if !listed {
+        return Some(at);
     }
-    at
+    let size = list_size(&rest[at..])?;
+    Some(at + size)
 }
 
 // The group that `rest` begins with.
-fn group_size(rest: &[u32]) -> GroupSeen
-    ensures { GroupSized rest.now result }
+fn group_size(rest: &[u32]) -> Option<GroupSeen>
+    ensures { GroupTold rest.now result }
 {
-    let none = GroupSeen {
-        size: 0,
-        sorted: false,
-    };
     if rest.len() < 2 {
-        return none;
+        return None;
     }
     let flags = rest[0];
     if !flags_fit(flags) {
-        return none;
+        return None;
     }
     let n = rest[1] as usize;
     if n > rest.len() - 2 {
-        return none;
+        return None;
     }
     let to = n + 2;
     let pairs = told(pairs_order(&rest[2..to]));
-    if pairs.fits {
-        let size = group_end(rest, to, flags / 4 % 2 == 1);
-        return GroupSeen {
-            size,
-            sorted: pairs.sorted,
-        };
+    if !pairs.fits {
+        return None;
     }
-    none
+    let size = group_end(rest, to, flags / 4 % 2 == 1)?;
+    Some(GroupSeen {
+        size,
+        sorted: pairs.sorted,
+    })
 }
 
 // Whether the words are groups, one behind the other, and not too many; and whether the pairs of each are sorted.
@@ -120,13 +113,12 @@ pub fn groups_fit(part: &[u32]) -> Seen
                 sorted: false,
             };
         }
-        let group = group_size(&part[at..]);
-        if group.size == 0 {
+        let Some(group) = group_size(&part[at..]) else {
             return Seen {
                 fits: false,
                 sorted: false,
             };
-        }
+        };
         left -= 1;
         sorted = sorted & group.sorted;
         at += group.size;

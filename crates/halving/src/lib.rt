@@ -32,7 +32,7 @@ pub fn rank(part: &[u32], step: usize, c: u32) -> usize
     if n == 0 {
         return 0;
     }
-    // by hand: what is left is halved each turn
+    // by hand: the library's search takes a closure, which would keep c, a codepoint of a label, in memory
     while 1 < n {
         let half = n / 2;
         let middle = low + half - 1;

@@ -1,5 +1,5 @@
 -- "zeros after the answer": every word of a buffer of `room` words that holds an answer and nothing else.
-use Rattle.std.specs.Prelude.{ℕ, ◌+◌, ◌-◌, ◌≤◌, ◌≡◌, refl, List, ◌++◌, length, take, drop, replicate}
+use Rattle.std.specs.Prelude.{ℕ, ◌-◌, ◌≤◌, ◌≡◌, refl, List, ◌++◌, length, take, drop, replicate}
 use Rattle.std.proofs.Common.{arith, length-append, take_at, drop_at, length-take-le}
 use Rattle.std.proofs.lemmas.List.{length-replicate}
 

@@ -6,3 +6,4 @@ pub mod Members
 pub mod Elements
 pub mod Tests
 pub mod Text
+pub mod Searches

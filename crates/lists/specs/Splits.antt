@@ -1,5 +1,5 @@
 -- Laws of splitting at a stop and joining with it.
-use Rattle.std.specs.Prelude.{ℕ, ◌+◌, ◌≤◌, ◌≡◌, refl, Bool, true, false, cond, List, [], ◌∷◌, ◌++◌, length, eqb}
+use Rattle.std.specs.Prelude.{ℕ, ◌≤◌, ◌≡◌, refl, Bool, true, false, cond, List, [], ◌∷◌, ◌++◌, length, eqb}
 use Rattle.std.proofs.Common.{arith, sym, ap, ◌∙◌, append_assoc, length-append, eq-eqb}
 use Rattle.lists.specs.Lists.{onto_first, split, join_with}
 use Rattle.lists.specs.Laws.{Every, every_append}

@@ -1,5 +1,6 @@
 // Writing numbers in decimal and in upper-case hexadecimal. specs/Numeral.antt states what is written. The bytes stand at the front of
-// what is lent, and the answer is how many there are.
+// what is lent, and the answer is how many there are. No `Display`: the library's `write!` promises the text where its writer answers Ok, and
+// not that it does so wherever there is room.
 #![tactic(auto)]
 
 ghost use Rattle.std.specs.Prelude.{◌≡◌, ◌<◌};

@@ -8,9 +8,5 @@ ghost use Rattle.apart.specs.Apart.{Apart};
 pub fn items_rise(items: &[u32]) -> bool
     ensures { (result ≡ true) ↔ Apart 1 0 items.now }
 {
-    let mut rise = true;
-    for i in 1..items.len() {
-        rise = rise & (items[i - 1] < items[i]);
-    }
-    rise
+    items.is_sorted_by(|a, b| a < b)
 }

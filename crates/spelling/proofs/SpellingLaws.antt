@@ -8,16 +8,10 @@ use lib.ListN.{length, get_or, take, drop, length-drop, drop_of_length-le}
 use lib.Seq.{take_all}
 use lib.Dec.{eqb}
 use borrow.Author.Tests.{eq-eqb, ne_eqb}
-use Rattle.std.specs.List.{list_all}
 use Rattle.lists.specs.Lists.{all, mem}
 use Rattle.table.proofs.Lookups.{Walk, walk_on, drop-next}
 use Rattle.table.specs.Table.{Table}
 use Rattle.spelling.specs.Spelling.{low_line, hyphens, is_fenced, first_is, last_is, side_by_side, fenced}
-
--- that every element passes, in std's words and in those of `lists`
-pub every_item : (p : ℕ → Bool) (s : List ℕ) → list_all p s ≡ all p s
-every_item p [] = refl
-every_item p (x ∷ s) = ap (λ b. p x && b) (every_item p s)
 
 -- the part from a place on
 pub part_tail : (s : List ℕ) (i : ℕ) → take (length s - i) (drop i s) ≡ drop i s

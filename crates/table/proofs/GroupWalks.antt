@@ -47,10 +47,10 @@ module _ (part : List ℕ) (n at : ℕ) (Q : List Group → Type 0) (w : GroupWa
       pairs_fit = rw e (group-fits part at w.left group_here_lem)
 
       pub next_more : at < v.next
-      next_more = rw e (omega (arith, group_here_lem.listed.fits.ordered))
+      next_more = rw e (omega arith)
 
       pub next_inside : v.next ≤ length part
-      next_inside = rw e group_here_lem.listed.fits.inside
+      next_inside = rw e group_here_lem.ends
 
       -- its flags, and what its pairs hold
       pub group_restricted : v.restricted ≡ group_here.restricted
@@ -63,7 +63,7 @@ module _ (part : List ℕ) (n at : ℕ) (Q : List Group → Type 0) (w : GroupWa
       pairs_hold c = rw e (group-holds part at w.left group_here_lem c)
 
       -- its list
-      pub list_here : ListHere part v.listed v.list group_here.sequences
+      pub list_here : ListHere part v.list group_here.sequences
       list_here = rw e group_here_lem.listed
 
       -- the walk goes on behind it

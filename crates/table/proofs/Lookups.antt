@@ -10,16 +10,16 @@ use lib.ListN.{length, get_or, take, drop, length-take, length-drop, drop_of_len
 use lib.Seq.{drop-cons, drop-drop, take-nil, take-take}
 use lib.Dec.{leb, ltb, eqb}
 use borrow.Author.Tests.{ltb-true, ltb-false, leb-true}
-use Rattle.std.specs.List.{list_any}
+use Rattle.std.specs.Prelude.{Some, None}
+use Rattle.std.specs.Borrow.{Bor}
 use Rattle.std.specs.declared.slice.ChunksExact.{ChunksExact}
-use Rattle.lists.specs.Lists.{all, and_then, mem}
-use Rattle.lists.specs.Tests.{eqb_turn}
+use Rattle.lists.specs.Lists.{all, and_then}
 use Rattle.table.specs.declared.Span.{Span}
 use Rattle.table.specs.Spans.{within, Fits}
 use Rattle.table.specs.Table.{Range, ClassRange}
 use Rattle.table.specs.Layout.{only_if, in_front, ranges, class_ranges, excluded, most_class}
 use Rattle.table.specs.Lookup.{in_ranges, table_class}
-use Rattle.table.specs.Part.{in_pairs, class_among, ClassFound}
+use Rattle.table.specs.Part.{in_pairs, class_among, EntryFound, ClassFound}
 
 -- nothing and something, no and yes, are never the same
 pub none-some : {A : Type 0} (x : A) → none ≡ some x → ⊥
@@ -148,11 +148,6 @@ pub class_on : (c : ℕ) (ws : List ℕ) (i : ℕ) → Walk (class_among c) ws i
 unfolding class_among
 class_on c ws i w h e = walk_on _ _ i 3 w (omega arith) (rw (drop-three ws i h, ← e))
 
--- A search by pieces of n words: f gives for the words that are left what it gives for all.
-pub record Pieces {A : Type 0} (f : List ℕ → A) (n : ℕ) (ws : List ℕ) (it : ChunksExact ℕ) : Type 0 where
-  pub size : it.size ≡ n
-  pub same : f ws ≡ f it.rest.now
-
 -- the first pair, and the rest
 pairs_first : (c : ℕ) (x ws : List ℕ) → length x ≡ 2
     → in_pairs c (x ++ ws) ≡ ((leb (get_or x 0 0) c && leb c (get_or x 1 0)) || in_pairs c ws)
@@ -162,23 +157,6 @@ pairs_first c (a ∷ []) ws l = absurd (omega arith)
 pairs_first c (a ∷ b ∷ []) ws l = refl
 pairs_first c (a ∷ b ∷ d ∷ x) ws l = absurd (omega arith)
 
-module _ (c : ℕ) (ws : List ℕ) (it next : ChunksExact ℕ) (w : Pieces (in_pairs c) 2 ws it) where
-  module _ (x : List ℕ) (e : it.rest.now ≡ x ++ next.rest.now) (l : length x ≡ it.size) where
-    pub pair_hit : true ≡ (leb (get_or x 0 0) c && leb c (get_or x 1 0)) → true ≡ in_pairs c ws
-    pair_hit t = rw (w.same, e, pairs_first c x next.rest.now (l ∙ w.size), ← t)
-
-    pub pair_on : next.size ≡ it.size → false ≡ (leb (get_or x 0 0) c && leb c (get_or x 1 0)) → Pieces (in_pairs c) 2 ws next
-    pair_on s t = record { size = s ∙ w.size; same = rw (w.same, e, pairs_first c x next.rest.now (l ∙ w.size), ← t) }
-
-  pub pair-stop : length it.rest.now < it.size → false ≡ in_pairs c ws
-  unfolding in_pairs
-  pair-stop h = rw w.same (go it.rest.now (rw w.size at h))
-    where
-      go : (vs : List ℕ) → length vs < 2 → false ≡ in_pairs c vs
-      go [] k = refl
-      go (a ∷ []) k = refl
-      go (a ∷ b ∷ vs) k = absurd (omega arith)
-
 -- the first triple, and the rest
 class_first : (c : ℕ) (x ws : List ℕ) → length x ≡ 3
     → class_among c (x ++ ws) ≡ cond (leb (get_or x 0 0) c && leb c (get_or x 1 0)) (get_or x 2 0) (class_among c ws)
@@ -186,31 +164,52 @@ unfolding class_among
 class_first c [] ws l = absurd (omega arith)
 class_first c (a ∷ []) ws l = absurd (omega arith)
 class_first c (a ∷ b ∷ []) ws l = absurd (omega arith)
-class_first c (a ∷ b ∷ k ∷ []) ws l = refl
-class_first c (a ∷ b ∷ k ∷ d ∷ x) ws l = absurd (omega arith)
+class_first c (a ∷ b ∷ d ∷ []) ws l = refl
+class_first c (a ∷ b ∷ d ∷ e ∷ x) ws l = absurd (omega arith)
 
-module _ (c : ℕ) (ws : List ℕ) (it next : ChunksExact ℕ) (w : Pieces (class_among c) 3 ws it) where
-  module _ (x : List ℕ) (e : it.rest.now ≡ x ++ next.rest.now) (l : length x ≡ it.size) where
-    pub triple_hit : true ≡ (leb (get_or x 0 0) c && leb c (get_or x 1 0)) → get_or x 2 0 ≡ class_among c ws
-    triple_hit t = rw (w.same, e, class_first c x next.rest.now (l ∙ w.size), ← t)
+-- A search by pieces of `step` words: what is asked of the words that are left is what is asked of all.
+pub record Pieces (step c : ℕ) (ws : List ℕ) (it : ChunksExact ℕ) : Type 0 where
+  pub size : it.size ≡ step
+  pub pairs : step ≡ 2 → in_pairs c ws ≡ in_pairs c it.rest.now
+  pub triples : step ≡ 3 → class_among c ws ≡ class_among c it.rest.now
 
-    pub triple_on : next.size ≡ it.size → false ≡ (leb (get_or x 0 0) c && leb c (get_or x 1 0)) → Pieces (class_among c) 3 ws next
-    triple_on s t = record { size = s ∙ w.size; same = rw (w.same, e, class_first c x next.rest.now (l ∙ w.size), ← t) }
+module _ (step c : ℕ) (ws : List ℕ) (it next : ChunksExact ℕ) (w : Pieces step c ws it) where
+  module _ (x : Bor (List ℕ)) (e : it.rest.now ≡ x.now ++ next.rest.now) (l : length x.now ≡ it.size) where
+    pub piece_hit : true ≡ (leb (get_or x.now 0 0) c && leb c (get_or x.now 1 0)) → EntryFound step c ws (Some x)
+    piece_hit t =
+        record {
+          size = l ∙ w.size;
+          pairs = λ s. rw (w.pairs s, e, pairs_first c x.now next.rest.now (l ∙ w.size ∙ s), ← t);
+          triples = λ s. rw (w.triples s, e, class_first c x.now next.rest.now (l ∙ w.size ∙ s), ← t);
+        }
 
-  pub triple-stop : length it.rest.now < it.size → 0 ≡ class_among c ws
-  unfolding class_among
-  triple-stop h = rw w.same (go it.rest.now (rw w.size at h))
+    pub piece_on : next.size ≡ it.size → false ≡ (leb (get_or x.now 0 0) c && leb c (get_or x.now 1 0)) → Pieces step c ws next
+    piece_on n t =
+        record {
+          size = n ∙ w.size;
+          pairs = λ s. rw (w.pairs s, e, pairs_first c x.now next.rest.now (l ∙ w.size ∙ s), ← t);
+          triples = λ s. rw (w.triples s, e, class_first c x.now next.rest.now (l ∙ w.size ∙ s), ← t);
+        }
+
+  pub piece-stop : length it.rest.now < it.size → EntryFound step c ws None
+  unfolding in_pairs class_among
+  piece-stop h =
+      record {
+        size = tt;
+        pairs = λ s. rw (w.pairs s) (two it.rest.now (rw (w.size ∙ s) at h));
+        triples = λ s. rw (w.triples s) (three it.rest.now (rw (w.size ∙ s) at h));
+      }
     where
-      go : (vs : List ℕ) → length vs < 3 → 0 ≡ class_among c vs
-      go [] k = refl
-      go (a ∷ []) k = refl
-      go (a ∷ b ∷ []) k = refl
-      go (a ∷ b ∷ d ∷ vs) k = absurd (omega arith)
+      two : (vs : List ℕ) → length vs < 2 → false ≡ in_pairs c vs
+      two [] k = refl
+      two (a ∷ []) k = refl
+      two (a ∷ b ∷ vs) k = absurd (omega arith)
 
--- a search of the library finds an item or none
-pub list_any_mem : (c : ℕ) (xs : List ℕ) → list_any (λ y. eqb y c) xs ≡ mem c xs
-list_any_mem c [] = refl
-list_any_mem c (x ∷ xs) = rw (list_any_mem c xs, eqb_turn x c)
+      three : (vs : List ℕ) → length vs < 3 → 0 ≡ class_among c vs
+      three [] k = refl
+      three (a ∷ []) k = refl
+      three (a ∷ b ∷ []) k = refl
+      three (a ∷ b ∷ d ∷ vs) k = absurd (omega arith)
 
 -- the words of a part are its first word and those behind it
 pub within-next : (ws : List ℕ) (s : Span) → Fits ws s → s.from < s.to

@@ -9,7 +9,9 @@ use lib.ListN.{length, get_or, take, drop, length-take, length-drop, drop_of_len
 use lib.Seq.{drop-drop, take-take}
 use lib.Dec.{leb}
 use borrow.Author.Tests.{leb-true, leb-false, le-leb}
+use Rattle.std.specs.Prelude.{Some}
 use Rattle.lists.specs.Lists.{and_then}
+use Rattle.table.specs.declared.Span.{Span}
 use Rattle.table.specs.Table.{Range, Headed, Group, Whole}
 use Rattle.table.specs.Layout.{
   most_items,
@@ -39,7 +41,7 @@ use Rattle.table.specs.Layout.{
 use Rattle.table.specs.Spans.{within, Fits}
 use Rattle.table.specs.Lookup.{holds}
 use Rattle.table.specs.Part.{RecordsAt, HeadedAt, SequencesAt, GroupsAt, WholesAt, HeadedHere, SequenceHere, confused_at, WholeHere, records_in, in_pairs, counted_at}
-use Rattle.table.specs.GroupPart.{list_size, end_size, list_at, ListHere, GroupHere}
+use Rattle.table.specs.GroupPart.{size_in, length_in, list_size, list_length, end_size, list_at, ListHere, GroupHere}
 use Rattle.table.proofs.Lookups.{none-some, pairs-ranges, both, only_if-some, in_front-some, and_then-some, drop-next, drop-two, drop-take}
 use Rattle.table.proofs.Fuels.{sequences-next}
 
@@ -196,11 +198,15 @@ runs-read (suc k) (n ∷ ws) q e =
     let high : n ≤ most_run = leb-true _ _ c.1 in
     rw m.2 (runs_front n ws m.0 (omega arith) (omega arith) (leb-true _ _ b.1) (runs-read k (drop n ws) m.0 m.1))
 
--- the list whose count stands at `at`, and what is behind it
+-- the words of the list whose count stands at `at`
+abbrev list_span : List ℕ → ℕ → Span
+list_span part at = record { from = at + 1; to = at + list_size (drop at part) }
+
+-- that list, and what is behind it
 record ListRead (part : List ℕ) (at : ℕ) (q : Sequences) : Type 0 where
-  fits : Fits part (list_at part at true)
-  reads : sequences (length (within (list_at part at true) part)) (within (list_at part at true) part) ≡ some q.list
-  rest : drop (list_at part at true).to part ≡ q.rest
+  fits : Fits part (list_span part at)
+  reads : sequences (length (within (list_span part at) part)) (within (list_span part at) part) ≡ some q.list
+  rest : drop (list_span part at).to part ≡ q.rest
 
 list_read : (part : List ℕ) (at : ℕ) (q : Sequences) → list_part (drop at part) ≡ some q → ListRead part at q
 unfolding list_part list_size
@@ -232,20 +238,23 @@ list_read part at q e = go (leb (at + 1) (length part)) refl
 
 -- what follows the pairs of a group
 record EndHere (part : List ℕ) (at : ℕ) (b : Bool) (e : GroupEnd) : Type 0 where
-  listed : ListHere part b (list_at part at b) e.sequences
-  rest : drop (list_at part at b).to part ≡ e.rest
+  listed : ListHere part (list_at part at b) e.sequences
+  inside : at + end_size b (drop at part) ≤ length part
+  rest : drop (at + end_size b (drop at part)) part ≡ e.rest
 
 end_here : (part : List ℕ) (at : ℕ) (b : Bool) (e : GroupEnd) → at ≤ length part → group_end b (drop at part) ≡ some e → EndHere part at b e
-unfolding group_end sequences records_in
+unfolding group_end sequences records_in list_length list_size
 end_here part at false e i h =
     let same : e ≡ record { sequences = none; rest = drop at part } = cc in
-    let z : at + 0 - (at + 0) ≡ 0 = omega arith in
     let a : at + 0 ≡ at = omega arith in
-    rw same (record { listed = record { fits = record { ordered = omega arith; inside = omega arith }; holds = rw z; same = refl }; rest = rw a })
+    rw same (record { listed = refl; inside = omega arith; rest = rw a })
 end_here part at true e i h =
     let m = map-some with_list (list_part (drop at part)) e h in
     let r = list_read part at m.0 m.1 in
-    rw m.2 (record { listed = record { fits = r.fits; holds = rw r.reads; same = rw r.reads }; rest = r.rest })
+    let ws : List ℕ = drop at part in
+    let n : list_size ws ≡ length ws - length m.0.rest = ap (λ (o : Option Sequences). size_in ws o) m.1 in
+    let l : list_length ws ≡ Some (list_size ws) = ap (λ (o : Option Sequences). length_in ws o) m.1 ∙ ap Some (sym n) in
+    rw m.2 (record { listed = rw l (record { fits = r.fits; holds = rw r.reads; same = rw r.reads }); inside = r.fits.inside; rest = r.rest })
 
 -- the words behind a group
 pub end_rest : (b : Bool) (ws : List ℕ) (e : GroupEnd) → group_end b ws ≡ some e → drop (end_size b ws) ws ≡ e.rest
@@ -296,7 +305,8 @@ module _ (part : List ℕ) (at : ℕ) (xs : List Group) where
             parses = q.1;
             fits = omega arith;
             listed = v.listed;
-            next = record { inside = v.listed.fits.inside; steps = k; parses = rw v.rest r.1 };
+            ends = v.inside;
+            next = record { inside = v.inside; steps = k; parses = rw v.rest r.1 };
           }
 
 -- the confused items whose count stands at `at`, and what is behind them

@@ -13,7 +13,7 @@ use Rattle.table.specs.Table.{Headed, Whole}
 use Rattle.table.specs.Layout.{most_items, in_front, count_fits, headed, wholes}
 use Rattle.table.specs.declared.Span.{Span}
 use Rattle.table.specs.declared.WholeLists.{WholeLists}
-use Rattle.std.specs.declared.option.Option as rust
+use Rattle.std.specs.declared.option.Option as std
 use Rattle.std.specs.declared.option.Option.TheVariants.{Some, None}
 use Rattle.table.specs.Spans.{within, Fits}
 use Rattle.table.specs.Lookup.{items_of, whole_of}
@@ -154,7 +154,7 @@ module _ (part : List ℕ) (c at : ℕ) (w : WholeWalk part c at) (h : at < leng
 
 -- What is found in a part of the words, found in the words.
 module _ (ws : List ℕ) (s : Span) (f : Fits ws s) where
-  pub items_at : (most : ℕ) (o : Option (List ℕ)) (r : rust.Option Span) (t : Span) → r ≡ Some t → ItemsFound (within s ws) most o r
+  pub items_at : (most : ℕ) (o : Option (List ℕ)) (r : std.Option Span) (t : Span) → r ≡ Some t → ItemsFound (within s ws) most o r
       → ItemsFound ws most o (Some (behind s.from t))
   items_at most o r t e i =
       let j : ItemsFound (within s ws) most o (Some t) = rw e at i in
@@ -166,12 +166,12 @@ module _ (ws : List ℕ) (s : Span) (f : Fits ws s) where
         filled = omega (arith, j.filled);
       }
 
-  pub items_nothing : (most : ℕ) (o : Option (List ℕ)) (r : rust.Option Span) → r ≡ None → ItemsFound (within s ws) most o r → ItemsFound ws most o None
+  pub items_nothing : (most : ℕ) (o : Option (List ℕ)) (r : std.Option Span) → r ≡ None → ItemsFound (within s ws) most o r → ItemsFound ws most o None
   items_nothing most o r e i =
       let j : ItemsFound (within s ws) most o None = rw e at i in
       record { same = j.same; fit = tt; filled = tt }
 
-  pub whole-at : (o : Option Whole) (r : rust.Option WholeLists) (l : WholeLists) → r ≡ Some l → WholeFound (within s ws) o r
+  pub whole-at : (o : Option Whole) (r : std.Option WholeLists) (l : WholeLists) → r ≡ Some l → WholeFound (within s ws) o r
       → WholeFound ws o (Some (record { valid = behind s.from l.valid; confused = behind s.from l.confused }))
   whole-at o r l e i =
       let j : WholeFound (within s ws) o (Some l) = rw e at i in
@@ -182,7 +182,7 @@ module _ (ws : List ℕ) (s : Span) (f : Fits ws s) where
         fits = (behind-fits ws s l.valid f g, behind-fits ws s l.confused f h);
       }
 
-  pub whole-nothing : (o : Option Whole) (r : rust.Option WholeLists) → r ≡ None → WholeFound (within s ws) o r → WholeFound ws o None
+  pub whole-nothing : (o : Option Whole) (r : std.Option WholeLists) → r ≡ None → WholeFound (within s ws) o r → WholeFound ws o None
   whole-nothing o r e i =
       let j : WholeFound (within s ws) o None = rw e at i in
       record { same = j.same; fits = tt }
@@ -230,7 +230,7 @@ items_few (suc k) most (a ∷ n ∷ ws) rs c xs e i =
         rw is (simp length-take (omega arith))
     go rest h j later false f = later (sym (items_miss (record { head = a; items = take n ws }) rest c (eqb-false a c f)) ∙ j)
 
-pub items_narrow : (ws : List ℕ) (more k most : ℕ) (part : List ℕ) (rs : List Headed) (c : ℕ) (r : rust.Option Span) → headed k most part ≡ some rs
+pub items_narrow : (ws : List ℕ) (more k most : ℕ) (part : List ℕ) (rs : List Headed) (c : ℕ) (r : std.Option Span) → headed k most part ≡ some rs
     → ItemsFound ws more (items_of rs c) r → ItemsFound ws most (items_of rs c) r
 items_narrow ws more k most part rs c (Some s) e i =
     let few : length (within s ws) ≤ most = items_few k most part rs c (within s ws) e (sym i.same) in
@@ -246,7 +246,7 @@ pub record ItemsThere (ws : List ℕ) (most : ℕ) (items : Option (List ℕ)) (
   pub few : s.to ≤ s.from + most
   pub count : length (within s ws) ≡ s.to - s.from
 
-module _ (ws : List ℕ) (most : ℕ) (o : Option (List ℕ)) (r : rust.Option Span) (i : ItemsFound ws most o r) where
+module _ (ws : List ℕ) (most : ℕ) (o : Option (List ℕ)) (r : std.Option Span) (i : ItemsFound ws most o r) where
   pub items_there : (s : Span) → r ≡ Some s → ItemsThere ws most o s
   items_there s e =
       let j : ItemsFound ws most o (Some s) = rw e at i in
@@ -263,7 +263,7 @@ pub record WholeThere (ws : List ℕ) (whole : Option Whole) (v k : Span) : Type
   pub valid : Fits ws v
   pub confused : Fits ws k
 
-module _ (ws : List ℕ) (o : Option Whole) (r : rust.Option WholeLists) (i : WholeFound ws o r) where
+module _ (ws : List ℕ) (o : Option Whole) (r : std.Option WholeLists) (i : WholeFound ws o r) where
   pub whole_there : (l : WholeLists) → r ≡ Some l → WholeThere ws o l.valid l.confused
   whole_there l e =
       let j : WholeFound ws o (Some l) = rw e at i in

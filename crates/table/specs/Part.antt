@@ -1,10 +1,11 @@
 -- Lookups over the words of one section, without a table in between, and how a walk over its records stands.
-use Rattle.std.specs.Prelude.{ℕ, ◌+◌, ◌≤◌, ◌<◌, ◌≡◌, Bool, true, false, ◌&&◌, ◌||◌, cond, List, [], ◌∷◌, length, get_or, take, drop, leb, Some, None}
+use Rattle.std.specs.Prelude.{ℕ, ◌+◌, ◌≤◌, ◌<◌, ◌≡◌, Bool, true, false, ◌&&◌, ◌||◌, cond, List, [], ◌∷◌, length, get_or, take, drop, leb, Some, None, MatchOption, ⊤, is_some as is_there}
+use Rattle.std.specs.declared.option.Option as std
+use Rattle.std.specs.Borrow.{Bor}
 use Rattle.std.proofs.Math.Option
 use Rattle.std.proofs.Math.Option.{Option, none, some}
 use Rattle.lists.specs.Lists.{is_some}
 use Rattle.table.specs.declared.Span.{Span}
-use Rattle.std.specs.declared.option.Option as rust
 use Rattle.table.specs.declared.WholeLists.{WholeLists}
 use Rattle.table.specs.Spans.{within, Fits, items_at, ItemsFit}
 use Rattle.table.specs.Table.{ClassRange, Headed, Group, Whole}
@@ -30,10 +31,22 @@ in_four c ws i step =
     let at : ℕ → Bool = λ j. leb (get_or ws j 0) c && leb c (get_or ws (j + 1) 0) in
     (at i || at (i + step)) || (at (i + step + step) || at (i + step + step + step))
 
--- f gives for the words from i on what it gives for all
-pub record Skipped {A : Type 0} (f : List ℕ → A) (ws : List ℕ) (i : ℕ) : Type 0 where
+-- the entries of `step` words up to i have no part in whether c lies in a pair, and none in its class
+pub record Passed (step c : ℕ) (ws : List ℕ) (i : ℕ) : Type 0 where
   pub inside : i ≤ length ws
-  pub same : f ws ≡ f (drop i ws)
+  pub pairs : step ≡ 2 → in_pairs c ws ≡ in_pairs c (drop i ws)
+  pub triples : step ≡ 3 → class_among c ws ≡ class_among c (drop i ws)
+
+-- the class that an entry gives
+abbrev pub entry_class : std.Option (Bor (List ℕ)) → ℕ
+entry_class (Some e) = get_or e.now 2 0
+entry_class None = 0
+
+-- what a search for an entry of `step` words with c answers
+pub record EntryFound (step c : ℕ) (ws : List ℕ) (r : std.Option (Bor (List ℕ))) : Type 0 where
+  pub size : MatchOption r ⊤ (λ e. length e.now ≡ step)
+  pub pairs : step ≡ 2 → is_there r ≡ in_pairs c ws
+  pub triples : step ≡ 3 → entry_class r ≡ class_among c ws
 
 -- a class found for c
 pub record ClassFound (rs : List ClassRange) (c r : ℕ) : Type 0 where
@@ -56,28 +69,28 @@ abbrev pub wholes_in : List ℕ → List Whole
 wholes_in part = records_in wholes part
 
 -- at least one item
-abbrev pub Filled : rust.Option Span → Type 0
+abbrev pub Filled : std.Option Span → Type 0
 Filled (Some s) = s.from < s.to
 Filled None = Unit {0}
 
 -- what a lookup of items answers: their places within the words, at least one and at most `most`
-pub record ItemsFound (ws : List ℕ) (most : ℕ) (items : Option (List ℕ)) (r : rust.Option Span) : Type 0 where
+pub record ItemsFound (ws : List ℕ) (most : ℕ) (items : Option (List ℕ)) (r : std.Option Span) : Type 0 where
   pub same : items_at ws r ≡ items
   pub fit : ItemsFit ws most r
   pub filled : Filled r
 
 -- the whole that an answer of a lookup stands for
-abbrev pub whole_at : List ℕ → rust.Option WholeLists → Option Whole
+abbrev pub whole_at : List ℕ → std.Option WholeLists → Option Whole
 whole_at ws (Some w) = some (record { valid = within w.valid ws; confused = within w.confused ws })
 whole_at ws None = none
 
 -- both of its lists lie within the words
-abbrev pub WholeFits : List ℕ → rust.Option WholeLists → Type 0
+abbrev pub WholeFits : List ℕ → std.Option WholeLists → Type 0
 WholeFits ws (Some w) = Fits ws w.valid × Fits ws w.confused
 WholeFits ws None = Unit {0}
 
 -- what a lookup of a whole answers
-pub record WholeFound (ws : List ℕ) (whole : Option Whole) (r : rust.Option WholeLists) : Type 0 where
+pub record WholeFound (ws : List ℕ) (whole : Option Whole) (r : std.Option WholeLists) : Type 0 where
   pub same : whole_at ws r ≡ whole
   pub fits : WholeFits ws r
 

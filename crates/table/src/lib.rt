@@ -30,14 +30,13 @@ pub struct WholeLists {
     pub confused: Span,
 }
 
-// The record of a group: its flags, where its pairs stand among the words and where the records of its list do, and the place behind the
-// record. Without a list its place has no words.
+// The record of a group: its flags, where its pairs stand among the words and where the records of its list do, if it has one, and the place
+// behind the record.
 #[derive(Clone, Copy)]
 pub struct GroupRecord {
     pub restricted: bool,
     pub whitelisted: bool,
     pub pairs: Span,
-    pub listed: bool,
-    pub list: Span,
+    pub list: Option<Span>,
     pub next: usize,
 }

@@ -13,8 +13,8 @@ ghost use Rattle.lists.specs.Lists.{mem, is_some};
 ghost use Rattle.table.specs.Layout.{most_items, headed, wholes};
 ghost use Rattle.table.specs.Lookup.{items_of, whole_of};
 ghost use Rattle.table.specs.Spans.{Fits, within};
-ghost use Rattle.table.specs.GroupPart.{list_size, list_at, group_at};
-ghost use Rattle.table.specs.Part.{in_pairs, class_among, in_four, Skipped, counted_at, heads_in, wholes_in, WholesPart, ItemsFound, WholeFound};
+ghost use Rattle.table.specs.GroupPart.{list_length, list_at, group_at};
+ghost use Rattle.table.specs.Part.{in_pairs, class_among, in_four, Passed, EntryFound, counted_at, heads_in, wholes_in, WholesPart, ItemsFound, WholeFound};
 
 // Whether c lies from first to last. Both tests are made, since where pairs stand in random order a branch at the first would be a guess.
 pub fn between(c: u32, first: u32, last: u32) -> bool
@@ -39,68 +39,57 @@ fn in_four(part: &[u32], i: usize, step: usize, c: u32) -> bool
     (first | second) | (third | fourth)
 }
 
-// A place up to which c lies in none of the pairs: that of four pairs with c, or one with fewer than four left.
-fn skip_pairs(part: &[u32], c: u32) -> usize
-    ensures { Skipped (in_pairs c) part.now result }
+// A place up to which c lies in none of the entries of STEP words: that of four entries with c, or one with fewer than four left.
+fn skip<const STEP: usize>(part: &[u32], c: u32) -> usize
+    requires { (2 ≤ STEP) × (STEP ≤ 3) }
+    ensures { Passed STEP c part.now result }
 {
-    for i in 0..part.len() / 8 {
-        if in_four(part, i * 8, 2, c) {
-            return i * 8;
+    let four = 4 * STEP;
+    for i in 0..part.len() / four {
+        if in_four(part, i * four, STEP, c) {
+            return i * four;
         }
     }
-    part.len() / 8 * 8
+    part.len() / four * four
 }
 
-// Whether c lies in one of the pairs first, last, asked one by one.
-fn in_any(part: &[u32], c: u32) -> bool
-    ensures { result ≡ in_pairs c part.now }
+// The first of the entries of STEP words that has c, asked one by one.
+fn first_with<const STEP: usize>(part: &[u32], c: u32) -> Option<&[u32]>
+    requires { (2 ≤ STEP) × (STEP ≤ 3) }
+    ensures { EntryFound STEP c part.now result }
 {
-    for pair in part.chunks_exact(2) {
-        if between(c, pair[0], pair[1]) {
-            return true;
+    for entry in part.chunks_exact(STEP) {
+        if between(c, entry[0], entry[1]) {
+            return Some(entry);
         }
     }
-    false
+    None
+}
+
+// The first of the entries of STEP words that has c.
+fn entry_with<const STEP: usize>(part: &[u32], c: u32) -> Option<&[u32]>
+    requires { (2 ≤ STEP) × (STEP ≤ 3) }
+    ensures { EntryFound STEP c part.now result }
+{
+    let i = skip::<STEP>(part, c);
+    first_with::<STEP>(&part[i..], c)
 }
 
 // Whether c lies in one of the pairs first, last.
 pub fn in_pairs(part: &[u32], c: u32) -> bool
     ensures { result ≡ in_pairs c part.now }
 {
-    let i = skip_pairs(part, c);
-    in_any(&part[i..], c)
-}
-
-// The same place for triples.
-fn skip_triples(part: &[u32], c: u32) -> usize
-    ensures { Skipped (class_among c) part.now result }
-{
-    for i in 0..part.len() / 12 {
-        if in_four(part, i * 12, 3, c) {
-            return i * 12;
-        }
-    }
-    part.len() / 12 * 12
-}
-
-// The class of the first triple first, last, class with c in it, or 0, asked one by one.
-fn class_of_any(part: &[u32], c: u32) -> u32
-    ensures { result ≡ class_among c part.now }
-{
-    for triple in part.chunks_exact(3) {
-        if between(c, triple[0], triple[1]) {
-            return triple[2];
-        }
-    }
-    0
+    entry_with::<2>(part, c).is_some()
 }
 
 // The class of the first triple first, last, class with c in it, or 0.
 pub fn class_in(part: &[u32], c: u32) -> u32
     ensures { result ≡ class_among c part.now }
 {
-    let i = skip_triples(part, c);
-    class_of_any(&part[i..], c)
+    match entry_with::<3>(part, c) {
+        Some(triple) => triple[2],
+        None => 0,
+    }
 }
 
 // Whether c is one of the items.
@@ -108,14 +97,6 @@ pub fn mem_in(items: &[u32], c: u32) -> bool
     ensures { result ≡ mem c items.now }
 {
     items.contains(&c)
-}
-
-// Whether c is one of the items of a part.
-pub fn mem_in_of(words: &[u32], s: Span, c: u32) -> bool
-    requires { Fits words.now s }
-    ensures { result ≡ mem c (within s words.now) }
-{
-    mem_in(s.of(words), c)
 }
 
 // Where the items of the first record head, count, items with head c stand in the part.
@@ -146,51 +127,51 @@ pub fn counted(words: &[u32], at: usize) -> Span
     Span { from, to: from + n }
 }
 
-// The number of words of the list that `rest` begins with, or 0 where none does.
-pub fn list_size(rest: &[u32]) -> usize
-    ensures { result ≡ list_size rest.now }
+// The number of words of the list that `rest` begins with.
+pub fn list_size(rest: &[u32]) -> Option<usize>
+    ensures { result ≡ list_length rest.now }
 {
     if rest.len() == 0 {
-        return 0;
+        return None;
     }
     let count = rest[0];
     if count > MOST_SEQUENCES {
-        return 0;
+        return None;
     }
     let mut at: usize = 1;
     for _ in 0..count {
         if at == rest.len() {
-            return 0;
+            return None;
         }
         let n = rest[at];
         if n < LEAST_RUN {
-            return 0;
+            return None;
         }
         if n > MOST_RUN {
-            return 0;
+            return None;
         }
         let items = n as usize;
         if items >= rest.len() - at {
-            return 0;
+            return None;
         }
         at = at + 1 + items;
     }
-    at
+    Some(at)
 }
 
 // Where the records of a group's list stand behind its pairs.
-fn list_at(part: &[u32], at: usize, listed: bool) -> Span
+fn list_at(part: &[u32], at: usize, listed: bool) -> Option<Span>
     requires { at ≤ length part.now }
     ensures { result ≡ list_at part.now at listed }
 {
-    if listed {
-        let size = list_size(&part[at..]);
-        return Span {
-            from: at + 1,
-            to: at + size,
-        };
+    if !listed {
+        return None;
     }
-    Span { from: at, to: at }
+    let size = list_size(&part[at..])?;
+    Some(Span {
+        from: at + 1,
+        to: at + size,
+    })
 }
 
 // The group whose record stands at a place.
@@ -200,15 +181,17 @@ pub fn group_at(part: &[u32], at: usize) -> GroupRecord
 {
     let flags = part[at];
     let pairs = counted(part, at + 1);
-    let listed = flags / 4 % 2 == 1;
-    let list = list_at(part, pairs.to, listed);
+    let list = list_at(part, pairs.to, flags / 4 % 2 == 1);
+    let next = match list {
+        Some(s) => s.to,
+        None => pairs.to,
+    };
     GroupRecord {
         restricted: flags % 2 == 1,
         whitelisted: flags / 2 % 2 == 1,
         pairs,
-        listed,
         list,
-        next: list.to,
+        next,
     }
 }
 
@@ -223,7 +206,7 @@ pub fn whole_in(part: &[u32], c: u32) -> Option<WholeLists>
         let valid = counted(part, i);
         let at = valid.to;
         let confused = counted(part, at);
-        if mem_in_of(part, confused, c) {
+        if mem_in(confused.of(part), c) {
             return Some(WholeLists { valid, confused });
         }
         i = confused.to;

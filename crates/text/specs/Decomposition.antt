@@ -1,7 +1,7 @@
 -- Combining classes and full decomposition. 01, "What the unit hands over" (Hangul "before any table entry"), "The table"
 -- (classes) and "The rules of one label" ("Full decomposition is four rounds of single replacement, then canonical ordering").
 use Rattle.std.specs.Prelude.{ℕ, ◌-◌, ◌||◌, cond, List, [], ◌∷◌}
-use Rattle.std.proofs.Math.Option.{Option, get_or}
+use Rattle.std.proofs.Math.Option.{get_or}
 use Rattle.lists.specs.Lists.{joined_map}
 use Rattle.table.specs.Table.{Table}
 use Rattle.table.specs.Lookup.{table_class, items_of}

@@ -31,41 +31,26 @@ pub fn is_trailing(c: u32) -> bool
 pub fn is_jamo(c: u32) -> bool
     ensures { result ≡ is_jamo c }
 {
-    if is_leading(c) {
-        return true;
-    }
-    if is_vowel(c) {
-        return true;
-    }
-    is_trailing(c)
+    is_leading(c) || is_vowel(c) || is_trailing(c)
 }
 
 // A syllable of a leading consonant and a vowel alone.
 pub fn is_open(c: u32) -> bool
     ensures { result ≡ is_open_syllable c }
 {
-    if is_syllable(c) {
-        return (c - 0xAC00) % 28 == 0;
-    }
-    false
+    is_syllable(c) && (c - 0xAC00) % 28 == 0
 }
 
 // A leading consonant and a vowel.
 pub fn makes_open(a: u32, b: u32) -> bool
     ensures { result ≡ (is_leading a && is_vowel b) }
 {
-    if is_leading(a) {
-        return is_vowel(b);
-    }
-    false
+    is_leading(a) && is_vowel(b)
 }
 
 // An open syllable and a trailing consonant.
 pub fn makes_closed(a: u32, b: u32) -> bool
     ensures { result ≡ (is_open_syllable a && is_trailing b) }
 {
-    if is_open(a) {
-        return is_trailing(b);
-    }
-    false
+    is_open(a) && is_trailing(b)
 }

@@ -4,24 +4,24 @@
 ghost use Rattle.std.specs.Prelude.{◌≡◌};
 ghost use Rattle.lists.specs.Lists.{is_some};
 ghost use Rattle.table.specs.Layout.{excluded};
-ghost use Rattle.whole_sizes.specs.Wholes.{whole_size, wholes_fit};
+ghost use Rattle.whole_sizes.specs.Wholes.{SizeOf, whole_size, wholes_fit};
 
-// The number of words of the whole that `rest` begins with, or 0 where none does.
-fn whole_size(rest: &[u32]) -> usize
-    ensures { result ≡ whole_size rest.now }
+// The number of words of the whole that `rest` begins with.
+fn whole_size(rest: &[u32]) -> Option<usize>
+    ensures { SizeOf (whole_size rest.now) result }
 {
     if rest.len() < 2 {
-        return 0;
+        return None;
     }
     let n = rest[0] as usize;
     if n > rest.len() - 2 {
-        return 0;
+        return None;
     }
     let m = rest[n + 1] as usize;
     if m > rest.len() - 2 - n {
-        return 0;
+        return None;
     }
-    n + 2 + m
+    Some(n + 2 + m)
 }
 
 // Whether the words are wholes, one behind the other.
@@ -31,10 +31,9 @@ pub fn wholes_fit(part: &[u32]) -> bool
     let mut at: usize = 0;
     // by hand: a record's length is its own, and the place goes on by it
     while at < part.len() {
-        let size = whole_size(&part[at..]);
-        if size == 0 {
+        let Some(size) = whole_size(&part[at..]) else {
             return false;
-        }
+        };
         at += size;
     }
     true

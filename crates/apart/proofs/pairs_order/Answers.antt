@@ -1,14 +1,7 @@
-use Rattle.apart.proofs.Walks.{none_seen, seen_start, seen_on, seen_stop, pairs}
+-- `apart::pairs_order` meets its contract: the test of an entry is that of its kind.
+use Rattle.std.proofs.Common.{rules}
+use Rattle.apart.proofs.Walks.{pairs}
 use Rattle.apart.proofs.pairs_order.Goals as goal
 
-pub returns-then-n-eq0 : goal.returns-then-n-eq0
-returns-then-n-eq0 c = none_seen pairs _ c.if-n-eq0.true _ c.order_if.ensures
-
-pub loop-i-init : goal.loop-i-init
-loop-i-init c = seen_start pairs _ c.if-n-eq0.false
-
-pub loop-i-preserved : goal.loop-i-preserved
-loop-i-preserved c = seen_on pairs _ _ _ _ _ c.loop-i.invariant c.loop-i-test.true
-
 pub returns : goal.returns
-returns c = seen_stop pairs _ _ _ _ _ c.loop-i.invariant c.loop-i-test.false _ c.order_if-2.ensures
+returns c = c.entries_order.ensures _ _ pairs (λ entry passes l e. search rules)

@@ -1,12 +1,11 @@
-use Prim.Native.Nat.{◌<◌, ◌-◌}
 use native.Mathlib.Omega.{arith}
 use mathlib.Core.Path.{◌≡◌, refl, sym, ◌∙◌}
-use mathlib.Core.Bool.{true, false}
+use mathlib.Core.Bool.{false}
 use lib.ListN.{drop, length-drop}
 use Rattle.table.specs.Layout.{most_groups}
 use Rattle.table.proofs.Lookups.{false_true}
-use Rattle.apart.specs.Apart.{Apart}
-use Rattle.group_sizes.specs.Walk.{groups_within, group_size, group_pairs}
+use Rattle.group_sizes.specs.Walk.{GroupTold, groups_within}
+use Rattle.std.specs.Prelude.{Some, None}
 use Rattle.group_sizes.proofs.GroupLaws.{groups_end, groups_more, groups_none, groups_full, group-fits, both_true}
 use Rattle.whole_sizes.proofs.WalkLaws.{part_tail, first_true, last_true}
 use Rattle.group_sizes.proofs.ApartLaws.{apart_end, apart_more, apart_parted}
@@ -22,35 +21,36 @@ returns-then-left-eq0 c =
     let e : false ≡ groups_within most_groups ws = sym (c.loop-at.invariant.1 ∙ rw none_left (groups_full ws c.loop-at.at (omega arith))) in
     record { fits = e; sorted = λ q. absurd (false_true q); found = λ h a. e ∙ h }
 
-pub returns-then-group-eq0 : goal.returns-then-group-eq0
-returns-then-group-eq0 c =
+pub returns-in_default : goal.returns-in_default
+returns-in_default c =
     let ws = c.args.part.now in
-    let sized : c.group_size-group.result.size ≡ group_size (drop c.loop-at.at ws) = rw (part_tail ws c.loop-at.at) at c.group_size-group.ensures.size in
-    let e : false ≡ groups_within most_groups ws = sym (c.loop-at.invariant.1 ∙ groups_none c.loop-at.left ws c.loop-at.at (omega arith) (omega arith)) in
+    let none : GroupTold (drop c.loop-at.at ws) None = rw c.in_default.is at (rw (part_tail ws c.loop-at.at) at c.group_size.ensures) in
+    let e : false ≡ groups_within most_groups ws = sym (c.loop-at.invariant.1 ∙ groups_none c.loop-at.left ws c.loop-at.at (omega arith) none) in
     record { fits = e; sorted = λ q. absurd (false_true q); found = λ h a. e ∙ h }
 
 pub loop-at-preserved : goal.loop-at-preserved
 loop-at-preserved c =
     let ws = c.args.part.now in
     let at = c.loop-at.at in
-    let sized : c.group_size-group.result.size ≡ group_size (drop at ws) = rw (part_tail ws at) at c.group_size-group.ensures.size in
-    let more : 0 < c.group_size-group.result.size = omega arith in
-    let pairs : c.group_size-group.result.sorted ≡ true → Apart 2 1 (group_pairs (drop at ws)) = rw (part_tail ws at) at c.group_size-group.ensures.sorted in
-    let back : 0 < c.group_size-group.result.size → Apart 2 1 (group_pairs (drop at ws)) → c.group_size-group.result.sorted ≡ true = rw (part_tail ws at) at c.group_size-group.ensures.found in (
-      omega (arith, group-fits (drop at ws), length-drop at ws),
-      c.loop-at.invariant.1 ∙ groups_more c.loop-at.left ws at _ (omega arith) sized (omega arith) (omega arith),
-      λ e a. c.loop-at.invariant.2 (first_true c.loop-at.sorted c.group_size-group.result.sorted e) (apart_more ws at _ sized more (pairs (last_true c.loop-at.sorted c.group_size-group.result.sorted e)) a),
+    let g : GroupTold (drop at ws) (Some c.in-Some.group) = rw c.in-Some.is at (rw (part_tail ws at) at c.group_size.ensures) in (
+      omega (arith, g.size, group-fits (drop at ws), length-drop at ws),
+      c.loop-at.invariant.1 ∙ groups_more c.loop-at.left ws at _ (omega arith) g.size g.some (omega arith),
+      λ e a. c.loop-at.invariant.2 (first_true c.loop-at.sorted c.in-Some.group.sorted e) (apart_more ws at _ g.size g.some (g.sorted (last_true c.loop-at.sorted c.in-Some.group.sorted e)) a),
       λ h a.
           let r = c.loop-at.invariant.3 h a in
-          let b = apart_parted ws at c.loop-at.left _ sized more (sym c.loop-at.invariant.1 ∙ h) r.1 in
-          (both_true c.loop-at.sorted c.group_size-group.result.sorted r.0 (back more b.0), b.1),
+          let b = apart_parted ws at c.loop-at.left _ g.size g.some (sym c.loop-at.invariant.1 ∙ h) r.1 in
+          (both_true c.loop-at.sorted c.in-Some.group.sorted r.0 (g.found b.0), b.1),
     )
 
 pub overflow_add-at : goal.overflow_add-at
 overflow_add-at c = omega (arith, (loop-at-preserved c).0)
 
 pub loop-at-smaller : goal.loop-at-smaller
-loop-at-smaller c = omega (arith, (loop-at-preserved c).0)
+loop-at-smaller c =
+    let ws = c.args.part.now in
+    let at = c.loop-at.at in
+    let g : GroupTold (drop at ws) (Some c.in-Some.group) = rw c.in-Some.is at (rw (part_tail ws at) at c.group_size.ensures) in
+    omega (arith, (loop-at-preserved c).0, g.some)
 
 pub returns : goal.returns
 returns c =

@@ -2,10 +2,10 @@
 use Rattle.std.proofs.Common.{ltb, rules, tests, ◌∙◌}
 use Rattle.std.proofs.lemmas.Iterator.{YieldsList-from_slice}
 use Rattle.std.proofs.lemmas.Iterator.Search.{all_from_yields_List}
-use Rattle.spelling.proofs.SpellingLaws.{every_item}
+use Rattle.lists.specs.Searches.{all_is}
 use Rattle.spelling.proofs.all_ascii.Goals as goal
 
 pub returns : goal.returns
 returns c =
     let s = c.args.s.now in
-    all_from_yields_List (λ x. ltb x 0x80) _ _ c.all.result c.all.ensures.ran (YieldsList-from_slice s cc) (λ x b q k. search (rules, tests)) ∙ every_item _ s
+    all_from_yields_List (λ x. ltb x 0x80) _ _ c.all.result c.all.ensures.ran (YieldsList-from_slice s cc) (λ x b q k. search (rules, tests)) ∙ all_is _ s

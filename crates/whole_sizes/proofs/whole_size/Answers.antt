@@ -13,4 +13,4 @@ pub returns-then-m-rest : goal.returns-then-m-rest
 returns-then-m-rest c = whole_short _ (omega arith)
 
 pub returns : goal.returns
-returns c = whole_there _ (omega arith)
+returns c = (whole_there _ (omega arith), omega arith)

@@ -1,4 +1,5 @@
-use mathlib.Core.Path.{sym, ◌∙◌}
+use mathlib.Core.Path.{sym, ap, ◌∙◌}
+use Rattle.lists.specs.Lists.{mem}
 use native.Mathlib.Omega.{arith}
 use Rattle.table.proofs.Searches.{whole_start, whole_here, whole_room, confused_fits, whole_hit, whole_on, whole-stop}
 use Rattle.table.proofs.lookup.whole_in.Goals as goal
@@ -14,24 +15,24 @@ counted-confused-requires c =
     let p = c in
     whole_room _ _ p.loop-i.i p.loop-i.invariant c.loop-i-test.true _ c.counted-valid.ensures
 
-pub mem_in_of-requires : goal.mem_in_of-requires
-mem_in_of-requires c =
+pub of-requires : goal.of-requires
+of-requires c =
     let p = c in
     confused_fits _ _ p.loop-i.i p.loop-i.invariant c.loop-i-test.true _ _ c.counted-valid.ensures c.counted-confused.ensures
 
-pub returns-then-mem_in_of : goal.returns-then-mem_in_of
-returns-then-mem_in_of c =
+pub returns-then-mem_in : goal.returns-then-mem_in
+returns-then-mem_in c =
     let d = c in
     let p = d in
     whole_hit _ _ p.loop-i.i p.loop-i.invariant d.loop-i-test.true _ _ d.counted-valid.ensures d.counted-confused.ensures
-    (sym c.mem_in_of.ensures ∙ c.if-mem_in_of.true)
+    (sym (ap (mem c.args.c) c.of.ensures) ∙ sym c.mem_in.ensures ∙ c.if-mem_in.true)
 
 pub loop-i-preserved : goal.loop-i-preserved
 loop-i-preserved c =
     let d = c in
     let p = d in
     whole_on _ _ p.loop-i.i p.loop-i.invariant d.loop-i-test.true _ _ d.counted-valid.ensures d.counted-confused.ensures
-    (sym c.mem_in_of.ensures ∙ c.if-mem_in_of.false)
+    (sym (ap (mem c.args.c) c.of.ensures) ∙ sym c.mem_in.ensures ∙ c.if-mem_in.false)
 
 pub returns : goal.returns
 returns c = whole-stop _ _ c.loop-i.i c.loop-i.invariant c.loop-i-test.false

@@ -9,6 +9,3 @@ overflow_sub-result c = omega (arith, syllable c.args.c (sym c.is_syllable.ensur
 
 pub returns-then-is_syllable : goal.returns-then-is_syllable
 returns-then-is_syllable c = rw (← c.is_syllable.ensures, c.if-is_syllable.true)
-
-pub returns : goal.returns
-returns c = rw (← c.is_syllable.ensures, c.if-is_syllable.false)
