@@ -8,10 +8,10 @@ use Rattle.answers.specs.declared.Refusal.{Refusal}
 use Rattle.answers.specs.declared.Refusal.TheVariants.{LayoutFault, WorkAreaTooSmall, InputTooLong, NotScalar, Disallowed, NoTokens, WorkedTooLong, LowLine, Hyphens, Fenced, LeadingMark, NoGroup, NsmRun, Compound, Confusable, Restricted, BufferTooSmall}
 use Rattle.answers.specs.declared.AcceptedName.{AcceptedName}
 use Rattle.answers.specs.declared.AcceptedLabel.{AcceptedLabel}
-use Rattle.answers.specs.declared.Soundness.{Soundness}
-use Rattle.answers.specs.declared.Soundness.TheVariants.{Sound, Broken}
-use Rattle.answers.specs.declared.Unpacked.{Unpacked}
-use Rattle.answers.specs.declared.Unpacked.TheVariants.{Words, WrongVersion, WrongLength, TooLittleRoom}
+use Rattle.answers.specs.declared.Rule.{Rule}
+use Rattle.answers.specs.declared.Rule.TheVariants.{Layout, Scalars, ValidSet, ValidItems, Sequences, SequencesApart, Stable, DistinctPairs, QuickCheck}
+use Rattle.answers.specs.declared.UnpackError.{UnpackError}
+use Rattle.answers.specs.declared.UnpackError.TheVariants.{WrongVersion, WrongLength, TooLittleRoom}
 
 -- Refusal numbers: the column "No."
 abbrev pub number_of : Refusal → ℕ
@@ -76,18 +76,33 @@ abbrev pub label_values : Result AcceptedLabel Refusal → LabelValues
 label_values (Ok label) = record { number = 0; place = 0; length = label.length; kind = some label.kind }
 label_values (Err r) = record { number = number_of r; place = place_of r; length = 0; kind = none }
 
+-- the numbers of the rules; "layout fault: 0"
+abbrev pub rule_number : Rule → ℕ
+rule_number Layout = 0
+rule_number Scalars = 1
+rule_number ValidSet = 2
+rule_number ValidItems = 3
+rule_number Sequences = 4
+rule_number SequencesApart = 5
+rule_number Stable = 6
+rule_number DistinctPairs = 7
+rule_number QuickCheck = 8
+
 -- what the soundness check answers: nothing broken, or the lowest broken rule
-abbrev pub broken_rule : Soundness → Option ℕ
-broken_rule Sound = none
-broken_rule (Broken n) = some n
+abbrev pub broken_rule : Result Unit Rule → Option ℕ
+broken_rule (Ok _) = none
+broken_rule (Err rule) = some (rule_number rule)
 
 -- what unpacking answers
 pub record UnpackValues : Type 0 where
   pub number : ℕ
   pub count : ℕ
 
-abbrev pub unpack_values : Unpacked → UnpackValues
-unpack_values (Words n) = record { number = 0; count = n }
-unpack_values WrongVersion = record { number = 20; count = 0 }
-unpack_values WrongLength = record { number = 21; count = 0 }
-unpack_values TooLittleRoom = record { number = 22; count = 0 }
+abbrev pub unpack_number : UnpackError → ℕ
+unpack_number WrongVersion = 20
+unpack_number WrongLength = 21
+unpack_number TooLittleRoom = 22
+
+abbrev pub unpack_values : Result ℕ UnpackError → UnpackValues
+unpack_values (Ok n) = record { number = 0; count = n }
+unpack_values (Err e) = record { number = unpack_number e; count = 0 }

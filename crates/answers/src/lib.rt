@@ -3,7 +3,7 @@
 
 ghost use Rattle.std.specs.Prelude.{◌≡◌};
 ghost use Rattle.answers.specs.Restriction.{barred};
-ghost use Rattle.answers.specs.Values.{number_of, place_of, name_values, label_values};
+ghost use Rattle.answers.specs.Values.{number_of, place_of, rule_number, unpack_number, name_values, label_values};
 
 // A group's number, counted from 0, and whether it is restricted.
 #[derive(Clone, Copy)]
@@ -57,73 +57,130 @@ pub struct AcceptedLabel {
     pub kind: Kind,
 }
 
-// The soundness check: the lowest rule that is broken, 0 for a layout fault.
+// What the soundness check asks of a table: that it is laid out, and its eight rules, in their order.
 #[derive(Clone, Copy)]
-pub enum Soundness {
-    Sound,
-    Broken(u32),
+pub enum Rule {
+    Layout,
+    Scalars,
+    ValidSet,
+    ValidItems,
+    Sequences,
+    SequencesApart,
+    Stable,
+    DistinctPairs,
+    QuickCheck,
 }
 
-// Unpacking a table file: the number of words.
+// Why a table file is not unpacked.
 #[derive(Clone, Copy)]
-pub enum Unpacked {
-    Words(usize),
+pub enum UnpackError {
     WrongVersion,
     WrongLength,
     TooLittleRoom,
 }
 
-// The number of a refusal.
-pub fn number_of(refusal: Refusal) -> u32
-    ensures { result ≡ number_of refusal }
-{
-    match refusal {
-        Refusal::LayoutFault => 1,
-        Refusal::WorkAreaTooSmall => 2,
-        Refusal::InputTooLong => 3,
-        Refusal::NotScalar(_) => 4,
-        Refusal::Disallowed(_) => 5,
-        Refusal::NoTokens(_) => 6,
-        Refusal::WorkedTooLong(_) => 7,
-        Refusal::LowLine(_) => 8,
-        Refusal::Hyphens(_) => 9,
-        Refusal::Fenced(_) => 10,
-        Refusal::LeadingMark(_) => 11,
-        Refusal::NoGroup(_) => 12,
-        Refusal::NsmRun(_) => 13,
-        Refusal::Compound(_) => 16,
-        Refusal::Confusable(_) => 14,
-        Refusal::Restricted(_) => 17,
-        Refusal::BufferTooSmall => 15,
+impl Refusal {
+    // Its number.
+    pub fn number(self) -> u32
+        ensures { result ≡ number_of self }
+    {
+        match self {
+            Refusal::LayoutFault => 1,
+            Refusal::WorkAreaTooSmall => 2,
+            Refusal::InputTooLong => 3,
+            Refusal::NotScalar(_) => 4,
+            Refusal::Disallowed(_) => 5,
+            Refusal::NoTokens(_) => 6,
+            Refusal::WorkedTooLong(_) => 7,
+            Refusal::LowLine(_) => 8,
+            Refusal::Hyphens(_) => 9,
+            Refusal::Fenced(_) => 10,
+            Refusal::LeadingMark(_) => 11,
+            Refusal::NoGroup(_) => 12,
+            Refusal::NsmRun(_) => 13,
+            Refusal::Compound(_) => 16,
+            Refusal::Confusable(_) => 14,
+            Refusal::Restricted(_) => 17,
+            Refusal::BufferTooSmall => 15,
+        }
+    }
+
+    // Its place, 0 where it has none.
+    pub fn place(self) -> usize
+        ensures { result ≡ place_of self }
+    {
+        match self {
+            Refusal::LayoutFault
+            | Refusal::WorkAreaTooSmall
+            | Refusal::InputTooLong
+            | Refusal::BufferTooSmall => 0,
+            Refusal::NotScalar(at)
+            | Refusal::Disallowed(at)
+            | Refusal::NoTokens(at)
+            | Refusal::WorkedTooLong(at)
+            | Refusal::LowLine(at)
+            | Refusal::Hyphens(at)
+            | Refusal::Fenced(at)
+            | Refusal::LeadingMark(at)
+            | Refusal::NoGroup(at)
+            | Refusal::NsmRun(at)
+            | Refusal::Compound(at)
+            | Refusal::Confusable(at)
+            | Refusal::Restricted(at) => at,
+        }
     }
 }
 
-// Its place, 0 where it has none.
-pub fn place_of(refusal: Refusal) -> usize
-    ensures { result ≡ place_of refusal }
-{
-    match refusal {
-        Refusal::LayoutFault => 0,
-        Refusal::WorkAreaTooSmall => 0,
-        Refusal::InputTooLong => 0,
-        Refusal::NotScalar(index) => index,
-        Refusal::Disallowed(index) => index,
-        Refusal::NoTokens(label) => label,
-        Refusal::WorkedTooLong(label) => label,
-        Refusal::LowLine(label) => label,
-        Refusal::Hyphens(label) => label,
-        Refusal::Fenced(label) => label,
-        Refusal::LeadingMark(label) => label,
-        Refusal::NoGroup(label) => label,
-        Refusal::NsmRun(label) => label,
-        Refusal::Compound(label) => label,
-        Refusal::Confusable(label) => label,
-        Refusal::Restricted(label) => label,
-        Refusal::BufferTooSmall => 0,
+impl Rule {
+    // Its number: 1 to 8 of the rules, 0 of the layout.
+    pub fn number(self) -> u32
+        ensures { result ≡ rule_number self }
+    {
+        match self {
+            Rule::Layout => 0,
+            Rule::Scalars => 1,
+            Rule::ValidSet => 2,
+            Rule::ValidItems => 3,
+            Rule::Sequences => 4,
+            Rule::SequencesApart => 5,
+            Rule::Stable => 6,
+            Rule::DistinctPairs => 7,
+            Rule::QuickCheck => 8,
+        }
     }
 }
 
-// The length that the name call answers, 0 beside a refusal.
+impl UnpackError {
+    // Its number.
+    pub fn number(self) -> u32
+        ensures { result ≡ unpack_number self }
+    {
+        match self {
+            UnpackError::WrongVersion => 20,
+            UnpackError::WrongLength => 21,
+            UnpackError::TooLittleRoom => 22,
+        }
+    }
+}
+
+impl Kind {
+    // Whether the setting (0 off, else on) bars a label of this kind: one of a group that is restricted.
+    pub fn is_barred(self, setting: u32) -> bool
+        ensures { result ≡ barred setting self }
+    {
+        if setting == 0 {
+            return false;
+        }
+        match self {
+            Kind::Emoji => false,
+            Kind::Ascii => false,
+            Kind::Group(g) => g.restricted,
+        }
+    }
+}
+
+// The length that the name call answers, 0 beside a refusal. A function for each answer and no `map_or`: what its closure says is out of the reach of
+// the callers' proofs.
 pub fn name_length(answer: Result<AcceptedName, Refusal>) -> usize
     ensures { result ≡ (name_values answer).length }
 {
@@ -140,19 +197,5 @@ pub fn label_length(answer: Result<AcceptedLabel, Refusal>) -> usize
     match answer {
         Ok(label) => label.length,
         Err(_) => 0,
-    }
-}
-
-// Whether the setting (0 off, else on) bars a label of this kind: one of a group that is restricted.
-pub fn is_barred(setting: u32, kind: Kind) -> bool
-    ensures { result ≡ barred setting kind }
-{
-    if setting == 0 {
-        return false;
-    }
-    match kind {
-        Kind::Emoji => false,
-        Kind::Ascii => false,
-        Kind::Group(g) => g.restricted,
     }
 }

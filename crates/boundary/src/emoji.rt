@@ -3,7 +3,7 @@ ghost use Rattle.std.specs.Prelude.{◌≡◌};
 ghost use Rattle.emoji_call.specs.EmojiCall.{emoji_call};
 ghost use Rattle.call_fields.specs.EmojiFields.{emoji_fields};
 
-use call_fields::{WanlophengEmoji, emoji_fields};
+use call_fields::WanlophengEmoji;
 
 // The emoji sequence that matches the start of a part of a label and takes most of it.
 #[unsafe(no_mangle)]
@@ -11,5 +11,5 @@ pub extern "C" fn wanlopheng_emoji(part: &[u32], words: &[u32]) -> WanlophengEmo
     ensures { emoji_fields result ≡ emoji_call words.now part.now }
 {
     let found = emoji_call::which_emoji(part, words);
-    emoji_fields(found)
+    WanlophengEmoji::from(found)
 }

@@ -1,5 +1,5 @@
 // The calls for C and Rust, each with the promise of the call that it hands on. include/wanlopheng.h declares them.
-// A slice crosses as a pointer and a number of elements, an answer as a struct of plain numbers.
+// A slice crosses as a pointer and a number of elements, an answer as a struct of plain numbers; so every buffer is a parameter of its own here.
 #![tactic(auto)]
 
 pub mod book_calls;
@@ -20,10 +20,7 @@ ghost use Rattle.layout_fault.specs.Fault.{layout_fault};
 ghost use Rattle.name_crossing.specs.NameCrossing.{NameCrosses, LabelCrosses};
 ghost use Rattle.boundary.specs.Crossing.{UnpackCrosses};
 
-use fields::{
-    WanlophengLabel, WanlophengName, WanlophengSoundness, WanlophengUnpack, soundness_fields,
-    unpack_fields,
-};
+use fields::{WanlophengLabel, WanlophengName, WanlophengSoundness, WanlophengUnpack};
 use name_crossing::{cross_label, cross_name};
 
 // Unpacks a table file.
@@ -32,7 +29,7 @@ pub extern "C" fn wanlopheng_unpack(file: &[u8], answer: &mut [u32]) -> Wanlophe
     ensures { UnpackCrosses file.now answer.old answer.new result }
 {
     let found = unpack::unpack(file, answer);
-    unpack_fields(found)
+    WanlophengUnpack::from(found)
 }
 
 // Normalises a name. With a setting other than 0, labels of restricted groups are refused as 17.
@@ -69,7 +66,7 @@ pub extern "C" fn wanlopheng_soundness(words: &[u32]) -> WanlophengSoundness
     ensures { soundness_fields result ≡ soundness_numbers (soundness_of words.now) }
 {
     let found = sound_check::soundness(words);
-    soundness_fields(found)
+    WanlophengSoundness::from(found)
 }
 
 // Whether the words of a table have a layout fault: 1 where they do, 0 where they hold a table.
@@ -77,5 +74,5 @@ pub extern "C" fn wanlopheng_soundness(words: &[u32]) -> WanlophengSoundness
 pub extern "C" fn wanlopheng_layout_fault(words: &[u32]) -> u32
     ensures { result ≡ layout_fault words.now }
 {
-    layout_fault::layout_fault(words)
+    u32::from(layout_fault::layout_fault(words))
 }

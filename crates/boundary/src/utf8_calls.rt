@@ -3,7 +3,7 @@ ghost use Rattle.bytes_crossing.specs.BytesCrossing.{NameBytesCrosses};
 ghost use Rattle.boundary.specs.Utf8Crossing.{ReadCrosses, WriteCrosses};
 
 use bytes_crossing::cross_name_bytes;
-use call_fields::{WanlophengUtf8, read_fields, write_fields};
+use call_fields::WanlophengUtf8;
 use fields::WanlophengName;
 
 // Reads bytes into codepoints.
@@ -12,7 +12,7 @@ pub extern "C" fn wanlopheng_utf8_read(bytes: &[u8], answer: &mut [u32]) -> Wanl
     ensures { ReadCrosses bytes.now answer.old answer.new result }
 {
     let found = utf8::read(bytes, answer);
-    read_fields(found)
+    WanlophengUtf8::from(found)
 }
 
 // Writes codepoints as bytes.
@@ -21,7 +21,7 @@ pub extern "C" fn wanlopheng_utf8_write(codepoints: &[u32], answer: &mut [u8]) -
     ensures { WriteCrosses codepoints.now answer.old answer.new result }
 {
     let found = utf8::write(codepoints, answer);
-    write_fields(found)
+    WanlophengUtf8::from(found)
 }
 
 // Normalises a name that is given as bytes, with a setting as for a name.

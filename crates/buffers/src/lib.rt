@@ -5,7 +5,7 @@ ghost use Rattle.std.specs.Prelude.{◌≡◌, ◌++◌, ◌≤◌, length, repl
 ghost use Rattle.lists.specs.Lists.{same_list};
 ghost use Rattle.buffers.specs.Writes.{Wiped};
 
-// Every word becomes 0.
+// Every word becomes 0. The library's `fill` says so of clones; here it is one equation, which every clearing of words cites.
 pub fn clear(s: &mut [u32])
     ensures { s.new ≡ replicate (length s.old) 0 }
 {
@@ -22,13 +22,6 @@ pub fn wipe(s: &mut [u32], seed: usize) -> bool
         return true;
     }
     s[seed % s.len()] == 0
-}
-
-// Every byte becomes 0.
-pub fn clear_bytes(out: &mut [u8])
-    ensures { out.new ≡ replicate (length out.old) 0 }
-{
-    out.fill(0);
 }
 
 // The elements of `src` take the place of the first ones of `dst`; those behind them stay.

@@ -3,19 +3,19 @@ use Prim.Native.Nat.{ℕ, ◌+◌, ◌/◌, ◌%◌, ◌≤◌, ◌<◌}
 use native.Mathlib.Numerals.{add-one}
 use native.Mathlib.Nat.{mod-lt}
 use native.Mathlib.Omega.{arith}
-use mathlib.Core.Path.{◌≡◌, refl, sym, ◌∙◌}
-use mathlib.Core.Bool.{true, false, false≢true}
+use mathlib.Core.Path.{◌≡◌, refl, ◌∙◌}
+use Rattle.std.specs.Prelude.{Some, None}
 use mathlib.Core.List.{List, [], ◌∷◌, ◌++◌, append_assoc, append-nil}
 use lib.ListN.{length, set, take, length-append, length-set, get_or}
 use lib.Seq.{take-suc-set, take-suc, take_all}
 use Rattle.numerals.specs.Numeral.{digit_byte, numeral}
 use Rattle.numerals.proofs.Laws.{numeral-one, numeral_more}
 use Rattle.byte_sink.specs.declared.Sink.{Sink}
-use Rattle.byte_sink.specs.Sinks.{Holds, Adds}
+use Rattle.byte_sink.specs.Sinks.{Fits, Holds, Adds}
 
 -- nothing was done yet
-pub holds-none : (now : List ℕ) → Holds [] now (record { at = 0; full = false })
-holds-none now = record { fits = λ e. record { count = refl; room = omega arith; front = refl }; over = λ e. absurd (false≢true e) }
+pub holds-none : (now : List ℕ) → Holds [] now (record { at = Some 0 })
+holds-none now = record { is = record { count = refl; room = omega arith; front = refl } }
 
 module _ (before : List ℕ) (s : Sink) where
   pub adds_none : Adds before before [] s s
@@ -23,46 +23,42 @@ module _ (before : List ℕ) (s : Sink) where
 
   module _ (b : ℕ) where
     -- no room before
-    pub put_full : s.full ≡ true → Adds before before (b ∷ []) s s
+    pub put_full : s.at ≡ None → Adds before before (b ∷ []) s s
     put_full e =
         record {
           same = refl;
           holds = λ done h.
-              record {
-                fits = λ f. absurd (false≢true (sym f ∙ e));
-                over = λ f. rw length-append (omega (arith, h.over e));
-              };
+              let over : length before < length done = rw e at h.is in
+              record { is = rw (e, length-append) (omega (arith, over)) };
         }
 
-    -- the byte is stored
-    pub put_stored : s.full ≡ false → s.at < length before → Adds before (set before s.at b) (b ∷ []) s (record { at = s.at + 1; full = false })
-    put_stored e h =
-        record {
-          same = length-set before s.at b;
-          holds = λ done d.
-              let f = d.fits e in
-              record {
-                fits = λ g.
-                    record {
-                      count = rw length-append (omega (arith, f.count));
-                      room = rw length-set (omega arith);
-                      front = rw (add-one s.at, take-suc-set before s.at b h, f.front);
-                    };
-                over = λ g. absurd (false≢true g);
-              };
-        }
+    module _ (at : ℕ) (e : s.at ≡ Some at) where
+      -- the byte is stored
+      pub put_stored : at < length before → Adds before (set before at b) (b ∷ []) s (record { at = Some (at + 1) })
+      put_stored h =
+          record {
+            same = length-set before at b;
+            holds = λ done d.
+                let f : Fits done before at = rw e at d.is in
+                record {
+                  is =
+                      record {
+                        count = rw length-append (omega (arith, f.count));
+                        room = rw length-set (omega arith);
+                        front = rw (add-one at, take-suc-set before at b h, f.front);
+                      };
+                };
+          }
 
-    -- it finds no room
-    pub put_over : s.full ≡ false → length before ≤ s.at → Adds before before (b ∷ []) s (record { at = s.at; full = true })
-    put_over e h =
-        record {
-          same = refl;
-          holds = λ done d.
-              record {
-                fits = λ g. absurd (false≢true (sym g));
-                over = λ g. rw length-append (omega (arith, (d.fits e).count));
-              };
-        }
+      -- it finds no room
+      pub put_over : length before ≤ at → Adds before before (b ∷ []) s (record { at = None })
+      put_over h =
+          record {
+            same = refl;
+            holds = λ done d.
+                let f : Fits done before at = rw e at d.is in
+                record { is = rw length-append (omega (arith, f.count)) };
+          }
 
 -- one text behind the other
 pub adds_then : {before mid after a b : List ℕ} {s q r : Sink} → Adds before mid a s q → Adds mid after b q r → Adds before after (a ++ b) s r

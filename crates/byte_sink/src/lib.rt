@@ -8,29 +8,26 @@ ghost use Rattle.byte_sink.specs.Sinks.{Adds};
 
 use numerals::digit_byte;
 
-// How far the bytes have come, and whether one found no room: from there on nothing is stored.
+// No `Display`: the library's `write!` promises the text where its writer answers Ok, and not that it does so wherever there is room.
+
+// Where the next byte goes; `None` once one found no room: from there on nothing is stored.
 #[derive(Clone, Copy)]
 pub struct Sink {
-    pub at: usize,
-    pub full: bool,
+    pub at: Option<usize>,
 }
 
 // One byte more.
 pub fn put(out: &mut [u8], sink: Sink, b: u8) -> Sink
     ensures { Adds out.old out.new (b ∷ []) sink result }
 {
-    if sink.full {
+    let Some(at) = sink.at else {
         return sink;
-    }
-    let at = sink.at;
+    };
     if at < out.len() {
         out[at] = b;
-        return Sink {
-            at: at + 1,
-            full: false,
-        };
+        return Sink { at: Some(at + 1) };
     }
-    Sink { at, full: true }
+    Sink { at: None }
 }
 
 // A word.

@@ -1,7 +1,6 @@
 -- The answer of the search for a group as plain numbers: 1 beside a group that was found, with its number and 1 for each flag that is set.
-use Rattle.std.specs.Prelude.{ℕ, cond}
-use Rattle.groups.specs.declared.GroupFound.{GroupFound}
-use Rattle.groups.specs.declared.GroupFound.TheVariants.{At, Nothing}
+use Rattle.std.specs.Prelude.{ℕ, cond, Option, Some, None}
+use Rattle.groups.specs.declared.FoundGroup.{FoundGroup}
 use Rattle.groups.specs.Call.{GroupValues}
 use Rattle.call_fields.specs.declared.group.FoundNumbers.{FoundNumbers}
 use Rattle.call_fields.specs.declared.group.WanlophengGroup.{WanlophengGroup}
@@ -12,10 +11,10 @@ pub record FoundValues : Type 0 where
   pub restricted : ℕ
   pub whitelisted : ℕ
 
-abbrev pub found_numbers : GroupFound → FoundValues
-found_numbers (At number restricted whitelisted) =
-    record { found = 1; group = number; restricted = cond restricted 1 0; whitelisted = cond whitelisted 1 0 }
-found_numbers Nothing = record { found = 0; group = 0; restricted = 0; whitelisted = 0 }
+abbrev pub found_numbers : Option FoundGroup → FoundValues
+found_numbers (Some g) =
+    record { found = 1; group = g.number; restricted = cond g.restricted 1 0; whitelisted = cond g.whitelisted 1 0 }
+found_numbers None = record { found = 0; group = 0; restricted = 0; whitelisted = 0 }
 
 abbrev pub found_fields : FoundNumbers → FoundValues
 found_fields f = record { found = f.found; group = f.group; restricted = f.restricted; whitelisted = f.whitelisted }

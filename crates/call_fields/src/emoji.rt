@@ -3,7 +3,8 @@ ghost use Rattle.std.specs.Prelude.{◌≡◌};
 ghost use Rattle.emoji_call.specs.EmojiCall.{emoji_values};
 ghost use Rattle.call_fields.specs.EmojiFields.{emoji_fields};
 
-use emoji_call::EmojiAnswer;
+use emoji_call::LayoutFault;
+use finder::emoji::Match;
 
 // The refusal number, 1 where an emoji is found, how much of the part it takes, the number of its record from 0, and the FE0F that it takes.
 #[repr(C)]
@@ -16,34 +17,32 @@ pub struct WanlophengEmoji {
     pub selectors: usize,
 }
 
-pub fn emoji_fields(answer: EmojiAnswer) -> WanlophengEmoji
-    ensures { emoji_fields result ≡ emoji_values answer }
-{
-    match answer {
-        EmojiAnswer::LayoutFault => WanlophengEmoji {
-            number: 1,
-            found: 0,
-            taken: 0,
-            index: 0,
-            selectors: 0,
-        },
-        EmojiAnswer::Nothing => WanlophengEmoji {
-            number: 0,
-            found: 0,
-            taken: 0,
-            index: 0,
-            selectors: 0,
-        },
-        EmojiAnswer::Found {
-            taken,
-            index,
-            selectors,
-        } => WanlophengEmoji {
-            number: 0,
-            found: 1,
-            taken,
-            index,
-            selectors,
-        },
+impl From<Result<Option<Match>, LayoutFault>> for WanlophengEmoji {
+    ghost from_gives = { λ answer r. emoji_fields r ≡ emoji_values answer };
+
+    fn from(answer: Result<Option<Match>, LayoutFault>) -> WanlophengEmoji {
+        match answer {
+            Ok(Some(m)) => WanlophengEmoji {
+                number: 0,
+                found: 1,
+                taken: m.taken,
+                index: m.number,
+                selectors: m.selectors,
+            },
+            Ok(None) => WanlophengEmoji {
+                number: 0,
+                found: 0,
+                taken: 0,
+                index: 0,
+                selectors: 0,
+            },
+            Err(LayoutFault) => WanlophengEmoji {
+                number: 1,
+                found: 0,
+                taken: 0,
+                index: 0,
+                selectors: 0,
+            },
+        }
     }
 }

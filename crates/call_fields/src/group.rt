@@ -1,10 +1,10 @@
 // The answer of the search for the group of a text.
-ghost use Rattle.std.specs.Prelude.{◌≡◌, cond};
+ghost use Rattle.std.specs.Prelude.{◌≡◌};
 ghost use Rattle.groups.specs.Call.{group_values};
 ghost use Rattle.call_fields.specs.GroupFields.{group_fields, group_numbers, found_fields, found_numbers};
 
-use answers::{number_of, place_of};
-use groups::{GroupAnswer, GroupFound};
+use answers::Refusal;
+use groups::{FoundGroup, GroupSearch};
 
 // A group that was found, 1 with its number and 1 for each of its flags that is set; 0 throughout where none was.
 #[derive(Clone, Copy)]
@@ -29,67 +29,53 @@ pub struct WanlophengGroup {
     pub asked: usize,
 }
 
-fn flag(b: bool) -> u32
-    ensures { result ≡ cond b 1 0 }
-{
-    if b {
-        return 1;
-    }
-    0
-}
+impl From<Option<FoundGroup>> for FoundNumbers {
+    ghost from_gives = { λ f r. found_fields r ≡ found_numbers f };
 
-fn found_numbers(f: GroupFound) -> FoundNumbers
-    ensures { found_fields result ≡ found_numbers f }
-{
-    match f {
-        GroupFound::At {
-            number,
-            restricted,
-            whitelisted,
-        } => {
-            FoundNumbers {
+    fn from(f: Option<FoundGroup>) -> FoundNumbers {
+        match f {
+            Some(g) => FoundNumbers {
                 found: 1,
-                group: number,
-                restricted: flag(restricted),
-                whitelisted: flag(whitelisted),
-            }
+                group: g.number,
+                restricted: u32::from(g.restricted),
+                whitelisted: u32::from(g.whitelisted),
+            },
+            None => FoundNumbers {
+                found: 0,
+                group: 0,
+                restricted: 0,
+                whitelisted: 0,
+            },
         }
-        GroupFound::Nothing => FoundNumbers {
-            found: 0,
-            group: 0,
-            restricted: 0,
-            whitelisted: 0,
-        },
     }
 }
 
-pub fn group_fields(a: GroupAnswer) -> WanlophengGroup
-    ensures { group_fields result ≡ group_numbers (group_values a) }
-{
-    match a {
-        GroupAnswer::Searched(s) => {
-            let found = s.found;
-            let n = found_numbers(found);
-            WanlophengGroup {
-                number: 0,
-                place: 0,
-                found: n.found,
-                group: n.group,
-                restricted: n.restricted,
-                whitelisted: n.whitelisted,
-                asked: s.asked,
+impl From<Result<GroupSearch, Refusal>> for WanlophengGroup {
+    ghost from_gives = { λ a r. group_fields r ≡ group_numbers (group_values a) };
+
+    fn from(a: Result<GroupSearch, Refusal>) -> WanlophengGroup {
+        match a {
+            Ok(s) => {
+                let n = FoundNumbers::from(s.found);
+                WanlophengGroup {
+                    number: 0,
+                    place: 0,
+                    found: n.found,
+                    group: n.group,
+                    restricted: n.restricted,
+                    whitelisted: n.whitelisted,
+                    asked: s.asked,
+                }
             }
-        }
-        GroupAnswer::Refused(r) => {
-            WanlophengGroup {
-                number: number_of(r),
-                place: place_of(r),
+            Err(r) => WanlophengGroup {
+                number: r.number(),
+                place: r.place(),
                 found: 0,
                 group: 0,
                 restricted: 0,
                 whitelisted: 0,
                 asked: 0,
-            }
+            },
         }
     }
 }

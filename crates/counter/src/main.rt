@@ -7,14 +7,14 @@ ghost use Rattle.table_file.specs.File.{most_table};
 ghost use Rattle.taking.specs.Promise.{Ready};
 ghost use Rattle.counter.specs.Promise.{Loaded, Reads};
 
-use answers::Unpacked;
+use answers::UnpackError;
 use serving::{ENDING_ROOM, write_ending};
 use std::fs::File;
 use std::io;
 use std::io::{Read, Write};
 use std::rt::Files;
 use table_file::{MOST_FILE, MOST_TABLE, read_table};
-use taking::{State, Step, bad, take_piece};
+use taking::{State, bad, take_piece};
 
 // The most bytes that one read of the input takes.
 const MOST_PIECE: usize = 4096;
@@ -51,12 +51,12 @@ fn read_full<R: Read>(input: &mut R, buf: &mut [u8]) -> usize
 
 // Reads the table file into `words`: one byte more than it may have, so that one that is too long is seen to be. One that is missing has a
 // wrong length.
-fn load<F: Files>(files: &F, words: &mut [u32]) -> Unpacked
+fn load<F: Files>(files: &F, words: &mut [u32]) -> Result<usize, UnpackError>
     requires { most_table ≤ length words.old }
     ensures { Loaded (length words.old) result }
 {
     let Ok(mut opened) = File::open(files, "names.tab") else {
-        return Unpacked::WrongLength;
+        return Err(UnpackError::WrongLength);
     };
     let mut file = [0u8; MOST_FILE + 1];
     let n = read_full(&mut opened, &mut file);
@@ -73,25 +73,25 @@ fn finish<W: Write>(out: &mut W, table: &[u32], line: &[u8], state: State)
     let _ = out.write_all(&text[..n]);
 }
 
-// Reads once, and takes what came.
+// Reads once, and takes what came; `None` at the end.
 fn read_piece<R: Read, W: Write>(
     input: &mut R,
     out: &mut W,
     table: &[u32],
     line: &mut [u8],
     state: State,
-) -> Step
+) -> Option<State>
     requires { Ready line.old state (2 ^ 63) }
     ensures { Reads line.old line.new state result }
 {
     let mut piece = [0u8; MOST_PIECE];
     let Ok(n) = read_some(input, &mut piece) else {
         bad(out);
-        return Step::Stopped;
+        return None;
     };
     if n == 0 {
         finish(out, table, line, state);
-        return Step::Stopped;
+        return None;
     }
     take_piece(out, table, &piece[..n], line, state)
 }
@@ -101,8 +101,7 @@ fn run<R: Read, W: Write>(input: &mut R, out: &mut W, table: &[u32]) {
     let mut line = [0u8; line_reading::MOST_LINE];
     let mut state = State { held: 0, names: 0 };
     for _ in 0..MOST_TURNS {
-        let step = read_piece(input, out, table, &mut line, state);
-        let Step::On(next) = step else {
+        let Some(next) = read_piece(input, out, table, &mut line, state) else {
             return;
         };
         state = next;
@@ -112,8 +111,7 @@ fn run<R: Read, W: Write>(input: &mut R, out: &mut W, table: &[u32]) {
 fn main(rt: HostRuntime) {
     let mut out = rt.stdout();
     let mut words = [0u32; MOST_TABLE];
-    let loaded = load(&rt, &mut words);
-    let Unpacked::Words(count) = loaded else {
+    let Ok(count) = load(&rt, &mut words) else {
         bad(&mut out);
         return;
     };

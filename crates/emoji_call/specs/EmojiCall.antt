@@ -1,12 +1,12 @@
 -- The call that says which emoji it was (02, Item 8): "besides how far it got, the number of the matching record (from 0) and how many FE0F it
 -- took from the input".
-use Rattle.std.specs.Prelude.{ℕ, List}
+use Rattle.std.specs.Prelude.{ℕ, List, Option as Answer, Some, None, Result, Ok, Err}
 use Rattle.std.proofs.Math.Option.{Option, none, some}
 use Rattle.lists.specs.Lists.{on_some}
 use Rattle.table.specs.Layout.{parse}
 use Rattle.finder.specs.Emoji.{Found, find}
-use Rattle.emoji_call.specs.declared.EmojiAnswer as answer
-use Rattle.emoji_call.specs.declared.EmojiAnswer.{EmojiAnswer}
+use Rattle.finder.specs.declared.emoji.Match.{Match}
+use Rattle.emoji_call.specs.declared.LayoutFault.{LayoutFault}
 
 -- what the call answers: the refusal number, 0 where there is none; 1 where an emoji is found, else 0; how far it got; the number of the
 -- matching record; and the FE0F that it took. Where nothing is found these three are 0.
@@ -26,10 +26,10 @@ matching none = record { number = 0; found = 0; taken = 0; index = 0; selectors 
 matching (some f) = record { number = 0; found = 1; taken = f.taken.length; index = f.number; selectors = f.taken.selectors }
 
 -- the values of each case of the answer
-abbrev pub emoji_values : EmojiAnswer → EmojiValues
-emoji_values answer.TheVariants.LayoutFault = faulty
-emoji_values answer.TheVariants.Nothing = record { number = 0; found = 0; taken = 0; index = 0; selectors = 0 }
-emoji_values (answer.TheVariants.Found k n s) = record { number = 0; found = 1; taken = k; index = n; selectors = s }
+abbrev pub emoji_values : Result (Answer Match) LayoutFault → EmojiValues
+emoji_values (Err _) = faulty
+emoji_values (Ok None) = record { number = 0; found = 0; taken = 0; index = 0; selectors = 0 }
+emoji_values (Ok (Some m)) = record { number = 0; found = 1; taken = m.taken; index = m.number; selectors = m.selectors }
 
 -- The call on the words of a table and a part of a label. The part is taken as it stands: a 2E in it is a codepoint like any other.
 unfoldable pub emoji_call : List ℕ → List ℕ → EmojiValues

@@ -12,7 +12,8 @@ use sections::Sections;
 use table::Span;
 use table::lookup::counted;
 
-// Where the sequence of a record of a section stands; a part of no words where there is no such record.
+// Where the sequence of a record of a section stands; a part of no words where there is no such record, and no Option: the finder names records that
+// are there, and no caller has another case.
 fn sequence_in(part: &[u32], number: usize) -> Span
     requires { Sequences part.now }
     ensures { SequenceIs part.now (get_or (sequences_in part.now) number []) result }

@@ -5,9 +5,9 @@ ghost use Rattle.std.specs.Prelude.{◌≡◌};
 ghost use Rattle.answers.specs.Values.{unpack_values, name_values, label_values, broken_rule};
 ghost use Rattle.fields.specs.Fields.{unpack_fields, name_fields, label_fields, label_numbers, kind_numbers, kind_fields, soundness_numbers, soundness_fields};
 
-use answers::{
-    AcceptedLabel, AcceptedName, Kind, Refusal, Soundness, Unpacked, number_of, place_of,
-};
+use answers::{AcceptedLabel, AcceptedName, Kind, Refusal, Rule, UnpackError};
+
+// The structs cross to C as they are, so a case that lacks a value has 0 there.
 
 // A kind: 1 emoji, 2 ASCII, 3 a group with its number and 1 where it is restricted; other fields are 0.
 #[derive(Clone, Copy)]
@@ -56,112 +56,103 @@ pub struct WanlophengSoundness {
     pub rule: u32,
 }
 
-pub fn unpack_fields(answer: Unpacked) -> WanlophengUnpack
-    ensures { unpack_fields result ≡ unpack_values answer }
-{
-    match answer {
-        Unpacked::Words(count) => WanlophengUnpack { number: 0, count },
-        Unpacked::WrongVersion => WanlophengUnpack {
-            number: 20,
-            count: 0,
-        },
-        Unpacked::WrongLength => WanlophengUnpack {
-            number: 21,
-            count: 0,
-        },
-        Unpacked::TooLittleRoom => WanlophengUnpack {
-            number: 22,
-            count: 0,
-        },
+impl From<Result<usize, UnpackError>> for WanlophengUnpack {
+    ghost from_gives = { λ answer r. unpack_fields r ≡ unpack_values answer };
+
+    fn from(answer: Result<usize, UnpackError>) -> WanlophengUnpack {
+        match answer {
+            Ok(count) => WanlophengUnpack { number: 0, count },
+            Err(e) => WanlophengUnpack {
+                number: e.number(),
+                count: 0,
+            },
+        }
     }
 }
 
-pub fn kind_numbers(k: Kind) -> KindNumbers
-    ensures { kind_fields result ≡ kind_numbers k }
-{
-    match k {
-        Kind::Emoji => KindNumbers {
-            kind: 1,
-            group: 0,
-            restricted: 0,
-        },
-        Kind::Ascii => KindNumbers {
-            kind: 2,
-            group: 0,
-            restricted: 0,
-        },
-        Kind::Group(g) => {
-            let restricted = g.restricted;
-            if restricted {
-                return KindNumbers {
-                    kind: 3,
-                    group: g.number,
-                    restricted: 1,
-                };
-            }
-            KindNumbers {
+impl From<Kind> for KindNumbers {
+    ghost from_gives = { λ k r. kind_fields r ≡ kind_numbers k };
+
+    fn from(k: Kind) -> KindNumbers {
+        match k {
+            Kind::Emoji => KindNumbers {
+                kind: 1,
+                group: 0,
+                restricted: 0,
+            },
+            Kind::Ascii => KindNumbers {
+                kind: 2,
+                group: 0,
+                restricted: 0,
+            },
+            Kind::Group(g) => KindNumbers {
                 kind: 3,
                 group: g.number,
-                restricted: 0,
-            }
+                restricted: u32::from(g.restricted),
+            },
         }
     }
 }
 
-pub fn name_fields(a: Result<AcceptedName, Refusal>) -> WanlophengName
-    ensures { name_fields result ≡ name_values a }
-{
-    match a {
-        Ok(name) => WanlophengName {
-            number: 0,
-            place: 0,
-            length: name.length,
-            labels: name.labels,
-        },
-        Err(r) => {
-            WanlophengName {
-                number: number_of(r),
-                place: place_of(r),
-                length: 0,
-                labels: 0,
-            }
-        }
-    }
-}
+impl From<Result<AcceptedName, Refusal>> for WanlophengName {
+    ghost from_gives = { λ a r. name_fields r ≡ name_values a };
 
-pub fn label_fields(a: Result<AcceptedLabel, Refusal>) -> WanlophengLabel
-    ensures { label_fields result ≡ label_numbers (label_values a) }
-{
-    match a {
-        Ok(label) => {
-            let k = kind_numbers(label.kind);
-            WanlophengLabel {
+    fn from(a: Result<AcceptedName, Refusal>) -> WanlophengName {
+        match a {
+            Ok(name) => WanlophengName {
                 number: 0,
                 place: 0,
-                length: label.length,
-                kind: k.kind,
-                group: k.group,
-                restricted: k.restricted,
-            }
+                length: name.length,
+                labels: name.labels,
+            },
+            Err(r) => WanlophengName {
+                number: r.number(),
+                place: r.place(),
+                length: 0,
+                labels: 0,
+            },
         }
-        Err(r) => {
-            WanlophengLabel {
-                number: number_of(r),
-                place: place_of(r),
+    }
+}
+
+impl From<Result<AcceptedLabel, Refusal>> for WanlophengLabel {
+    ghost from_gives = { λ a r. label_fields r ≡ label_numbers (label_values a) };
+
+    fn from(a: Result<AcceptedLabel, Refusal>) -> WanlophengLabel {
+        match a {
+            Ok(label) => {
+                let k = KindNumbers::from(label.kind);
+                WanlophengLabel {
+                    number: 0,
+                    place: 0,
+                    length: label.length,
+                    kind: k.kind,
+                    group: k.group,
+                    restricted: k.restricted,
+                }
+            }
+            Err(r) => WanlophengLabel {
+                number: r.number(),
+                place: r.place(),
                 length: 0,
                 kind: 0,
                 group: 0,
                 restricted: 0,
-            }
+            },
         }
     }
 }
 
-pub fn soundness_fields(s: Soundness) -> WanlophengSoundness
-    ensures { soundness_fields result ≡ soundness_numbers (broken_rule s) }
-{
-    match s {
-        Soundness::Sound => WanlophengSoundness { sound: 1, rule: 0 },
-        Soundness::Broken(rule) => WanlophengSoundness { sound: 0, rule },
+impl From<Result<(), Rule>> for WanlophengSoundness {
+    ghost from_gives = { λ s r. soundness_fields r ≡ soundness_numbers (broken_rule s) };
+
+    fn from(s: Result<(), Rule>) -> WanlophengSoundness {
+        match s {
+            Ok(()) => WanlophengSoundness { sound: 1, rule: 0 },
+            Err(rule) => WanlophengSoundness {
+                sound: 0,
+                rule: rule.number(),
+            },
+        }
     }
 }

@@ -4,7 +4,7 @@
 
 ghost use Rattle.hash_crossing.specs.HashCrossing.{NamehashCrosses};
 
-use fields::{WanlophengName, name_fields};
+use fields::WanlophengName;
 use keccak_bytes::Digest;
 
 // What the name call answers, and the hash of its answer: 32 zero bytes beside a refusal.
@@ -26,8 +26,8 @@ pub fn cross_namehash(
     ensures { NamehashCrosses setting words.now input.now answer.old answer.new work.old work.new result }
 {
     let found = namehash::namehash(input, words, setting, answer, work);
-    let told = found.answer;
-    let name = name_fields(told);
-    let node = found.node;
-    WanlophengNamehash { name, node }
+    WanlophengNamehash {
+        name: WanlophengName::from(found.answer),
+        node: found.node,
+    }
 }

@@ -1,4 +1,5 @@
-// Keccak-f[1600]: the steps of a round that work lane by lane.
+// Keccak-f[1600]: the steps of a round that work lane by lane. Each is a step of the standard, with its own name; all that two of them share is the walk
+// over the lanes.
 #![tactic(auto)]
 
 use keccak_f::rotate_left;

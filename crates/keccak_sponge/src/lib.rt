@@ -15,7 +15,7 @@ const PADDING: u8 = 0x01;
 
 const LAST: u8 = 0x80;
 
-// The lanes, and how many bytes of the next block are in them: counted modulo 136.
+// The lanes, and how many bytes of the next block are in them: counted modulo 136. It crosses to C and back as it is, so any number may stand there.
 #[repr(C)]
 #[derive(Clone, Copy)]
 pub struct Keccak256 {

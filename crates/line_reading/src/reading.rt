@@ -20,9 +20,9 @@ fn digit_value(b: u8) -> u32
     ensures upper_bound { result < 16 }
 {
     if b <= 57 {
-        (b - 48) as u32
+        u32::from(b - 48)
     } else {
-        (b - 55) as u32
+        u32::from(b - 55)
     }
 }
 
@@ -46,7 +46,7 @@ fn read_number(word: &[u8]) -> Option<u32>
     Some(value)
 }
 
-// The place of the first b, or the length where there is none.
+// The place of the first b, or the length where there is none: where to cut, so no Option.
 pub fn find(s: &[u8], b: u8) -> usize
     ensures { result ≡ first_at b s.now }
 {

@@ -5,7 +5,7 @@ ghost use Rattle.buffers.specs.Writes.{Writes};
 ghost use Rattle.line_writing.specs.Promise.{AnswerRoom};
 
 use crate::writing::{write_no, write_ok};
-use answers::{AcceptedName, Refusal, number_of, place_of};
+use answers::{AcceptedName, Refusal};
 
 // The line for an answer of the name call, whose answer buffer is `buffer`.
 pub fn write_answer(answer: Result<AcceptedName, Refusal>, buffer: &[u32], out: &mut [u8]) -> usize
@@ -14,6 +14,6 @@ pub fn write_answer(answer: Result<AcceptedName, Refusal>, buffer: &[u32], out: 
 {
     match answer {
         Ok(accepted) => write_ok(&buffer[..accepted.length], out),
-        Err(refusal) => { write_no(number_of(refusal) as u64, place_of(refusal) as u64, out) }
+        Err(refusal) => write_no(u64::from(refusal.number()), refusal.place() as u64, out),
     }
 }

@@ -35,7 +35,7 @@ fn write_numbers(numbers: &[u32], out: &mut [u8]) -> usize
 {
     let mut at = 0;
     for &n in numbers {
-        let k = write_spaced(wide(n), 16, &mut out[at..]);
+        let k = write_spaced(u64::from(n), 16, &mut out[at..]);
         at += k;
     }
     at
@@ -85,10 +85,4 @@ pub fn write_bad(out: &mut [u8]) -> usize
     ensures { Writes bad_line out.old out.new result }
 {
     write_word(b"bad\n", out)
-}
-
-fn wide(n: u32) -> u64
-    ensures { (result ≡ n) × (result < 4294967296) }
-{
-    n as u64
 }

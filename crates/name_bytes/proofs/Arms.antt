@@ -22,12 +22,14 @@ use Rattle.name.specs.Name.{name_call}
 use Rattle.name.specs.Calls.{NameCalls}
 use Rattle.utf8_scheme.specs.Scheme.{read}
 use Rattle.utf8.specs.Promise.{ReadCalls}
-use Rattle.utf8.specs.Callers.{Given, was_read, was_ill_formed, was_too_much}
-use Rattle.utf8.specs.declared.ReadAnswer.{ReadAnswer}
-use Rattle.utf8.specs.declared.ReadAnswer.TheVariants as reading
-use Rattle.name_bytes.specs.declared.NameBytesAnswer.TheVariants.{Name, IllFormed}
+use Rattle.utf8.specs.Callers.{Given, was_read, was_ill_formed, was_too_much, no_number_read}
+use Rattle.std.specs.Prelude.{Ok, Err, MatchResult, IsErrAnd}
+use Rattle.utf8.specs.declared.Utf8Error.TheVariants as reading
+use Rattle.answers.specs.Values.{name_values}
+use Rattle.name_bytes.specs.declared.NameBytesError.{NameBytesError}
+use Rattle.name_bytes.specs.declared.NameBytesError.TheVariants.{IllFormed, Refused}
 use Rattle.name_bytes.specs.Wiping.{Wiped}
-use Rattle.name_bytes.specs.NameBytes.{beside, name_bytes_call, NameBytesCalls}
+use Rattle.name_bytes.specs.NameBytes.{beside, name_bytes_values, name_bytes_call, NameBytesCalls}
 
 -- what refusals 1 to 3 say of an input that is too long
 abbrev long : List ℕ → ℕ → Verdict Table
@@ -70,42 +72,46 @@ long_alike setting words a b room work h k =
     refused_call setting words a room work r.0 0 (long_admitted words work a h ∙ r.1)
     ∙ sym (refused_call setting words b room work r.0 0 (long_admitted words work b k ∙ r.1))
 
--- the reader has answered `found`, with the array before it and after it (')
-module _ (bytes codepoints codepoints' : List ℕ) (found : ReadAnswer) (answered : ReadCalls bytes codepoints codepoints' found) where
-  told_as : (r : ReadAnswer) → found ≡ r → ReadCalls bytes codepoints codepoints' r
-  told_as r e = subst (λ (x : ReadAnswer). ReadCalls bytes codepoints codepoints' x) e answered
-
+-- the array before the reader and after it (')
+module _ (bytes codepoints codepoints' : List ℕ) where
   -- n codepoints, which stand in the array
-  was_given : (n : ℕ) → found ≡ reading.Read n → Given (read bytes) (length codepoints) codepoints' n
-  was_given n e = was_read bytes codepoints codepoints' n (told_as (reading.Read n) e)
-
-  pub read-room : (n : ℕ) → found ≡ reading.Read n → n ≤ length codepoints'
-  read-room n e = let g = was_given n e in omega (arith, g.fits, g.long)
+  pub read-room : (n : ℕ) → ReadCalls bytes codepoints codepoints' (Ok n) → n ≤ length codepoints'
+  read-room n told = let g = was_read bytes codepoints codepoints' n told in omega (arith, g.fits, g.long)
 
   module _ (setting : ℕ) (words before after work work' : List ℕ) where
-    pub read_named : (n : ℕ) → found ≡ reading.Read n → (r : Result AcceptedName Refusal) → NameCalls setting words (take n codepoints') before after work work' r
-        → NameBytesCalls setting words bytes before after work work' (Name r)
+    pub read_named : (n : ℕ) → ReadCalls bytes codepoints codepoints' (Ok n) → (r : Result AcceptedName Refusal)
+        → NameCalls setting words (take n codepoints') before after work work' r → (r' : Result AcceptedName NameBytesError)
+        → name_bytes_values r' ≡ name_values r → NameBytesCalls setting words bytes before after work work' r'
     unfolding name_bytes_call
-    read_named n e r h =
-        let g = was_read bytes codepoints codepoints' n (told_as (reading.Read n) e) in
-        rw (g.is, ← g.front) h
+    read_named n told r h r' e = let g = was_read bytes codepoints codepoints' n told in rw (e, g.is, ← g.front) h
 
     -- more codepoints than the array has words
-    pub over_named : length codepoints ≡ most_input + 1 → found ≡ reading.TooLittleRoom → (r : Result AcceptedName Refusal)
-        → NameCalls setting words codepoints' before after work work' r → NameBytesCalls setting words bytes before after work work' (Name r)
+    pub over_named : length codepoints ≡ most_input + 1 → ReadCalls bytes codepoints codepoints' (Err reading.TooLittleRoom) → (r : Result AcceptedName Refusal)
+        → NameCalls setting words codepoints' before after work work' r → (r' : Result AcceptedName NameBytesError)
+        → name_bytes_values r' ≡ name_values r → NameBytesCalls setting words bytes before after work work' r'
     unfolding name_bytes_call
-    over_named l e r h =
-        let g = was_too_much bytes codepoints codepoints' (told_as reading.TooLittleRoom e) in
+    over_named l told r h r' e =
+        let g = was_too_much bytes codepoints codepoints' told in
         let zeros : length codepoints' ≡ length codepoints = rw g.zeros (length-replicate (length codepoints) 0) in
         let alike = long_alike setting words g.text codepoints' (length before) (length work) (omega (arith, g.over)) (omega arith) in
-        rw (g.is, alike) h
+        rw (e, g.is, alike) h
 
     -- 30
-    pub read_refused : (at : ℕ) → found ≡ reading.IllFormed at → after ≡ replicate (length before) 0 → work' ≡ replicate (length work) 0
-        → NameBytesCalls setting words bytes before after work work' (IllFormed at)
+    pub read_refused : (at : ℕ) → ReadCalls bytes codepoints codepoints' (Err (reading.IllFormed at)) → after ≡ replicate (length before) 0
+        → work' ≡ replicate (length work) 0 → NameBytesCalls setting words bytes before after work work' (Err (IllFormed at))
     unfolding name_bytes_call
-    read_refused at e y z =
-        rw (was_ill_formed bytes codepoints codepoints' at (told_as (reading.IllFormed at) e)) (record { values = refl; answer = y; cleared = z })
+    read_refused at told y z = rw (was_ill_formed bytes codepoints codepoints' at told) (record { values = refl; answer = y; cleared = z })
+
+-- the reader names no number
+pub not_read : (bytes codepoints codepoints' : List ℕ) (at : ℕ) → ReadCalls bytes codepoints codepoints' (Err (reading.NotScalar at)) → ⊥
+not_read bytes codepoints codepoints' at told = no_number_read bytes codepoints codepoints' at told
+
+-- the answer of the name call, its refusal as one of this call
+pub handed_on : (r : Result AcceptedName Refusal) (r' : Result AcceptedName NameBytesError)
+    → MatchResult r (λ x. r' ≡ Ok x) (λ e. IsErrAnd r' (λ y. y ≡ Refused e)) → name_bytes_values r' ≡ name_values r
+handed_on (Ok name) r' e = rw e refl
+handed_on (Err f) (Err y) e = rw e refl
+handed_on (Err f) (Ok x) e = absurd e
 
 -- a word of an array that was cleared
 pub wiped : (before after : List ℕ) (i : ℕ) → after ≡ replicate (length before) 0 → i < length before → Wiped before after (get_or after i 0)

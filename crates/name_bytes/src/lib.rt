@@ -8,13 +8,13 @@ ghost use Rattle.name_bytes.specs.Wiping.{Wiped};
 
 use answers::{AcceptedName, Refusal};
 use limits::MOST_INPUT;
-use utf8::ReadAnswer;
+use utf8::Utf8Error;
 
-// What the name call answers on what was read, or the byte index where the first sequence that is ill-formed starts.
+// Why the byte form refuses: the first sequence that is ill-formed starts at this byte, or the name call refuses what was read.
 #[derive(Clone, Copy)]
-pub enum NameBytesAnswer {
-    Name(Result<AcceptedName, Refusal>),
+pub enum NameBytesError {
     IllFormed(usize),
+    Refused(Refusal),
 }
 
 // Clears the words, and answers the one at place i.
@@ -35,25 +35,26 @@ fn judge_read(
     codepoints: &mut [u32],
     answer: &mut [u32],
     work: &mut [u32],
-) -> NameBytesAnswer
+) -> Result<AcceptedName, NameBytesError>
     requires { length codepoints.old ≡ most_input + 1 }
     ensures { NameBytesCalls setting words.now bytes.now answer.old answer.new work.old work.new result }
 {
-    let found = utf8::read(bytes, codepoints);
-    match found {
-        ReadAnswer::Read(n) => {
+    match utf8::read(bytes, codepoints) {
+        Ok(n) => {
             let named = name_call::name(&codepoints[..n], words, setting, answer, work);
-            NameBytesAnswer::Name(named)
+            named.map_err(NameBytesError::Refused)
         }
-        ReadAnswer::TooLittleRoom => {
+        Err(Utf8Error::TooLittleRoom) => {
             let named = name_call::name(codepoints, words, setting, answer, work);
-            NameBytesAnswer::Name(named)
+            named.map_err(NameBytesError::Refused)
         }
-        ReadAnswer::IllFormed(at) => {
+        Err(Utf8Error::IllFormed(at)) => {
             buffers::clear(answer);
             buffers::clear(work);
-            NameBytesAnswer::IllFormed(at)
+            Err(NameBytesError::IllFormed(at))
         }
+        // the reader never says so
+        Err(Utf8Error::NotScalar(at)) => Err(NameBytesError::IllFormed(at)),
     }
 }
 
@@ -66,14 +67,14 @@ pub fn name_bytes(
     setting: u32,
     answer: &mut [u32],
     work: &mut [u32],
-) -> NameBytesAnswer
+) -> Result<AcceptedName, NameBytesError>
     ensures { NameBytesCalls setting words.now bytes.now answer.old answer.new work.old work.new result }
 {
     let mut codepoints = [0u32; MOST_INPUT + 1];
     let found = judge_read(bytes, words, setting, &mut codepoints, answer, work);
     let left = wipe(&mut codepoints, bytes.len() % (MOST_INPUT + 1));
     if left != 0 {
-        return NameBytesAnswer::IllFormed(0);
+        return Err(NameBytesError::IllFormed(0));
     }
     found
 }

@@ -4,7 +4,7 @@
 
 ghost use Rattle.name_crossing.specs.NameCrossing.{NameCrosses, LabelCrosses};
 
-use fields::{WanlophengLabel, WanlophengName, label_fields, name_fields};
+use fields::{WanlophengLabel, WanlophengName};
 
 // Normalises a name. With a setting other than 0, labels of restricted groups are refused as 17.
 pub fn cross_name(
@@ -17,7 +17,7 @@ pub fn cross_name(
     ensures { NameCrosses setting words.now input.now answer.old answer.new work.old work.new result }
 {
     let found = name_call::name(input, words, setting, answer, work);
-    name_fields(found)
+    WanlophengName::from(found)
 }
 
 // Normalises one label, with the same setting.
@@ -31,5 +31,5 @@ pub fn cross_label(
     ensures { LabelCrosses setting words.now input.now answer.old answer.new work.old work.new result }
 {
     let found = label_call::label(input, words, setting, answer, work);
-    label_fields(found)
+    WanlophengLabel::from(found)
 }

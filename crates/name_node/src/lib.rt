@@ -12,7 +12,6 @@ ghost use Rattle.name_node.specs.Parts.{Scalars, Starts};
 
 use keccak_bytes::Digest;
 use keccak_sponge::Keccak256;
-use utf8::WriteAnswer;
 
 const STOP: u32 = 0x2E;
 
@@ -30,11 +29,10 @@ fn absorb_one(sponge: Keccak256, c: u32) -> Keccak256
 {
     let one = [c];
     let mut bytes = [0u8; 4];
-    let written = utf8::write(&one, &mut bytes);
-    let WriteAnswer::Written(n) = written else {
-        return sponge;
-    };
-    sponge.absorb(&bytes[..n])
+    match utf8::write(&one, &mut bytes) {
+        Ok(n) => sponge.absorb(&bytes[..n]),
+        Err(_) => sponge,
+    }
 }
 
 // Keccak-256 of a label's UTF-8 bytes.

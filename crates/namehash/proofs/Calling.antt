@@ -4,9 +4,11 @@ use Rattle.answers.specs.declared.AcceptedName.{AcceptedName}
 use Prim.Native.Nat.{ℕ, ◌≤◌}
 use native.Mathlib.Omega.{arith}
 use mathlib.Core.Path.{◌≡◌, refl, sym, ap, ◌∙◌, subst, subst⁻¹}
-use mathlib.Core.Logic.{⊎_elim}
+use mathlib.Core.Bool.{not}
 use mathlib.Core.List.{List, [], ◌∷◌}
+use mathlib.Core.Option.{none, some}
 use lib.ListN.{length, take, replicate}
+use Rattle.lists.specs.Lists.{joined_map, place_with}
 use Rattle.lists.specs.Filled.{take-filled}
 use Rattle.answers.specs.Verdict.{Verdict, accepted, refused, next}
 use Rattle.answers.specs.Values.{NameValues, name_values}
@@ -14,10 +16,8 @@ use Rattle.answers.specs.declared.Refusal.{Refusal}
 use Rattle.answers.specs.declared.Refusal.TheVariants.{NotScalar}
 use Rattle.answers.proofs.Numbers.{some_number}
 use Rattle.ending.specs.Ends.{Ends, result_fits}
-use Rattle.utf8_scheme.specs.Scheme.{write}
-use Rattle.utf8.specs.Promise.{WriteCalls}
-use Rattle.utf8.specs.Callers.{was_written, was_not_scalar, was_too_long}
-use Rattle.utf8.specs.declared.WriteAnswer.{WriteAnswer}
+use Rattle.scalar.specs.Scalar.{is_scalar}
+use Rattle.utf8_scheme.specs.Scheme.{octets, write}
 use Rattle.keccak_bytes.specs.declared.Digest.{Digest}
 use Rattle.name.specs.Label.{Label}
 use Rattle.name.specs.Name.{labels_of, name_answer, name_answering, name_result, name_before15, name_verdict, name_call}
@@ -25,10 +25,6 @@ use Rattle.name.specs.Calls.{NameCalls}
 use Rattle.name_node.specs.Node.{node}
 use Rattle.namehash.specs.Namehash.{then4, node_of, namehash_call}
 use Rattle.namehash.specs.Promise.{NamehashCalls}
-use types.Run.{OneOf}
-use denote.Enum.Declared.{tag_of}
-use Rattle.utf8.specs.declared.WriteAnswer.TheVariants as writing
-use Rattle.utf8.specs.contracts.WriteAnswer as writeAnswers
 
 -- what the call has answered where the name call's verdict is v
 record Hashes (v : Verdict (List Label)) (name : List ℕ) (room work : ℕ) (told : NameValues) (after after-work hash : List ℕ) : Type 0 where
@@ -52,11 +48,11 @@ module _ (name : List ℕ) (room work : ℕ) (mid mid-work : List ℕ) where
         let long : len ≡ length (name_answer ls) = ap (λ (x : NameValues). x.length) h.values in
         rw (long, h.answer) (take-filled room (name_answer ls))
 
-    none : (m p : ℕ) → Ends (name_result name room work (refused m p)) (name_values (Ok (record { length = len; labels = n }))) mid mid-work → take len mid ≡ []
+    refused_front : (m p : ℕ) → Ends (name_result name room work (refused m p)) (name_values (Ok (record { length = len; labels = n }))) mid mid-work → take len mid ≡ []
     unfolding name_result
-    none m p h = ap (λ (k : ℕ). take k mid) (ap (λ (x : NameValues). x.length) h.values)
+    refused_front m p h = ap (λ (k : ℕ). take k mid) (ap (λ (x : NameValues). x.length) h.values)
 
-    -- the writer takes the answer
+    -- the answer has octets
     written_hash : (v : Verdict (List Label)) (b hash : List ℕ)
         → Ends (name_result name room work v) (name_values (Ok (record { length = len; labels = n }))) mid mid-work
         → write (take len mid) ≡ accepted b → hash ≡ node (labels_of (take len mid))
@@ -68,9 +64,9 @@ module _ (name : List ℕ) (room work : ℕ) (mid mid-work : List ℕ) where
           ends = subst⁻¹ (λ (x : Verdict (List Label)). Ends (name_result name room work x) (name_values (Ok (record { length = len; labels = n }))) mid mid-work) t h;
           is = f ∙ ap (λ (s : List ℕ). node (labels_of s)) (front ls h) ∙ sym (ap node_of t);
         }
-    written_hash (refused m p) b hash h e f = record { ends = h; is = f ∙ ap (λ (s : List ℕ). node (labels_of s)) (none m p h) }
+    written_hash (refused m p) b hash h e f = record { ends = h; is = f ∙ ap (λ (s : List ℕ). node (labels_of s)) (refused_front m p h) }
 
-    -- the writer refuses it: both buffers are zeros
+    -- it has none: both buffers are zeros
     unwritten_hash : (v : Verdict (List Label)) (at : ℕ) (after hash : List ℕ) → length mid ≡ room
         → Ends (name_result name room work v) (name_values (Ok (record { length = len; labels = n }))) mid mid-work
         → write (take len mid) ≡ refused 4 at → after ≡ replicate (length mid) 0 → hash ≡ replicate 32 0
@@ -85,7 +81,7 @@ module _ (name : List ℕ) (room work : ℕ) (mid mid-work : List ℕ) where
           is = f ∙ sym (ap node_of t);
         }
     unwritten_hash (refused m p) at after hash same h e z f =
-        let x : accepted [] ≡ refused 4 at = sym (ap write (none m p h)) ∙ e in
+        let x : accepted [] ≡ refused 4 at = sym (ap write (refused_front m p h)) ∙ e in
         absurd (let y : ◌≡◌ {A = ℕ} 0 1 = cc in omega arith)
 
 -- the same of the call
@@ -114,7 +110,7 @@ module _ (setting : ℕ) (words input before mid work mid-work : List ℕ) (foun
       record { ends = rw e h.ends; node = h.is }
 
   module _ (len n : ℕ) (e : found ≡ Ok (record { length = len; labels = n })) where
-    -- it accepted, and the writer takes the answer
+    -- it accepted, and the answer has octets
     pub name_written : (g : Digest) (b : List ℕ) → write (take len mid) ≡ accepted b → g.bytes ≡ node (labels_of (take len mid))
         → NamehashCalls setting words input before mid work mid-work (record { answer = Ok (record { length = len; labels = n }); node = g })
     unfolding namehash_call v
@@ -122,7 +118,7 @@ module _ (setting : ℕ) (words input before mid work mid-work : List ℕ) (foun
         let h = written_hash input (length before) (length work) mid mid-work len n v b g.bytes (told_as (Ok (record { length = len; labels = n })) e) q z in
         record { ends = h.ends; node = h.is }
 
-    -- it accepted, and the writer refuses the answer
+    -- it accepted, and the answer has none
     pub name_unwritten : (g : Digest) (at : ℕ) (after : List ℕ) → length mid ≡ length before → write (take len mid) ≡ refused 4 at
         → after ≡ replicate (length mid) 0 → g.bytes ≡ replicate 32 0
         → NamehashCalls setting words input before after work mid-work (record { answer = Err (NotScalar at); node = g })
@@ -131,18 +127,12 @@ module _ (setting : ℕ) (words input before mid work mid-work : List ℕ) (foun
         let h = unwritten_hash input (length before) (length work) mid mid-work len n v at after g.bytes same (told_as (Ok (record { length = len; labels = n })) e) q y z in
         record { ends = h.ends; node = h.is }
 
--- What the writer answers where it is lent no room: 4, or else it takes the text.
-module _ (text room after : List ℕ) (found : WriteAnswer) (answered : WriteCalls text room after found) where
-  wrote_as : (r : WriteAnswer) → found ≡ r → WriteCalls text room after r
-  wrote_as r e = subst (λ (x : WriteAnswer). WriteCalls text room after x) e answered
+-- A text with a number that is no scalar value has no octets: 4; any other has.
+module _ (text : List ℕ) where
+  pub no_octets : (at : ℕ) → some at ≡ place_with (λ c. not (is_scalar c)) 0 text → write text ≡ refused 4 at
+  unfolding write
+  no_octets at e = rw (← e)
 
-  pub writer_refused : (at : ℕ) → found ≡ writing.NotScalar at → write text ≡ refused 4 at
-  writer_refused at e = was_not_scalar text room after at (wrote_as (writing.NotScalar at) e)
-
-  pub writer_took : OneOf (0 ∷ 2 ∷ []) (tag_of writeAnswers.the_type found) → (b : List ℕ) × (write text ≡ accepted b)
-  writer_took t = go found refl t
-    where
-      go : (r : WriteAnswer) → found ≡ r → OneOf (0 ∷ 2 ∷ []) (tag_of writeAnswers.the_type r) → (b : List ℕ) × (write text ≡ accepted b)
-      go (writing.Written n) e u = let g = was_written text room after n (wrote_as (writing.Written n) e) in (g.text, g.is)
-      go (writing.NotScalar at) e u = absurd (⊎_elim (λ x. omega arith) (λ x. omega arith) u)
-      go writing.TooLittleRoom e u = let g = was_too_long text room after (wrote_as writing.TooLittleRoom e) in (g.text, g.is)
+  pub has_octets : none ≡ place_with (λ c. not (is_scalar c)) 0 text → write text ≡ accepted (joined_map octets text)
+  unfolding write
+  has_octets e = rw (← e)

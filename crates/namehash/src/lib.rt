@@ -5,17 +5,17 @@ ghost use Rattle.namehash.specs.Promise.{NamehashCalls};
 
 use answers::{AcceptedName, Refusal};
 use keccak_bytes::Digest;
+use name::admit::first_not_scalar;
 use name_node::{no_node, node_of};
-use utf8::WriteAnswer;
 
-// What the name call answers, and the hash of that answer: 32 zero bytes beside a refusal.
+// What the name call answers, and the hash of that answer: 32 zero bytes beside a refusal, since both cross to C in any case.
 #[derive(Clone, Copy)]
 pub struct HashedName {
     pub answer: Result<AcceptedName, Refusal>,
     pub node: Digest,
 }
 
-// The hash of the normal form of a name. The writer, lent no room, looks the answer through: its 4 comes last.
+// The hash of the normal form of a name. Its codepoints are looked through for 4, which comes last.
 pub fn namehash(
     input: &[u32],
     words: &[u32],
@@ -29,27 +29,23 @@ pub fn namehash(
     let length = match found {
         Ok(name) => name.length,
         Err(_) => {
-            let none = no_node();
             return HashedName {
                 answer: found,
-                node: none,
+                node: no_node(),
             };
         }
     };
-    let mut room = [0u8; 0];
-    let written = utf8::write(&answer[..length], &mut room);
-    if let WriteAnswer::NotScalar(at) = written {
-        buffers::clear(answer);
-        let refused = Err(Refusal::NotScalar(at));
-        let none = no_node();
-        return HashedName {
-            answer: refused,
-            node: none,
-        };
-    }
-    let node = node_of(&answer[..length]);
-    HashedName {
-        answer: found,
-        node,
+    match first_not_scalar(&answer[..length]) {
+        Some(at) => {
+            buffers::clear(answer);
+            HashedName {
+                answer: Err(Refusal::NotScalar(at)),
+                node: no_node(),
+            }
+        }
+        None => HashedName {
+            answer: found,
+            node: node_of(&answer[..length]),
+        },
     }
 }

@@ -18,7 +18,7 @@ pub struct WanlophengForm {
     pub length: usize,
 }
 
-// The number of each refusal.
+// The number of each refusal. A function: neither `FormError` nor `u32` is of this crate.
 fn form_number(e: FormError) -> u32
     ensures { result ≡ form_number e }
 {
@@ -30,16 +30,17 @@ fn form_number(e: FormError) -> u32
     }
 }
 
-// An answer as plain numbers.
-fn form_fields(answer: Result<usize, FormError>) -> WanlophengForm
-    ensures { form_fields result ≡ form_values answer }
-{
-    match answer {
-        Ok(length) => WanlophengForm { number: 0, length },
-        Err(e) => WanlophengForm {
-            number: form_number(e),
-            length: 0,
-        },
+impl From<Result<usize, FormError>> for WanlophengForm {
+    ghost from_gives = { λ answer r. form_fields r ≡ form_values answer };
+
+    fn from(answer: Result<usize, FormError>) -> WanlophengForm {
+        match answer {
+            Ok(length) => WanlophengForm { number: 0, length },
+            Err(e) => WanlophengForm {
+                number: form_number(e),
+                length: 0,
+            },
+        }
     }
 }
 
@@ -53,10 +54,10 @@ pub fn cross_nfd(
     ensures { Forms nfd_call text.now words.now answer.old answer.new work.old work.new (form_fields result) }
 {
     let found = normal_forms::nfd(text, words, answer, work);
-    form_fields(found)
+    WanlophengForm::from(found)
 }
 
-// NFC of a text.
+// NFC of a text. C has a name for each form, and each call has a contract of its own.
 pub fn cross_nfc(
     text: &[u32],
     words: &[u32],
@@ -66,5 +67,5 @@ pub fn cross_nfc(
     ensures { Forms nfc_call text.now words.now answer.old answer.new work.old work.new (form_fields result) }
 {
     let found = normal_forms::nfc(text, words, answer, work);
-    form_fields(found)
+    WanlophengForm::from(found)
 }

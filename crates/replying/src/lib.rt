@@ -10,7 +10,7 @@ use name_call::name;
 // Room for the line for a name.
 pub const REPLY_ROOM: usize = 9 * limits::MOST_WORKED + line_writing::MOST_NO_LINE;
 
-// What is written for a line of input: so many bytes of text; and whether the line was readable.
+// What is written for a line of input: so many bytes of text; and whether the line was readable. Both are told in either case, so no Option.
 #[derive(Clone, Copy)]
 pub struct Reply {
     pub length: usize,

@@ -1,10 +1,9 @@
 -- The ways out of the call, from what the name was judged and what was written.
-use Rattle.std.specs.Prelude.{Result, Ok, Err}
+use Rattle.std.specs.Prelude.{Some, None, Result, Ok, Err}
 use Rattle.answers.specs.declared.AcceptedName.{AcceptedName}
 use Prim.Native.Nat.{ℕ, ◌-◌, ◌<◌, ◌≤◌}
 use native.Mathlib.Omega.{arith}
 use mathlib.Core.Path.{◌≡◌, refl, sym, ap, ◌∙◌, subst}
-use mathlib.Core.Bool.{true, false}
 use mathlib.Core.List.{List, [], ◌∷◌, ◌++◌}
 use lib.ListN.{length, take, replicate}
 use borrow.Author.Tests.{lt-ltb, le-ltb}
@@ -20,9 +19,9 @@ use Rattle.name.specs.Label.{Label}
 use Rattle.name.specs.Name.{labels_of, name_answering, name_before15}
 use Rattle.name.specs.Calls.{NameJudged}
 use Rattle.byte_sink.specs.declared.Sink.{Sink}
-use Rattle.byte_sink.specs.Sinks.{Holds, Adds}
+use Rattle.byte_sink.specs.Sinks.{Fits, Holds, Adds}
 use Rattle.byte_sink.proofs.Adding.{holds-none}
-use Rattle.report.specs.declared.ReportAnswer.TheVariants.{Written, Refused, TooLittleRoom}
+use Rattle.report.specs.declared.ReportError.TheVariants.{Refused, TooLittleRoom}
 use Rattle.report_text.specs.Report.{lines, report}
 use Rattle.report.specs.Calls.{report_call}
 use Rattle.report_walk.specs.Reportable.{nothing, Reportable}
@@ -64,14 +63,14 @@ module _ (setting : ℕ) (words input front front' before work mid : List ℕ) (
 
   module _ (after work' : List ℕ) (cleared : work' ≡ replicate (length work) 0) where
     pub call_refused : (f : Refusal) → found ≡ Err f → after ≡ replicate (length before) 0
-        → ReportCalls setting words input before after work work' (Refused f)
+        → ReportCalls setting words input before after work work' (Err (Refused f))
     unfolding report_call
     call_refused f e z =
         rw (told_refused input front' v f (told_as (Err f) e)) (record { values = refl; bytes = z; cleared = cleared })
 
     -- a name without labels has no lines
     pub call_none : (a : AcceptedName) → found ≡ Ok a → a.labels ≡ 0 → after ≡ replicate (length before) 0
-        → ReportCalls setting words input before after work work' (Written 0)
+        → ReportCalls setting words input before after work work' (Ok 0)
     unfolding report_call report lines
     call_none a e n z = go v refl (told_as (Ok (record { length = a.length; labels = 0 })) e')
       where
@@ -79,7 +78,7 @@ module _ (setting : ℕ) (words input front front' before work mid : List ℕ) (
         e' = e ∙ ap (λ (k : ℕ). Ok (record { length = a.length; labels = k })) n
 
         go : (u : Verdict (List Label)) → v ≡ u → Told (name_answering input) u front' (name_values (Ok (record { length = a.length; labels = 0 })))
-            → ReportCalls setting words input before after work work' (Written 0)
+            → ReportCalls setting words input before after work work' (Ok 0)
         go (accepted ls) q t =
             let none : labels_of input ≡ [] = labels_none (labels_of input) (ap (λ (x : NameValues). x.labels) t.0) in
             let room : length before - 0 ≡ length before = omega arith in
@@ -102,22 +101,22 @@ module _ (setting : ℕ) (words input front front' before work mid : List ℕ) (
       written = a.holds [] (holds-none before)
 
       -- it finds no room
-      pub call_over : r.full ≡ true → after ≡ replicate (length full) 0 → ReportCalls setting words input before after work work' TooLittleRoom
+      pub call_over : r.at ≡ None → after ≡ replicate (length full) 0 → ReportCalls setting words input before after work work' (Err TooLittleRoom)
       unfolding report_call
       call_over o z =
-          let over : length before < length (report (the_table words) input) = omega (arith, written.over o, a.same) in
+          let over : length before < length (report (the_table words) input) = (let past : length full < length (report (the_table words) input) = rw o at written.is in omega (arith, past, a.same)) in
           rw (accepts.1, lt-ltb (length before) (length (report (the_table words) input)) over)
           (record { values = refl; bytes = z ∙ rw a.same; cleared = cleared })
 
       -- it stands in front, and the part behind it is cleared
-      pub call_written : r.full ≡ false → (tail : List ℕ) → tail ≡ replicate (length (mid_of r.at (length full - r.at) full)) 0
-          → after ≡ put_mid r.at (length full - r.at) full tail → ReportCalls setting words input before after work work' (Written r.at)
+      pub call_written : (at : ℕ) → r.at ≡ Some at → (tail : List ℕ) → tail ≡ replicate (length (mid_of at (length full - at) full)) 0
+          → after ≡ put_mid at (length full - at) full tail → ReportCalls setting words input before after work work' (Ok at)
       unfolding report_call
-      call_written o tail z p =
-          let f = written.fits o in
+      call_written at o tail z p =
+          let f : Fits (report (the_table words) input) full at = rw o at written.is in
           let s : List ℕ = report (the_table words) input in
           let fits : length s ≤ length before = omega (arith, f.count, f.room, a.same) in
-          let whole : after ≡ take r.at full ++ replicate (length full - r.at) 0 = p ∙ ap (put_mid r.at (length full - r.at) full) z ∙ put_filled r.at full 0 in
+          let whole : after ≡ take at full ++ replicate (length full - at) 0 = p ∙ ap (put_mid at (length full - at) full) z ∙ put_filled at full 0 in
           rw (accepts.1, le-ltb (length before) (length s) fits)
           (record {
             values = ap (λ (n : ℕ). record { number = 0; place = 0; length = n }) f.count;
@@ -126,5 +125,5 @@ module _ (setting : ℕ) (words input front front' before work mid : List ℕ) (
           })
 
 -- where what was written ends
-pub written_place : (before full text : List ℕ) (r : Sink) → Adds before full text nothing r → r.full ≡ false → r.at ≤ length full
-written_place before full text r a o = ((a.holds [] (holds-none before)).fits o).room
+pub written_place : (before full text : List ℕ) (r : Sink) → Adds before full text nothing r → (at : ℕ) → r.at ≡ Some at → at ≤ length full
+written_place before full text r a at o = let f : Fits text full at = rw o at (a.holds [] (holds-none before)).is in f.room

@@ -31,17 +31,17 @@ unfolding name_before15 report the_table
 report_verdict setting words name room work = next (name_before15 setting words name work) (λ ls. fitting room (report (the_table words) name))
 
 -- what the call answers, and every byte of the buffer and word of the work area afterwards
-pub record Result : Type 0 where
+pub record Answer : Type 0 where
   pub values : Values
   pub bytes : List ℕ
   pub work : List ℕ
 
 -- the report and then zeros, after a refusal zeros alone; the work area is zeros. The buffer has `room` bytes and the work area `work` words.
-abbrev pub result_of : ℕ → ℕ → Verdict (List ℕ) → Result
+abbrev pub result_of : ℕ → ℕ → Verdict (List ℕ) → Answer
 result_of room work (accepted s) = record { values = given (length s); bytes = filled room s; work = replicate work 0 }
 result_of room work (refused n p) = record { values = beside n p; bytes = replicate room 0; work = replicate work 0 }
 
 -- the call with a setting, on the words of a table and a name, with a buffer of `room` bytes and a work area of `work` words
-unfoldable pub report_call : ℕ → List ℕ → List ℕ → ℕ → ℕ → Result
+unfoldable pub report_call : ℕ → List ℕ → List ℕ → ℕ → ℕ → Answer
 unfolding report_verdict
 report_call setting words name room work = result_of room work (report_verdict setting words name room work)

@@ -7,10 +7,9 @@ use answers::Refusal;
 use name_call::judge_name;
 use report_walk::write_report;
 
-// The length of the report; a refusal of the name call; or too little room.
+// Why there is no report: a refusal of the name call, or too little room.
 #[derive(Clone, Copy)]
-pub enum ReportAnswer {
-    Written(usize),
+pub enum ReportError {
     Refused(Refusal),
     TooLittleRoom,
 }
@@ -23,7 +22,7 @@ pub fn report(
     setting: u32,
     out: &mut [u8],
     work: &mut [u32],
-) -> ReportAnswer
+) -> Result<usize, ReportError>
     ensures { ReportCalls setting words.now input.now out.old out.new work.old work.new result }
 {
     let mut none = [0u32; 0];
@@ -31,24 +30,27 @@ pub fn report(
     match judged {
         Ok(accepted) => {
             if accepted.labels == 0 {
-                buffers::clear_bytes(out);
+                out.fill(0);
                 buffers::clear(work);
-                return ReportAnswer::Written(0);
+                return Ok(0);
             }
             let sink = write_report(words, input, out, work);
             buffers::clear(work);
-            if sink.full {
-                buffers::clear_bytes(out);
-                return ReportAnswer::TooLittleRoom;
+            match sink.at {
+                Some(n) => {
+                    out[n..].fill(0);
+                    Ok(n)
+                }
+                None => {
+                    out.fill(0);
+                    Err(ReportError::TooLittleRoom)
+                }
             }
-            let n = sink.at;
-            buffers::clear_bytes(&mut out[n..]);
-            ReportAnswer::Written(n)
         }
         Err(refusal) => {
-            buffers::clear_bytes(out);
+            out.fill(0);
             buffers::clear(work);
-            ReportAnswer::Refused(refusal)
+            Err(ReportError::Refused(refusal))
         }
     }
 }

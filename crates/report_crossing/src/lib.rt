@@ -6,8 +6,7 @@ ghost use Rattle.std.specs.Prelude.{◌≡◌};
 ghost use Rattle.report.specs.Promise.{report_values};
 ghost use Rattle.report_crossing.specs.ReportCrossing.{report_fields, ReportCrosses};
 
-use answers::{number_of, place_of};
-use report::ReportAnswer;
+use report::ReportError;
 
 // The refusal number, 0 where there is none, its place, and the length of the report.
 #[repr(C)]
@@ -18,26 +17,27 @@ pub struct WanlophengReport {
     pub length: usize,
 }
 
-// An answer as plain numbers.
-fn report_fields(answer: ReportAnswer) -> WanlophengReport
-    ensures { report_fields result ≡ report_values answer }
-{
-    match answer {
-        ReportAnswer::Written(length) => WanlophengReport {
-            number: 0,
-            place: 0,
-            length,
-        },
-        ReportAnswer::Refused(f) => WanlophengReport {
-            number: number_of(f),
-            place: place_of(f),
-            length: 0,
-        },
-        ReportAnswer::TooLittleRoom => WanlophengReport {
-            number: 32,
-            place: 0,
-            length: 0,
-        },
+impl From<Result<usize, ReportError>> for WanlophengReport {
+    ghost from_gives = { λ answer r. report_fields r ≡ report_values answer };
+
+    fn from(answer: Result<usize, ReportError>) -> WanlophengReport {
+        match answer {
+            Ok(length) => WanlophengReport {
+                number: 0,
+                place: 0,
+                length,
+            },
+            Err(ReportError::Refused(f)) => WanlophengReport {
+                number: f.number(),
+                place: f.place(),
+                length: 0,
+            },
+            Err(ReportError::TooLittleRoom) => WanlophengReport {
+                number: 32,
+                place: 0,
+                length: 0,
+            },
+        }
     }
 }
 
@@ -52,5 +52,5 @@ pub fn cross_report(
     ensures { ReportCrosses setting words.now input.now out.old out.new work.old work.new result }
 {
     let told = report::report(input, words, setting, out, work);
-    report_fields(told)
+    WanlophengReport::from(told)
 }

@@ -4,7 +4,7 @@
 
 ghost use Rattle.screen_crossing.specs.ScreenCrossing.{ScreenCrosses};
 
-use fields::{WanlophengName, name_fields};
+use fields::WanlophengName;
 
 // Writes the screen form of a name. `greek` is the number of the Greek group; one beyond the last group means none.
 pub fn cross_screen(
@@ -18,5 +18,5 @@ pub fn cross_screen(
     ensures { ScreenCrosses greek setting words.now input.now answer.old answer.new work.old work.new result }
 {
     let told = screen::screen(input, words, greek, setting, answer, work);
-    name_fields(told)
+    WanlophengName::from(told)
 }

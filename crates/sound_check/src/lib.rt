@@ -9,7 +9,7 @@ ghost use Rattle.soundness.specs.Scalars.{rule1};
 ghost use Rattle.soundness.specs.Soundness.{lowest_broken, soundness_of};
 ghost use Rattle.sound_check.specs.Order.{lowest_first, lowest_last, lowest_of};
 
-use answers::Soundness;
+use answers::Rule;
 use layout::layout;
 use quick_found::finds;
 use rule_1::rule1;
@@ -23,49 +23,49 @@ use rule_8::rule8;
 use sections::Sections;
 
 // The lowest of rules 1 to 5 that a table breaks.
-fn first_rules(words: &[u32], ix: Sections) -> Soundness
+fn first_rules(words: &[u32], ix: Sections) -> Result<(), Rule>
     requires { Laid words.now ix }
     ensures { broken_rule result ≡ lowest_first (the_table words.now) }
 {
     if !rule1::keeps_rule1(words, ix) {
-        return Soundness::Broken(1);
+        return Err(Rule::Scalars);
     }
     if !rule2::keeps_rule2(words, ix) {
-        return Soundness::Broken(2);
+        return Err(Rule::ValidSet);
     }
     if !rule3::keeps_rule3(words, ix) {
-        return Soundness::Broken(3);
+        return Err(Rule::ValidItems);
     }
     if !rule4::keeps_rule4(words, ix) {
-        return Soundness::Broken(4);
+        return Err(Rule::Sequences);
     }
     if !rule5::keeps_rule5(words, ix) {
-        return Soundness::Broken(5);
+        return Err(Rule::SequencesApart);
     }
-    Soundness::Sound
+    Ok(())
 }
 
 // The lowest of the others. Rule 1 holds.
-fn last_rules(words: &[u32], ix: Sections) -> Soundness
+fn last_rules(words: &[u32], ix: Sections) -> Result<(), Rule>
     requires laid { Laid words.now ix }
     requires words_value { rule1 (the_table words.now) ≡ true }
     ensures { broken_rule result ≡ lowest_last (the_table words.now) }
 {
     if !rule6::keeps_rule6(words, ix) {
-        return Soundness::Broken(6);
+        return Err(Rule::Stable);
     }
     if !rule7::keeps_rule7(words, ix) {
-        return Soundness::Broken(7);
+        return Err(Rule::DistinctPairs);
     }
     if !rule8::keeps_rule8(words, ix) {
-        return Soundness::Broken(8);
+        return Err(Rule::QuickCheck);
     }
-    Soundness::Sound
+    Ok(())
 }
 
-// The lowest of rules 6 to 8, or of rules 1 to 5, that a table breaks: one function, so that the arrays of rules 2 and 6 share their place on
-// the stack.
-fn some_rules(words: &[u32], ix: Sections, later: bool) -> Soundness
+// The lowest of rules 6 to 8, or of rules 1 to 5, that a table breaks. A flag and no closure: in one function that both calls share, the arrays of
+// rules 2 and 6 share their place on the stack, which has a limit.
+fn some_rules(words: &[u32], ix: Sections, later: bool) -> Result<(), Rule>
     requires laid { Laid words.now ix }
     requires words_value { later ≡ true → rule1 (the_table words.now) ≡ true }
     ensures { broken_rule result ≡ lowest_of later (the_table words.now) }
@@ -78,27 +78,23 @@ fn some_rules(words: &[u32], ix: Sections, later: bool) -> Soundness
 
 // The lowest rule that a table breaks. Rules 6 to 8 are first looked for by a few walks over the sections, which may miss them: only then each
 // is asked by itself.
-fn rules(words: &[u32], ix: Sections) -> Soundness
+fn rules(words: &[u32], ix: Sections) -> Result<(), Rule>
     requires { Laid words.now ix }
     ensures { broken_rule result ≡ lowest_broken (the_table words.now) }
 {
-    match some_rules(words, ix, false) {
-        Soundness::Sound => {
-            if finds(words, ix) {
-                return Soundness::Sound;
-            }
-            some_rules(words, ix, true)
-        }
-        Soundness::Broken(n) => Soundness::Broken(n),
+    some_rules(words, ix, false)?;
+    if finds(words, ix) {
+        return Ok(());
     }
+    some_rules(words, ix, true)
 }
 
-// The soundness check: the lowest rule that the table breaks, 0 for a layout fault. It writes nothing.
-pub fn soundness(words: &[u32]) -> Soundness
+// The soundness check: the lowest rule that the table breaks, the layout first. It writes nothing.
+pub fn soundness(words: &[u32]) -> Result<(), Rule>
     ensures { broken_rule result ≡ soundness_of words.now }
 {
     match layout(words) {
-        None => Soundness::Broken(0),
+        None => Err(Rule::Layout),
         Some(ix) => rules(words, ix),
     }
 }

@@ -12,8 +12,9 @@ use borrow.Author.Tests.{le-leb, lt-leb, leb-true, leb-false}
 use Rattle.lists.specs.Filled.{filled, take-filled, drop-filled}
 use Rattle.answers.specs.Verdict.{accepted, refused}
 use Rattle.answers.specs.Values.{UnpackValues, unpack_values}
-use Rattle.answers.specs.declared.Unpacked.{Unpacked}
-use Rattle.answers.specs.declared.Unpacked.TheVariants.{Words, WrongVersion, WrongLength, TooLittleRoom}
+use Rattle.answers.specs.declared.UnpackError.{UnpackError}
+use Rattle.answers.specs.declared.UnpackError.TheVariants.{WrongVersion, WrongLength, TooLittleRoom}
+use Rattle.std.specs.Prelude.{Result, Ok, Err}
 use Rattle.file_words.specs.FileWords.{file_words}
 use Rattle.file_words.proofs.File.{Said, holding, refusing, file_said}
 use Rattle.unpack.specs.Unpack.{unpack_call}
@@ -26,25 +27,25 @@ unfolding table_words
 too_long file h = rw (lt-leb (length file) most_file h)
 
 module _ (file before after : List ℕ) where
-  pub table_too_long : most_file < length file → after ≡ replicate (length before) 0 → ReadsTable file before after WrongLength
+  pub table_too_long : most_file < length file → after ≡ replicate (length before) 0 → ReadsTable file before after (Err WrongLength)
   table_too_long h z = record { is = record { words = too_long file h; zeros = z } }
 
   module _ (short : length file ≤ most_file) (room : most_table ≤ length before) where
     -- the file holds words, and there is room for them
     module _ (ws : List ℕ) (e : file_words file ≡ accepted ws) (long : 4 * length ws ≤ length file + 3) where
-      table_held : (r : Unpacked) → unpack_values r ≡ record { number = 0; count = length ws } → after ≡ filled (length before) ws
+      table_held : (r : Result ℕ UnpackError) → unpack_values r ≡ record { number = 0; count = length ws } → after ≡ filled (length before) ws
           → TableIs file before after r
       unfolding table_words
-      table_held (Words n) v a =
+      table_held (Ok n) v a =
           let count : n ≡ length ws = ap (λ (x : UnpackValues). x.count) v in
           record {
             words = rw (le-leb (length file) most_file short, e, count, a, take-filled (length before) ws);
             room = omega (arith, count);
             zeros = rw (count, a) (drop-filled (length before) ws);
           }
-      table_held WrongVersion v a = absurd (let z : ◌≡◌ {A = ℕ} 20 0 = ap (λ (x : UnpackValues). x.number) v in omega arith)
-      table_held WrongLength v a = absurd (let z : ◌≡◌ {A = ℕ} 21 0 = ap (λ (x : UnpackValues). x.number) v in omega arith)
-      table_held TooLittleRoom v a = absurd (let z : ◌≡◌ {A = ℕ} 22 0 = ap (λ (x : UnpackValues). x.number) v in omega arith)
+      table_held (Err WrongVersion) v a = absurd (let z : ◌≡◌ {A = ℕ} 20 0 = ap (λ (x : UnpackValues). x.number) v in omega arith)
+      table_held (Err WrongLength) v a = absurd (let z : ◌≡◌ {A = ℕ} 21 0 = ap (λ (x : UnpackValues). x.number) v in omega arith)
+      table_held (Err TooLittleRoom) v a = absurd (let z : ◌≡◌ {A = ℕ} 22 0 = ap (λ (x : UnpackValues). x.number) v in omega arith)
 
     -- the file is refused
     module _ (k p : ℕ) (e : file_words file ≡ refused (suc k) p) where
@@ -52,14 +53,12 @@ module _ (file before after : List ℕ) where
       unfolding table_words
       none_held a = record { words = rw (le-leb (length file) most_file short, e); zeros = a }
 
-      table_refused : (r : Unpacked) → unpack_values r ≡ record { number = suc k; count = 0 } → after ≡ replicate (length before) 0
+      table_refused : (r : Result ℕ UnpackError) → unpack_values r ≡ record { number = suc k; count = 0 } → after ≡ replicate (length before) 0
           → TableIs file before after r
-      table_refused (Words n) v a = absurd (let z : 0 ≡ suc k = ap (λ (x : UnpackValues). x.number) v in omega arith)
-      table_refused WrongVersion v a = none_held a
-      table_refused WrongLength v a = none_held a
-      table_refused TooLittleRoom v a = none_held a
+      table_refused (Ok n) v a = absurd (let z : 0 ≡ suc k = ap (λ (x : UnpackValues). x.number) v in omega arith)
+      table_refused (Err f) v a = none_held a
 
-    pub table-read : (r : Unpacked) → Unpacks file before after r → ReadsTable file before after r
+    pub table-read : (r : Result ℕ UnpackError) → Unpacks file before after r → ReadsTable file before after r
     unfolding unpack_call
     table-read r u = go (file_said file)
       where

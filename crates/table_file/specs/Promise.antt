@@ -1,8 +1,7 @@
 -- What the function of this crate promises.
-use Rattle.std.specs.Prelude.{ℕ, ◌-◌, ◌≤◌, ◌≡◌, List, length, take, drop, replicate}
+use Rattle.std.specs.Prelude.{ℕ, ◌-◌, ◌≤◌, ◌≡◌, List, length, take, drop, replicate, Result, Ok, Err}
 use Rattle.std.proofs.Math.Option.{none, some}
-use Rattle.answers.specs.declared.Unpacked.{Unpacked}
-use Rattle.answers.specs.declared.Unpacked.TheVariants.{Words, WrongVersion, WrongLength, TooLittleRoom}
+use Rattle.answers.specs.declared.UnpackError.{UnpackError}
 use Rattle.table_file.specs.File.{table_words}
 
 -- the table's words stand in front, and zeros behind them
@@ -16,12 +15,10 @@ pub record NoTable (file before after : List ℕ) : Type 0 where
   pub words : table_words file ≡ none
   pub zeros : after ≡ replicate (length before) 0
 
-abbrev pub TableIs : List ℕ → List ℕ → List ℕ → Unpacked → Type 0
-TableIs file before after (Words n) = TableRead file before after n
-TableIs file before after WrongVersion = NoTable file before after
-TableIs file before after WrongLength = NoTable file before after
-TableIs file before after TooLittleRoom = NoTable file before after
+abbrev pub TableIs : List ℕ → List ℕ → List ℕ → Result ℕ UnpackError → Type 0
+TableIs file before after (Ok n) = TableRead file before after n
+TableIs file before after (Err e) = NoTable file before after
 
 -- the table file, by the case of the answer
-pub record ReadsTable (file before after : List ℕ) (r : Unpacked) : Type 0 where
+pub record ReadsTable (file before after : List ℕ) (r : Result ℕ UnpackError) : Type 0 where
   pub is : TableIs file before after r

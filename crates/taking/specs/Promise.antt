@@ -1,13 +1,11 @@
 -- What the functions of this crate promise.
-use Rattle.std.specs.Prelude.{ℕ, ◌+◌, ◌≤◌, ◌≡◌, Bool, true, List, ◌++◌, length, take}
+use Rattle.std.specs.Prelude.{ℕ, ◌+◌, ◌≤◌, ◌≡◌, Bool, true, List, ◌++◌, length, take, Option, Some, None}
 use Rattle.lists.specs.Lists.{is_some}
 use Rattle.lists.specs.Laws.{Every}
 use Rattle.line_reading.specs.Reading.{read_line}
 use Rattle.lines.specs.Splitting.{lines_of}
 use Rattle.lines.specs.Promise.{Holding}
 use Rattle.taking.specs.declared.State.{State}
-use Rattle.taking.specs.declared.Step.{Step}
-use Rattle.taking.specs.declared.Step.TheVariants.{On, Stopped}
 
 -- where it answers to go on, the line was readable; whether it could be written is open
 abbrev pub Serves : List ℕ → Bool → Type 0
@@ -33,12 +31,12 @@ pub record Moved (piece before after : List ℕ) (from to : State) : Type 0 wher
   pub holding : Holding after to.held
 
 -- Where the program stops, at an unreadable line or since nothing more can be written, what is held is open.
-abbrev pub StepIs : List ℕ → List ℕ → List ℕ → State → Step → Type 0
-StepIs piece before after from (On to) = Moved piece before after from to
-StepIs piece before after from Stopped = Unit {0}
+abbrev pub StepIs : List ℕ → List ℕ → List ℕ → State → Option State → Type 0
+StepIs piece before after from (Some to) = Moved piece before after from to
+StepIs piece before after from None = Unit {0}
 
 -- a piece is taken, by the case of the answer
-pub record Takes (piece before after : List ℕ) (from : State) (r : Step) : Type 0 where
+pub record Takes (piece before after : List ℕ) (from : State) (r : Option State) : Type 0 where
   pub is : StepIs piece before after from r
 
 -- the most bytes of a piece

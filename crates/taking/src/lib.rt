@@ -16,13 +16,6 @@ pub struct State {
     pub names: u64,
 }
 
-// Whether to read on.
-#[derive(Clone, Copy)]
-pub enum Step {
-    On(State),
-    Stopped,
-}
-
 // Where a line is too long or there is no table, `bad` is the last that is written.
 pub fn bad<W: Write>(out: &mut W) {
     let mut text = [0u8; 4];
@@ -43,14 +36,14 @@ fn serve<W: Write>(out: &mut W, table: &[u32], line: &[u8]) -> bool
     reply.readable
 }
 
-// Serves the lines that end in a piece of input, and holds what stands behind the last of them.
+// Serves the lines that end in a piece of input, and holds what stands behind the last of them. `None` where no more is to be read.
 pub fn take_piece<W: Write>(
     out: &mut W,
     table: &[u32],
     piece: &[u8],
     line: &mut [u8],
     state: State,
-) -> Step
+) -> Option<State>
     requires ready { Ready line.old state (2 ^ 63) }
     requires piece_len_bound { length piece.now ≤ most_piece }
     ensures { Takes piece.now line.old line.new state result }
@@ -64,7 +57,7 @@ pub fn take_piece<W: Write>(
         match taken {
             Taken::Line { length, used } => {
                 if !serve(out, table, &line[..length]) {
-                    return Step::Stopped;
+                    return None;
                 }
                 names += 1;
                 held = 0;
@@ -76,9 +69,9 @@ pub fn take_piece<W: Write>(
             }
             Taken::TooLong => {
                 bad(out);
-                return Step::Stopped;
+                return None;
             }
         }
     }
-    Step::On(State { held, names })
+    Some(State { held, names })
 }

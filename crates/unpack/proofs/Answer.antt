@@ -1,19 +1,16 @@
 -- The ends of the unpack call, each from what `inspect` said of the file.
-use Prim.Native.Nat.{ℕ, ◌+◌, ◌-◌, ◌*◌, ◌≤◌, ◌<◌}
+use Prim.Native.Nat.{ℕ, ◌+◌, ◌-◌, ◌*◌, ◌/◌, ◌≤◌, ◌<◌}
 use native.Mathlib.Omega.{arith}
 use mathlib.Core.Path.{◌≡◌, subst}
-use mathlib.Core.Logic.{⊎_elim}
 use mathlib.Core.List.{List, [], ◌∷◌, ◌++◌, append_assoc}
 use lib.ListN.{length, take, drop, replicate, length-append, length-replicate, length-drop, replicate-append-replicate}
 use lib.Seq.{take_at}
-use types.Run.{OneOf}
-use denote.Enum.Declared.{tag_of}
 use borrow.Rule.Slice.PartMut.{mid_of, put_mid}
-use Rattle.answers.specs.contracts.Unpacked.{the_type}
 use Rattle.buffers.proofs.Parts.{mid_tail, put_filled}
 use borrow.Author.Tests.{le-leb, lt-leb}
-use Rattle.answers.specs.declared.Unpacked.{Unpacked}
-use Rattle.answers.specs.declared.Unpacked.TheVariants.{Words, WrongVersion, WrongLength, TooLittleRoom}
+use Rattle.answers.specs.declared.UnpackError.{UnpackError}
+use Rattle.answers.specs.declared.UnpackError.TheVariants.{WrongVersion, WrongLength, TooLittleRoom}
+use Rattle.std.specs.Prelude.{Result, Ok, Err}
 use Rattle.file_words.specs.FileWords.{words_of}
 use Rattle.file_words.specs.Promise.{own_words, Holds, Inspected}
 use Rattle.file_words.proofs.WordLaws.{length-words}
@@ -32,27 +29,29 @@ pub holds_count : (file : List ℕ) (n : ℕ) (h : Holds file n) → length (wor
 holds_count file n h = rw (length-append, length-replicate, holds_own file n h, h.sum)
 
 -- `inspect` found n words
-pub found-words : (file : List ℕ) (r : Unpacked) (n : ℕ) → r ≡ Words n → Inspected file r → Holds file n
-found-words file r n e h = subst (λ (x : Unpacked). Inspected file x) e h
+pub found-words : (file : List ℕ) (r : Result ℕ UnpackError) (n : ℕ) → r ≡ Ok n → Inspected file r → Holds file n
+found-words file r n e h = subst (λ (x : Result ℕ UnpackError). Inspected file x) e h
 
 module _ {file before after : List ℕ} where
-  -- the file is refused: the answer has another tag than `Words`
-  pub file_refused : (r : Unpacked) → OneOf (1 ∷ 2 ∷ 3 ∷ []) (tag_of the_type r) → Inspected file r → after ≡ replicate (length before) 0 → Unpacks file before after r
+  refused_as : (f : UnpackError) → Inspected file (Err f) → after ≡ replicate (length before) 0 → Unpacks file before after (Err f)
   unfolding unpack_call
-  file_refused (Words n) t h e = absurd (⊎_elim (λ u. omega arith) (⊎_elim (λ u. omega arith) (λ u. omega arith)) t)
-  file_refused WrongVersion t h e = record { values = rw h; answer = rw (h, e) }
-  file_refused WrongLength t h e = record { values = rw h; answer = rw (h, e) }
-  file_refused TooLittleRoom t h e = absurd h
+  refused_as WrongVersion h e = record { values = rw h; answer = rw (h, e) }
+  refused_as WrongLength h e = record { values = rw h; answer = rw (h, e) }
+  refused_as TooLittleRoom h e = absurd h
+
+  -- the file is refused
+  pub file_refused : (r : Result ℕ UnpackError) (f : UnpackError) → r ≡ Err f → Inspected file r → after ≡ replicate (length before) 0 → Unpacks file before after (Err f)
+  file_refused r f q h e = refused_as f (subst (λ (x : Result ℕ UnpackError). Inspected file x) q h) e
 
   -- there is no room for its words
-  pub room_refused : (n : ℕ) → Holds file n → length before < n → after ≡ replicate (length before) 0 → Unpacks file before after TooLittleRoom
+  pub room_refused : (n : ℕ) → Holds file n → length before < n → after ≡ replicate (length before) 0 → Unpacks file before after (Err TooLittleRoom)
   unfolding unpack_call
   room_refused n h l e =
       let small = lt-leb n (length before) l in
       record { values = rw (h.words, holds_count file n h, small); answer = rw (h.words, holds_count file n h, small, e) }
 
   -- its words, and zeros behind them
-  words-given : (n : ℕ) → Holds file n → n ≤ length before → after ≡ words_of (drop 5 file) ++ replicate (length before - own_words file) 0 → Unpacks file before after (Words n)
+  words-given : (n : ℕ) → Holds file n → n ≤ length before → after ≡ words_of (drop 5 file) ++ replicate (length before - own_words file) 0 → Unpacks file before after (Ok n)
   unfolding unpack_call
   words-given n h l e =
       let fits = le-leb n (length before) l in
@@ -63,11 +62,14 @@ module _ {file before after : List ℕ} where
 
 -- `front` is the buffer once the words of the file are copied, and `tail` what came back of the part behind them
 pub words_put : (file before front tail : List ℕ) (n : ℕ) → Holds file n → n ≤ length before
-    → front ≡ words_of (mid_of 5 (length file - 5) file) ++ drop (own_words file) before
+    → front ≡ words_of (mid_of 5 (length file - 5) file) ++ drop (length (mid_of 5 (length file - 5) file) / 4) before
     → tail ≡ replicate (length (mid_of (own_words file) (length front - own_words file) front)) 0
-    → Unpacks file before (put_mid (own_words file) (length front - own_words file) front tail) (Words n)
-words_put file before front tail n h l e z =
+    → Unpacks file before (put_mid (own_words file) (length front - own_words file) front tail) (Ok n)
+words_put file before front tail n h l e₀ z =
     let m = own_words file in
+    let rest : length (mid_of 5 (length file - 5) file) ≡ 4 * m = holds_rest file n h in
+    let words_in_rest : length (mid_of 5 (length file - 5) file) / 4 ≡ m = omega (arith, rest) in
+    let e : front ≡ words_of (mid_of 5 (length file - 5) file) ++ drop m before = rw words_in_rest at e₀ in
     let words : front ≡ words_of (drop 5 file) ++ drop (own_words file) before = rw (mid_tail 5 file) at e in
     let own : length (words_of (drop 5 file)) ≡ m = holds_own file n h in
     let same : length front ≡ length before = rw (words, length-append, own, length-drop) (omega (arith, l, h.sum)) in

@@ -1,24 +1,18 @@
 -- The ends of the two calls, from what stands at the front before 31 is judged.
 use Prim.Native.Nat.{ℕ, ◌-◌, ◌<◌, ◌≤◌}
 use native.Mathlib.Omega.{arith}
-use mathlib.Core.Path.{◌≡◌, refl, ap, subst, ◌∙◌}
-use mathlib.Core.Logic.{⊎_elim}
+use mathlib.Core.Path.{◌≡◌, refl, ap, ◌∙◌}
 use mathlib.Core.List.{List, [], ◌∷◌, ◌++◌}
 use lib.ListN.{length, take, replicate}
-use types.Run.{OneOf}
-use denote.Enum.Declared.{tag_of}
-use borrow.Author.Tests.{lt-ltb, le-ltb}
+use borrow.Author.Tests.{lt-ltb, le-ltb, ltb-true, ltb-false}
 use borrow.Rule.Slice.PartMut.{mid_of, put_mid}
 use Rattle.buffers.proofs.Parts.{put_filled}
 use Rattle.answers.specs.Verdict.{Verdict, refused, next}
-use Rattle.utf8.specs.declared.ReadAnswer.{ReadAnswer}
-use Rattle.utf8.specs.declared.ReadAnswer.TheVariants as reading
-use Rattle.utf8.specs.declared.WriteAnswer.{WriteAnswer}
-use Rattle.utf8.specs.declared.WriteAnswer.TheVariants as writing
-use Rattle.utf8.specs.contracts.ReadAnswer as readAnswer
-use Rattle.utf8.specs.contracts.WriteAnswer as writeAnswer
-use Rattle.utf8.specs.Calls.{given, beside, fitting, result_of, read_call, write_call}
-use Rattle.utf8.specs.Promise.{Ends, Stands, ReadCalls, WriteCalls, ReadIs, ReadStands, WriteIs, WriteStands}
+use Rattle.std.specs.Prelude.{Bool, true, false, ltb, Result, Ok, Err}
+use Rattle.utf8.specs.declared.Utf8Error.{Utf8Error}
+use Rattle.utf8.specs.declared.Utf8Error.TheVariants.{IllFormed, NotScalar, TooLittleRoom}
+use Rattle.utf8.specs.Calls.{given, beside, fitting, result_of, utf8_values}
+use Rattle.utf8.specs.Promise.{Ends, Stands, HasFront, Finishes}
 
 module _ (before mid after : List ℕ) (same : length mid ≡ length before) (v : Verdict (List ℕ)) where
   -- refused before 31: zeros alone
@@ -43,47 +37,33 @@ module _ (before mid after : List ℕ) (same : length mid ≡ length before) (v 
         rw (s.is, le-ltb (length before) (length s.text) fits)
         (record { values = ap given c; answer = z ∙ rw (s.holds.front h, same, c) })
 
-module _ (bytes before mid after : List ℕ) where
-  pub read_refused : (r : ReadAnswer) → OneOf (1 ∷ 2 ∷ []) (tag_of readAnswer.the_type r) → ReadStands bytes before mid r
-      → after ≡ replicate (length mid) 0 → ReadCalls bytes before after r
-  unfolding read_call
-  read_refused (reading.Read n) t s z = absurd (⊎_elim (λ u. omega arith) (λ u. omega arith) t)
-  read_refused (reading.IllFormed at) t s z = ends_refused before mid after s.same _ 30 at s.is z
-  read_refused reading.TooLittleRoom t s z = absurd s.is
+-- what `finish` answers, where so many elements stand at the front or there is a refusal
+module _ (before mid after : List ℕ) (v : Verdict (List ℕ)) where
+  pub finished : (front r : Result ℕ Utf8Error) → HasFront v before mid front → Finishes front mid after 0 r
+      → Ends (result_of (length before) (next v (fitting (length before)))) (utf8_values r) after
+  finished (Err (IllFormed at)) r s f = rw (f.answer) (ends_refused before mid after s.same v 30 at s.is (rw f.answer at f.cleared))
+  finished (Err (NotScalar at)) r s f = rw (f.answer) (ends_refused before mid after s.same v 4 at s.is (rw f.answer at f.cleared))
+  finished (Err TooLittleRoom) r s f = absurd s.is
+  finished (Ok n) r s f = by_room (ltb (length mid) n) refl
+    where
+      by_room : (b : Bool) → ltb (length mid) n ≡ b → Ends (result_of (length before) (next v (fitting (length before)))) (utf8_values r) after
+      by_room true e =
+          let told : r ≡ Err TooLittleRoom = rw e at f.answer in
+          rw told (ends_over before mid after s.same v n s.is (ltb-true (length mid) n e) (rw told at f.cleared))
+      by_room false e =
+          let told : r ≡ Ok n = rw e at f.answer in
+          rw told (ends_kept before mid after s.same v n s.is (ltb-false (length mid) n e) (rw told at f.cleared))
 
-  -- `read_front` answered n codepoints
-  stands_read : (r : ReadAnswer) (n : ℕ) → r ≡ reading.Read n → ReadStands bytes before mid r → ReadIs bytes mid (reading.Read n)
-  stands_read r n e s = subst (λ (x : ReadAnswer). ReadIs bytes mid x) e s.is
+-- the arms of `finish`
+module _ {A : Type 0} {front : Result ℕ Utf8Error} {mid : List A} {zero : A} where
+  pub finish_over : {n : ℕ} {after : List A} → front ≡ Ok n → length mid < n → after ≡ replicate (length mid) zero
+      → Finishes front mid after zero (Err TooLittleRoom)
+  finish_over {n} e h z = rw e (record { answer = rw (lt-ltb (length mid) n h); cleared = z })
 
-  module _ (r : ReadAnswer) (n : ℕ) (e : r ≡ reading.Read n) (s : ReadStands bytes before mid r) where
-    pub read_over : length mid < n → after ≡ replicate (length mid) 0 → ReadCalls bytes before after reading.TooLittleRoom
-    unfolding read_call
-    read_over h z = ends_over before mid after s.same _ n (stands_read r n e s) h z
+  pub finish_kept : {n : ℕ} {after tail : List A} → front ≡ Ok n → n ≤ length mid → tail ≡ replicate (length (mid_of n (length mid - n) mid)) zero
+      → after ≡ put_mid n (length mid - n) mid tail → Finishes front mid after zero (Ok n)
+  finish_kept {n} e h z f =
+      rw e (record { answer = rw (le-ltb (length mid) n h); cleared = f ∙ ap (put_mid n (length mid - n) mid) z ∙ put_filled n mid zero })
 
-    pub read_kept : n ≤ length mid → (tail : List ℕ) → tail ≡ replicate (length (mid_of n (length mid - n) mid)) 0
-        → after ≡ put_mid n (length mid - n) mid tail → ReadCalls bytes before after (reading.Read n)
-    unfolding read_call
-    read_kept h tail z f =
-        ends_kept before mid after s.same _ n (stands_read r n e s) h (f ∙ ap (put_mid n (length mid - n) mid) z ∙ put_filled n mid 0)
-
-module _ (codepoints before mid after : List ℕ) where
-  pub write_refused : (r : WriteAnswer) → OneOf (1 ∷ 2 ∷ []) (tag_of writeAnswer.the_type r) → WriteStands codepoints before mid r
-      → after ≡ replicate (length mid) 0 → WriteCalls codepoints before after r
-  unfolding write_call
-  write_refused (writing.Written n) t s z = absurd (⊎_elim (λ u. omega arith) (λ u. omega arith) t)
-  write_refused (writing.NotScalar at) t s z = ends_refused before mid after s.same _ 4 at s.is z
-  write_refused writing.TooLittleRoom t s z = absurd s.is
-
-  stands_write : (r : WriteAnswer) (n : ℕ) → r ≡ writing.Written n → WriteStands codepoints before mid r → WriteIs codepoints mid (writing.Written n)
-  stands_write r n e s = subst (λ (x : WriteAnswer). WriteIs codepoints mid x) e s.is
-
-  module _ (r : WriteAnswer) (n : ℕ) (e : r ≡ writing.Written n) (s : WriteStands codepoints before mid r) where
-    pub write_over : length mid < n → after ≡ replicate (length mid) 0 → WriteCalls codepoints before after writing.TooLittleRoom
-    unfolding write_call
-    write_over h z = ends_over before mid after s.same _ n (stands_write r n e s) h z
-
-    pub write_kept : n ≤ length mid → (tail : List ℕ) → tail ≡ replicate (length (mid_of n (length mid - n) mid)) 0
-        → after ≡ put_mid n (length mid - n) mid tail → WriteCalls codepoints before after (writing.Written n)
-    unfolding write_call
-    write_kept h tail z f =
-        ends_kept before mid after s.same _ n (stands_write r n e s) h (f ∙ ap (put_mid n (length mid - n) mid) z ∙ put_filled n mid 0)
+  pub finish_refused : {error : Utf8Error} {after : List A} → front ≡ Err error → after ≡ replicate (length mid) zero → Finishes front mid after zero (Err error)
+  finish_refused e z = rw e (record { answer = refl; cleared = z })

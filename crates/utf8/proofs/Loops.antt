@@ -13,15 +13,14 @@ use Rattle.lists.specs.Lists.{joined_map, place_with}
 use Rattle.lists.specs.Laws.{joined_append}
 use Rattle.answers.specs.Verdict.{Verdict, accepted, refused, next}
 use Rattle.scalar.specs.Scalar.{is_scalar}
-use Rattle.std.specs.Prelude.{Some, None}
-use Rattle.utf8.specs.declared.ReadAnswer.TheVariants as reading
-use Rattle.utf8.specs.declared.WriteAnswer.TheVariants as writing
+use Rattle.std.specs.Prelude.{Option, Some, None, Ok, Err}
 use Rattle.utf8_decode.specs.declared.Decoded.{Decoded}
 use Rattle.utf8_scheme.specs.Scheme.{octets, starts_with, read_from, read, write}
 use Rattle.utf8_scheme.specs.Inverse.{first-none}
 use Rattle.utf8_scheme.specs.Reading.{octets_few, sequence_long, sequence-read, ill_formed_read, end_read}
 use Rattle.utf8_decode.specs.Decoding.{DecodedIs}
 use Rattle.utf8_encode.specs.Storing.{Holds, Stores, Appends}
+use Rattle.utf8.specs.declared.Utf8Error.TheVariants.{IllFormed, NotScalar}
 use Rattle.utf8.specs.Promise.{ReadStands, WriteStands}
 
 -- `done` was read from the bytes before `at`, n codepoints
@@ -86,13 +85,13 @@ module _ {bytes before now : List ℕ} {at n : ℕ} (r : Reading bytes before no
         }
 
   -- no sequence starts here
-  pub reading-stop : at < length bytes → DecodedIs (take (length bytes - at) (drop at bytes)) None → ReadStands bytes before now (reading.IllFormed at)
+  pub reading-stop : at < length bytes → DecodedIs (take (length bytes - at) (drop at bytes)) None → ReadStands bytes before now (Err (IllFormed at))
   reading-stop h d =
       let e : read_from at 0 (drop at bytes) ≡ refused 30 at =
       ill_formed_read at (drop at bytes) (rw length-drop (omega arith)) (first-none (drop at bytes) (rw (mid_tail at bytes) at d)) in
       record { same = r.same; is = r.goes ∙ rw e }
 
-  pub reading_end : length bytes ≤ at → ReadStands bytes before now (reading.Read n)
+  pub reading_end : length bytes ≤ at → ReadStands bytes before now (Ok n)
   reading_end h =
       let e : read_from at 0 (drop at bytes) ≡ accepted [] = end_read at (drop at bytes) (rw length-drop (omega arith)) in
       record { same = r.same; is = record { text = r.done; is = r.goes ∙ rw (e, append-nil); holds = r.holds } }
@@ -134,13 +133,13 @@ module _ {codepoints before now : List ℕ} {n i : ℕ} (w : Writing codepoints 
           same = a.same ∙ w.same;
         }
 
-    pub writing_stop : is_scalar (get_or codepoints i 0) ≡ false → WriteStands codepoints before now (writing.NotScalar i)
+    pub writing_stop : is_scalar (get_or codepoints i 0) ≡ false → WriteStands codepoints before now (Err (NotScalar i))
     unfolding write
     writing_stop k =
         let e : place_with (λ c. not (is_scalar c)) i (drop i codepoints) ≡ some i = rw (here, k) in
         record { same = w.same; is = rw (w.scalars, e) }
 
-  pub writing_end : length codepoints ≤ i → WriteStands codepoints before now (writing.Written n)
+  pub writing_end : length codepoints ≤ i → WriteStands codepoints before now (Ok n)
   unfolding write
   writing_end h =
       let e : place_with (λ c. not (is_scalar c)) i (drop i codepoints) ≡ none = rw (drop_of_length-le codepoints {i = i} h) in

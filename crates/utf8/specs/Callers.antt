@@ -1,13 +1,12 @@
 -- What a caller learns from an answer of the reader or of the writer.
-use Rattle.std.specs.Prelude.{ℕ, ◌≤◌, ◌<◌, ◌≡◌, refl, Bool, true, false, not, cond, List, length, take, replicate, ltb}
+use Rattle.std.specs.Prelude.{ℕ, ◌≤◌, ◌<◌, ◌≡◌, refl, Bool, true, false, not, cond, List, length, take, replicate, ltb, Ok, Err}
 use Rattle.std.proofs.Common.{arith, sym, ap, ◌∙◌, ltb-true, ltb-false}
 use Rattle.std.proofs.Math.Option.{Option, none, some}
 use Rattle.lists.specs.Lists.{place_with, on_some, joined_map}
 use Rattle.lists.specs.Filled.{length-filled, take-filled}
 use Rattle.answers.specs.Verdict.{Verdict, accepted, refused, next}
 use Rattle.scalar.specs.Scalar.{is_scalar}
-use Rattle.utf8.specs.declared.ReadAnswer.TheVariants as reading
-use Rattle.utf8.specs.declared.WriteAnswer.TheVariants as writing
+use Rattle.utf8.specs.declared.Utf8Error.TheVariants.{IllFormed, NotScalar, TooLittleRoom}
 use Rattle.utf8_scheme.specs.Scheme.{octets, read, write}
 use Rattle.utf8.specs.Calls.{Values, given, beside, fitting, result_of, read_call, write_call}
 use Rattle.utf8.specs.Promise.{Ends, ReadCalls, WriteCalls}
@@ -80,6 +79,18 @@ module _ (k : ℕ) (Some-number : 1 ≤ k) (other : k ≡ 31 → ⊥) (v : Verdi
       go (accepted s) q h = fits s q (ltb room (length s)) refl h
       go (refused m p) q h = absurd (other (sym (only m p q) ∙ sym (ap (λ (x : Values). x.number) h.values)))
 
+  -- it is refused with no other number than k and 31
+  other_number : (m p : ℕ) → 1 ≤ m → (m ≡ k → ⊥) → (m ≡ 31 → ⊥) → Ends (result_of room (next v (fitting room))) (beside m p) after → ⊥
+  other_number m p above no_k no_31 = go v refl
+    where
+      fits : (s : List ℕ) → (b : Bool) → Ends (result_of room (cond b (refused 31 0) (accepted s))) (beside m p) after → ⊥
+      fits s true h = no_31 (ap (λ (x : Values). x.number) h.values)
+      fits s false h = let z : m ≡ 0 = ap (λ (x : Values). x.number) h.values in omega arith
+
+      go : (w : Verdict (List ℕ)) → v ≡ w → Ends (result_of room (next w (fitting room))) (beside m p) after → ⊥
+      go (accepted s) q h = fits s (ltb room (length s)) h
+      go (refused n l) q h = let e : m ≡ n = ap (λ (x : Values). x.number) h.values in no_k (e ∙ only n l q)
+
 -- the numbers that the two can refuse with before 31
 pub only_30 : (bytes : List ℕ) (m p : ℕ) → read bytes ≡ refused m p → m ≡ 30
 only_30 bytes m p e = (read_refused bytes m p e).number
@@ -94,28 +105,40 @@ only_4 codepoints m p e = go (place_with (λ c. not (is_scalar c)) 0 codepoints)
 
 module _ (bytes before after : List ℕ) where
   -- the reader gave n codepoints
-  pub was_read : (n : ℕ) → ReadCalls bytes before after (reading.Read n) → Given (read bytes) (length before) after n
+  pub was_read : (n : ℕ) → ReadCalls bytes before after (Ok n) → Given (read bytes) (length before) after n
   unfolding read_call
   was_read n h = given-found 30 (omega arith) (λ e. omega arith) (read bytes) (only_30 bytes) (length before) after n h
 
-  pub was_ill_formed : (at : ℕ) → ReadCalls bytes before after (reading.IllFormed at) → read bytes ≡ refused 30 at
+  pub was_ill_formed : (at : ℕ) → ReadCalls bytes before after (Err (IllFormed at)) → read bytes ≡ refused 30 at
   unfolding read_call
   was_ill_formed at h = refusal_found 30 (omega arith) (λ e. omega arith) (read bytes) (only_30 bytes) (length before) after at h
 
-  pub was_too_much : ReadCalls bytes before after reading.TooLittleRoom → Over (read bytes) (length before) after
+  pub was_too_much : ReadCalls bytes before after (Err TooLittleRoom) → Over (read bytes) (length before) after
   unfolding read_call
   was_too_much h = over_found 30 (omega arith) (λ e. omega arith) (read bytes) (only_30 bytes) (length before) after h
 
+  pub no_number_read : (at : ℕ) → ReadCalls bytes before after (Err (NotScalar at)) → ⊥
+  unfolding read_call
+  no_number_read at h =
+      other_number 30 (omega arith) (λ e. omega arith) (read bytes) (only_30 bytes) (length before) after 4 at (omega arith) (λ e. omega arith)
+      (λ e. omega arith) h
+
 module _ (codepoints before after : List ℕ) where
   -- the writer gave n bytes
-  pub was_written : (n : ℕ) → WriteCalls codepoints before after (writing.Written n) → Given (write codepoints) (length before) after n
+  pub was_written : (n : ℕ) → WriteCalls codepoints before after (Ok n) → Given (write codepoints) (length before) after n
   unfolding write_call
   was_written n h = given-found 4 (omega arith) (λ e. omega arith) (write codepoints) (only_4 codepoints) (length before) after n h
 
-  pub was_not_scalar : (at : ℕ) → WriteCalls codepoints before after (writing.NotScalar at) → write codepoints ≡ refused 4 at
+  pub was_not_scalar : (at : ℕ) → WriteCalls codepoints before after (Err (NotScalar at)) → write codepoints ≡ refused 4 at
   unfolding write_call
   was_not_scalar at h = refusal_found 4 (omega arith) (λ e. omega arith) (write codepoints) (only_4 codepoints) (length before) after at h
 
-  pub was_too_long : WriteCalls codepoints before after writing.TooLittleRoom → Over (write codepoints) (length before) after
+  pub was_too_long : WriteCalls codepoints before after (Err TooLittleRoom) → Over (write codepoints) (length before) after
   unfolding write_call
   was_too_long h = over_found 4 (omega arith) (λ e. omega arith) (write codepoints) (only_4 codepoints) (length before) after h
+
+  pub no_byte_written : (at : ℕ) → WriteCalls codepoints before after (Err (IllFormed at)) → ⊥
+  unfolding write_call
+  no_byte_written at h =
+      other_number 4 (omega arith) (λ e. omega arith) (write codepoints) (only_4 codepoints) (length before) after 30 at (omega arith) (λ e. omega arith)
+      (λ e. omega arith) h

@@ -2,7 +2,7 @@
 use Rattle.std.specs.Prelude.{ℕ, ◌≡◌, refl, List, [], ◌∷◌, map}
 use Rattle.answers.specs.Verdict.{Verdict, accepted, refused}
 use Rattle.utf8_scheme.specs.Scheme.{read, write}
-use Rattle.utf8.specs.Calls.{Result, given, beside, read_call, write_call}
+use Rattle.utf8.specs.Calls.{Answer, given, beside, read_call, write_call}
 
 -- bytes, and what they are read as
 pub record Case : Type 0 where
@@ -70,10 +70,10 @@ unfolding write
 all-written = refl
 
 -- the calls: zeros behind the answer; 31 for too little room; 30 and 4 before it
-abbrev result : List ℕ → ℕ → Result
+abbrev result : List ℕ → ℕ → Answer
 result bs n = record { values = given n; answer = bs }
 
-abbrev zeros : List ℕ → ℕ → ℕ → Result
+abbrev zeros : List ℕ → ℕ → ℕ → Answer
 zeros bs n p = record { values = beside n p; answer = bs }
 
 pub calls-read :

@@ -5,57 +5,60 @@
 mod reading;
 mod writing;
 
-ghost use Rattle.utf8.specs.Promise.{ReadCalls, WriteCalls};
+ghost use Rattle.std.specs.Prelude.{◌≡◌};
+ghost use Rattle.utf8.specs.Promise.{ReadCalls, WriteCalls, Finishes};
 
 use crate::reading::read_front;
 use crate::writing::write_front;
 
-// The reader: the number of codepoints; the byte index where the first sequence that is ill-formed starts; or no room.
+// Why the reader or the writer refuses. The reader: a sequence that is ill-formed, the first of which starts at this byte. The writer: a number
+// that is no scalar value, the first of which has this index. Either: no room.
 #[derive(Clone, Copy)]
-pub enum ReadAnswer {
-    Read(usize),
+pub enum Utf8Error {
     IllFormed(usize),
-    TooLittleRoom,
-}
-
-// The writer: the number of bytes; the index of the first number that is no scalar value; or no room.
-#[derive(Clone, Copy)]
-pub enum WriteAnswer {
-    Written(usize),
     NotScalar(usize),
     TooLittleRoom,
 }
 
-// Reads bytes into codepoints. The words behind them are cleared; a refusal clears all. No room is judged last.
-pub fn read(bytes: &[u8], answer: &mut [u32]) -> ReadAnswer
-    ensures { ReadCalls bytes.now answer.old answer.new result }
+// Ends a call on what stands at the front: so many elements, or why there are none. What stands behind them is cleared; a refusal clears all. No
+// room is judged last.
+fn finish<T: Copy>(
+    front: Result<usize, Utf8Error>,
+    answer: &mut [T],
+    zero: T,
+) -> Result<usize, Utf8Error>
+    requires clones { T.is_infallible zero }
+    requires copies { (y : T) → T.is_clone zero y → y ≡ zero }
+    ensures { Finishes front answer.old answer.new zero result }
 {
-    let found = read_front(bytes, answer);
-    let ReadAnswer::Read(n) = found else {
-        buffers::clear(answer);
-        return found;
-    };
-    if n > answer.len() {
-        buffers::clear(answer);
-        return ReadAnswer::TooLittleRoom;
+    match front {
+        Ok(count) => {
+            if count > answer.len() {
+                answer.fill(zero);
+                return Err(Utf8Error::TooLittleRoom);
+            }
+            answer[count..].fill(zero);
+            Ok(count)
+        }
+        Err(error) => {
+            answer.fill(zero);
+            Err(error)
+        }
     }
-    buffers::clear(&mut answer[n..]);
-    found
 }
 
-// Writes codepoints as bytes. The bytes behind them are cleared; a refusal clears all. No room is judged last.
-pub fn write(codepoints: &[u32], answer: &mut [u8]) -> WriteAnswer
+// Reads bytes into codepoints, and answers how many. The words behind them are cleared; a refusal clears all. No room is judged last.
+pub fn read(bytes: &[u8], answer: &mut [u32]) -> Result<usize, Utf8Error>
+    ensures { ReadCalls bytes.now answer.old answer.new result }
+{
+    let front = read_front(bytes, answer);
+    finish(front, answer, 0)
+}
+
+// Writes codepoints as bytes, and answers how many. The bytes behind them are cleared; a refusal clears all. No room is judged last.
+pub fn write(codepoints: &[u32], answer: &mut [u8]) -> Result<usize, Utf8Error>
     ensures { WriteCalls codepoints.now answer.old answer.new result }
 {
-    let made = write_front(codepoints, answer);
-    let WriteAnswer::Written(n) = made else {
-        buffers::clear_bytes(answer);
-        return made;
-    };
-    if n > answer.len() {
-        buffers::clear_bytes(answer);
-        return WriteAnswer::TooLittleRoom;
-    }
-    buffers::clear_bytes(&mut answer[n..]);
-    made
+    let front = write_front(codepoints, answer);
+    finish(front, answer, 0)
 }

@@ -21,7 +21,7 @@ fn tail_bits(rest: &[u8], i: usize) -> Option<u32>
     if rest.len() <= i {
         return None;
     }
-    let b = rest[i] as u32;
+    let b = u32::from(rest[i]);
     if b >> 6 != 0b10 {
         return None;
     }
@@ -98,7 +98,7 @@ pub fn decode(rest: &[u8]) -> Option<Decoded>
     requires { 1 ≤ length rest.now }
     ensures { DecodedIs rest.now result }
 {
-    let lead = rest[0] as u32;
+    let lead = u32::from(rest[0]);
     if lead >> 7 == 0 {
         return Some(Decoded {
             value: lead,

@@ -1,41 +1,15 @@
--- Elements stored one behind the other, as far as there is room.
+-- The octets of a codepoint, stored one behind the other as far as there is room.
 use Prim.Native.Nat.{ℕ, ◌+◌, ◌/◌, ◌<◌, ◌≤◌}
-use native.Mathlib.Numerals.{add-one}
 use native.Mathlib.Omega.{arith}
-use mathlib.Core.Path.{◌≡◌, refl, ap, ◌∙◌}
+use mathlib.Core.Path.{◌≡◌, ap, ◌∙◌}
 use mathlib.Core.List.{List, [], ◌∷◌, ◌++◌, append_assoc}
-use lib.ListN.{length, set, length-append, length-set}
-use lib.Seq.{take-suc-set}
-use mathlib.Core.Logic.{◌⊎◌, ⊎_elim}
+use lib.ListN.{length}
 use lib.Bits.{bit_and, bit_or}
 use borrow.Author.Tests.{lt-ltb, le-ltb}
 use Rattle.bits.specs.Fields.{masked, shifted_in_last}
 use Rattle.bits.proofs.FieldLaws.{masked_small}
 use Rattle.utf8_scheme.specs.Scheme.{tail, octets}
 use Rattle.utf8_encode.specs.Storing.{Stores, Appends}
-
--- a store within the buffer
-pub stored : (now : List ℕ) (n b : ℕ) → n < length now → Stores now (set now n b) n b (n + 1)
-stored now n b h =
-    record {
-      same = length-set now n b;
-      next = refl;
-      holds =
-          λ done f.
-          record {
-            count = rw (length-append, ← f.count);
-            front = λ k. rw (add-one n, take-suc-set now n b h, f.front (omega (arith, h)));
-          };
-    }
-
--- no room: nothing is stored, and nothing fits from here on
-pub full : (now : List ℕ) (n b : ℕ) → length now ≤ n → Stores now now n b (n + 1)
-full now n b h =
-    record {
-      same = refl;
-      next = refl;
-      holds = λ done f. record { count = rw (length-append, ← f.count); front = λ k. absurd (omega (arith, h, k)) };
-    }
 
 -- the octets that the code makes of a mark and payload bits
 pub tail_octet : (c : ℕ) → (bit_or (bit_and c 0x3F) 0x80 ≡ tail c) × (bit_or (bit_and c 0x3F) 0x80 < 0x100)
@@ -59,10 +33,6 @@ module _ (c : ℕ) where
   lead_of_four h =
       let k : bit_or (c / 0x40000) 0xF0 ≡ 0xF0 + c / 0x40000 = shifted_in_last 32 5 3 {m = 30} (omega arith) (omega arith) (omega arith) in
       (k, rw k (omega arith))
-
--- the arms of `put_byte` and `put_codepoint`, once they have met
-pub put : (now after : List ℕ) (n b : ℕ) → ((n < length now) × (after ≡ set now n b)) ⊎ ((length now ≤ n) × (after ≡ now)) → Stores now after n b (n + 1)
-put now after n b = ⊎_elim (λ w. rw w.1 (stored now n b w.0)) (λ w. rw w.1 (full now n b w.0))
 
 -- the octets of c, stored one behind the other
 module _ (c : ℕ) {before : List ℕ} {n : ℕ} where

@@ -7,13 +7,13 @@ ghost use Rattle.scalar.specs.Scalar.{is_scalar};
 ghost use Rattle.utf8_scheme.specs.Scheme.{tail};
 ghost use Rattle.utf8_encode.specs.Storing.{Stores, Appends};
 
-// Stores a byte at place n, if there is room, and answers the next place.
-fn put_byte(answer: &mut [u8], n: usize, b: u8) -> usize
+// Stores an element at place n, if there is room, and answers the next place.
+pub fn put<T: Copy>(answer: &mut [T], n: usize, element: T) -> usize
     requires { n + 1 < 2 ^ 64 }
-    ensures { Stores answer.old answer.new n b result }
+    ensures { Stores answer.old answer.new n element result }
 {
     if n < answer.len() {
-        answer[n] = b;
+        answer[n] = element;
     }
     n + 1
 }
@@ -23,7 +23,7 @@ fn put_tail(answer: &mut [u8], n: usize, c: u32) -> usize
     requires { n + 1 < 2 ^ 64 }
     ensures { Stores answer.old answer.new n (tail c) result }
 {
-    put_byte(answer, n, (c & 0x3F | 0b10 << 6) as u8)
+    put(answer, n, (c & 0x3F | 0b10 << 6) as u8)
 }
 
 // Puts the octets of c behind the first n bytes, as far as there is room, and answers the length with them.
@@ -32,18 +32,18 @@ pub fn append(answer: &mut [u8], n: usize, c: u32) -> usize
     ensures { Appends answer.old answer.new n c result }
 {
     if c < 0x80 {
-        return put_byte(answer, n, c as u8);
+        return put(answer, n, c as u8);
     }
     if c < 0x800 {
-        let m = put_byte(answer, n, (c >> 6 | 0b110 << 5) as u8);
+        let m = put(answer, n, (c >> 6 | 0b110 << 5) as u8);
         return put_tail(answer, m, c);
     }
     if c < 0x10000 {
-        let m = put_byte(answer, n, (c >> 12 | 0b1110 << 4) as u8);
+        let m = put(answer, n, (c >> 12 | 0b1110 << 4) as u8);
         let m = put_tail(answer, m, c >> 6);
         return put_tail(answer, m, c);
     }
-    let m = put_byte(answer, n, (c >> 18 | 0b11110 << 3) as u8);
+    let m = put(answer, n, (c >> 18 | 0b11110 << 3) as u8);
     let m = put_tail(answer, m, c >> 12);
     let m = put_tail(answer, m, c >> 6);
     put_tail(answer, m, c)

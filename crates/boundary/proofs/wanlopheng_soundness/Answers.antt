@@ -4,4 +4,4 @@ use Rattle.fields.specs.Fields.{soundness_numbers}
 use Rattle.boundary.proofs.wanlopheng_soundness.Goals as goal
 
 pub returns : goal.returns
-returns c = c.soundness_fields.ensures ∙ ap soundness_numbers c.soundness-found.ensures
+returns c = c.from.ensures ∙ ap soundness_numbers c.soundness-found.ensures

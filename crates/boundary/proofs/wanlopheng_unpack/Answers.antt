@@ -5,4 +5,4 @@ use Rattle.boundary.proofs.wanlopheng_unpack.Goals as goal
 pub returns : goal.returns
 returns c =
     let u = c.unpack-found.ensures in
-    record { values = c.unpack_fields.ensures ∙ u.values; answer = u.answer }
+    record { values = c.from.ensures ∙ u.values; answer = u.answer }

@@ -1,4 +1,6 @@
+use Prim.Native.Nat.{◌/◌}
 use mathlib.Core.Path.{◌≡◌}
+use lib.ListN.{length}
 use native.Mathlib.Omega.{arith}
 use Rattle.buffers.proofs.Front.{front_start}
 use Rattle.file_words.specs.FileWords.{words_of}
@@ -17,5 +19,5 @@ loop-i-preserved c =
 pub returns : goal.returns
 returns c =
     let l = c.loop-i in
-    let e : l.i ≡ c.args.count = omega arith in
+    let e : l.i ≡ length c.args.bytes.now / 4 = omega arith in
     rw e at (front_worded _ l.invariant (omega arith))

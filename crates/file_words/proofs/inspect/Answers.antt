@@ -19,9 +19,9 @@ pub returns-then-file-lt5 : goal.returns-then-file-lt5
 returns-then-file-lt5 c =
     file_short _ _ (omega arith) ((let it : lacks (get_or c.args.file.now 0 0) ≡ some c.in-Some.lack = lack_given (get_or c.args.file.now 0 0) _ _ c.in-Some.is c.lack_of.ensures in it))
 
-pub returns-then-file-count : goal.returns-then-file-count
-returns-then-file-count c =
-    file_length _ _ _ (omega arith) ((let it : lacks (get_or c.args.file.now 0 0) ≡ some c.in-Some.lack = lack_given (get_or c.args.file.now 0 0) _ _ c.in-Some.is c.lack_of.ensures in it)) c.be32-count.ensures c.if-file-count.true
+pub returns-then-file-from : goal.returns-then-file-from
+returns-then-file-from c =
+    file_length _ _ _ (omega arith) ((let it : lacks (get_or c.args.file.now 0 0) ≡ some c.in-Some.lack = lack_given (get_or c.args.file.now 0 0) _ _ c.in-Some.is c.lack_of.ensures in it)) c.be32-count.ensures (rw c.from.ensures at c.if-file-from.true)
 
 pub overflow_add-result : goal.overflow_add-result
 overflow_add-result c =
@@ -29,4 +29,4 @@ overflow_add-result c =
 
 pub returns : goal.returns
 returns c =
-    file_words_lem _ _ _ (omega arith) ((let it : lacks (get_or c.args.file.now 0 0) ≡ some c.in-Some.lack = lack_given (get_or c.args.file.now 0 0) _ _ c.in-Some.is c.lack_of.ensures in it)) c.be32-count.ensures c.if-file-count.false
+    file_words_lem _ _ _ (omega arith) ((let it : lacks (get_or c.args.file.now 0 0) ≡ some c.in-Some.lack = lack_given (get_or c.args.file.now 0 0) _ _ c.in-Some.is c.lack_of.ensures in it)) c.be32-count.ensures (rw c.from.ensures at c.if-file-from.false)

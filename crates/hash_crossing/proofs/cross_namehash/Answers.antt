@@ -6,4 +6,4 @@ pub returns : goal.returns
 returns c =
     let named = c in
     let u = named.namehash-found.ensures in
-    record { values = named.name_fields-name.ensures ∙ u.ends.values; answer = u.ends.answer; cleared = u.ends.cleared; node = u.node }
+    record { values = named.from.ensures ∙ u.ends.values; answer = u.ends.answer; cleared = u.ends.cleared; node = u.node }

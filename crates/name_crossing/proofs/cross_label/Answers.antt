@@ -6,4 +6,4 @@ use Rattle.name_crossing.proofs.cross_label.Goals as goal
 pub returns : goal.returns
 returns c =
     let u = c.label-found.ensures in
-    record { values = c.label_fields.ensures ∙ ap label_numbers u.values; answer = u.answer; cleared = u.cleared }
+    record { values = c.from.ensures ∙ ap label_numbers u.values; answer = u.answer; cleared = u.cleared }

@@ -5,4 +5,4 @@ use Rattle.name_crossing.proofs.cross_name.Goals as goal
 pub returns : goal.returns
 returns c =
     let u = c.name-found.ensures in
-    record { values = c.name_fields.ensures ∙ u.values; answer = u.answer; cleared = u.cleared }
+    record { values = c.from.ensures ∙ u.values; answer = u.answer; cleared = u.cleared }

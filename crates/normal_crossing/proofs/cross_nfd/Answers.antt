@@ -5,4 +5,4 @@ use Rattle.normal_crossing.proofs.cross_nfd.Goals as goal
 pub returns : goal.returns
 returns c =
     let u = c.nfd-found.ensures in
-    record { values = c.form_fields.ensures ∙ u.values; answer = u.answer; cleared = u.cleared }
+    record { values = c.from.ensures ∙ u.values; answer = u.answer; cleared = u.cleared }

@@ -5,4 +5,4 @@ use Rattle.report_crossing.proofs.cross_report.Goals as goal
 pub returns : goal.returns
 returns c =
     let u = c.report-told.ensures in
-    record { values = c.report_fields.ensures ∙ u.values; bytes = u.bytes; cleared = u.cleared }
+    record { values = c.from.ensures ∙ u.values; bytes = u.bytes; cleared = u.cleared }

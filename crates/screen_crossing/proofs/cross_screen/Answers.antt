@@ -5,4 +5,4 @@ use Rattle.screen_crossing.proofs.cross_screen.Goals as goal
 pub returns : goal.returns
 returns c =
     let u = c.screen-told.ensures in
-    record { values = c.name_fields.ensures ∙ u.values; answer = u.answer; cleared = u.cleared }
+    record { values = c.from.ensures ∙ u.values; answer = u.answer; cleared = u.cleared }

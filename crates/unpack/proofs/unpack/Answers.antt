@@ -2,38 +2,35 @@
 use native.Mathlib.Omega.{arith}
 use Rattle.file_words.specs.Promise.{Holds}
 use Rattle.unpack.proofs.Answer.{holds_rest, found-words, file_refused, room_refused, words_put}
-use borrow.Enum.Refused.{opened}
 use Rattle.unpack.proofs.unpack.Goals as goal
-use Rattle.unpack.proofs.unpack.Goals.{After-copy_words-arg-2-1, After-slice_known-2-1, After-slice_known-3-1, After-slice_known-then-count-answer-1, Else-count-answer, In-Words}
+use Rattle.unpack.proofs.unpack.Goals.{After-copy_words-arg-2-1, After-slice_known-2-1, After-slice_known-3-1, After-slice_known-then-count-answer-1, Else-count-answer, In-Ok}
 
 -- the file has so many words, once the match has said so
-found : (c : In-Words) → Holds c.args.file.now c.in-Words.count
-found c = found-words _ _ _ c.in-Words.is c.inspect-found.ensures
+found : (c : In-Ok) → Holds c.args.file.now c.in-Ok.count
+found c = found-words _ _ _ c.in-Ok.is c.inspect.ensures
 
 -- the file has so many words, once the match has said so
-found-at-After-slice_known-then-count-answer-1 : (c : After-slice_known-then-count-answer-1) → Holds c.args.file.now c.in-Words.count
-found-at-After-slice_known-then-count-answer-1 c = found-words _ _ _ c.in-Words.is c.inspect-found.ensures
+found-at-After-slice_known-then-count-answer-1 : (c : After-slice_known-then-count-answer-1) → Holds c.args.file.now c.in-Ok.count
+found-at-After-slice_known-then-count-answer-1 c = found-words _ _ _ c.in-Ok.is c.inspect.ensures
 
 -- the file has so many words, once the match has said so
-found-at-Else-count-answer : (c : Else-count-answer) → Holds c.args.file.now c.in-Words.count
-found-at-Else-count-answer c = found-words _ _ _ c.in-Words.is c.inspect-found.ensures
+found-at-Else-count-answer : (c : Else-count-answer) → Holds c.args.file.now c.in-Ok.count
+found-at-Else-count-answer c = found-words _ _ _ c.in-Ok.is c.inspect.ensures
 
 -- the file has so many words, once the match has said so
-found-at-After-copy_words-arg-2-1 : (c : After-copy_words-arg-2-1) → Holds c.args.file.now c.in-Words.count
-found-at-After-copy_words-arg-2-1 c = found-words _ _ _ c.in-Words.is c.inspect-found.ensures
+found-at-After-copy_words-arg-2-1 : (c : After-copy_words-arg-2-1) → Holds c.args.file.now c.in-Ok.count
+found-at-After-copy_words-arg-2-1 c = found-words _ _ _ c.in-Ok.is c.inspect.ensures
 
 -- the file has so many words, once the match has said so
-found-at-After-slice_known-2-1 : (c : After-slice_known-2-1) → Holds c.args.file.now c.in-Words.count
-found-at-After-slice_known-2-1 c = found-words _ _ _ c.in-Words.is c.inspect-found.ensures
+found-at-After-slice_known-2-1 : (c : After-slice_known-2-1) → Holds c.args.file.now c.in-Ok.count
+found-at-After-slice_known-2-1 c = found-words _ _ _ c.in-Ok.is c.inspect.ensures
 
 -- the file has so many words, once the match has said so
-found-at-After-slice_known-3-1 : (c : After-slice_known-3-1) → Holds c.args.file.now c.in-Words.count
-found-at-After-slice_known-3-1 c = found-words _ _ _ c.in-Words.is c.inspect-found.ensures
+found-at-After-slice_known-3-1 : (c : After-slice_known-3-1) → Holds c.args.file.now c.in-Ok.count
+found-at-After-slice_known-3-1 c = found-words _ _ _ c.in-Ok.is c.inspect.ensures
 
-pub returns-in_default : goal.returns-in_default
-returns-in_default c =
-    let s = c in
-    file_refused _ (opened s.in_default.in_default-own.keys2) s.inspect-found.ensures c.clear.ensures
+pub returns-in-Err : goal.returns-in-Err
+returns-in-Err c = file_refused _ _ c.in-Err.is c.inspect.ensures c.clear.ensures
 
 pub overflow_sub-held : goal.overflow_sub-held
 overflow_sub-held c = omega (arith, (found c).long)
@@ -50,7 +47,9 @@ pub slice_bounds-copy_words-start : goal.slice_bounds-copy_words-start
 slice_bounds-copy_words-start c = slice_bounds-copy_words-count c
 
 pub copy_words-requires : goal.copy_words-requires
-copy_words-requires c = record { bytes_len = holds_rest _ _ (found-at-After-copy_words-arg-2-1 c); count_in_bounds = omega (arith, (found-at-After-copy_words-arg-2-1 c).sum) }
+copy_words-requires c =
+    let rest = holds_rest _ _ (found-at-After-copy_words-arg-2-1 c) in
+    record { whole = omega (arith, rest); room = omega (arith, rest, (found-at-After-copy_words-arg-2-1 c).sum) }
 
 pub slice_bounds-clear-count : goal.slice_bounds-clear-count
 slice_bounds-clear-count c = omega (arith, (found-at-After-slice_known-2-1 c).sum)

@@ -7,7 +7,7 @@ use Rattle.utf8_encode.proofs.append.Goals as goal
 pub returns-then-c-lt128 : goal.returns-then-c-lt128
 returns-then-c-lt128 c =
     let put = c in
-    appends_one _ put.if-c-lt128.true put.put_byte.ensures
+    appends_one _ put.if-c-lt128.true put.put.ensures
 
 pub overflow_cast-c-then-c-lt2048 : goal.overflow_cast-c-then-c-lt2048
 overflow_cast-c-then-c-lt2048 c = omega (arith, (lead_of_two _ c.if-c-lt2048.true).1)
@@ -17,7 +17,7 @@ returns-then-c-lt2048 c =
     let last = c in
     let lead = last in
     let row = lead in
-    appends_two _ row.if-c-lt128.false row.if-c-lt2048.true (lead_of_two _ row.if-c-lt2048.true).0 lead.put_byte-m.ensures last.put_tail.ensures
+    appends_two _ row.if-c-lt128.false row.if-c-lt2048.true (lead_of_two _ row.if-c-lt2048.true).0 lead.put-m.ensures last.put_tail.ensures
 
 pub overflow_cast-c-then-c-lt65536 : goal.overflow_cast-c-then-c-lt65536
 overflow_cast-c-then-c-lt65536 c = omega (arith, (lead_of_three _ c.if-c-lt65536.true).1)
@@ -28,7 +28,7 @@ returns-then-c-lt65536 c =
     let mid = last in
     let lead = mid in
     let row = lead in
-    appends_three _ row.if-c-lt2048.false row.if-c-lt65536.true (lead_of_three _ row.if-c-lt65536.true).0 lead.put_byte-m-then-c-lt65536.ensures
+    appends_three _ row.if-c-lt2048.false row.if-c-lt65536.true (lead_of_three _ row.if-c-lt65536.true).0 lead.put-m-then-c-lt65536.ensures
     mid.put_tail-m.ensures last.put_tail-then-c-lt65536.ensures
 
 pub overflow_cast-c-2 : goal.overflow_cast-c-2
@@ -44,5 +44,5 @@ returns c =
     let lead = second in
     let row = lead in
     let start = row in
-    appends_four _ row.if-c-lt65536.false (lead_of_four _ (scalar_most start.args.c start.requires.0)).0 lead.put_byte-m-2.ensures
+    appends_four _ row.if-c-lt65536.false (lead_of_four _ (scalar_most start.args.c start.requires.0)).0 lead.put-m-2.ensures
     second.put_tail-m-2.ensures third.put_tail-m-3.ensures last.put_tail-2.ensures

@@ -7,4 +7,4 @@ pub overflow_cast-c : goal.overflow_cast-c
 overflow_cast-c c = omega (arith, (tail_octet c.args.c).1)
 
 pub returns : goal.returns
-returns c = rw (tail_octet c.args.c).0 at c.put_byte.ensures
+returns c = rw (tail_octet c.args.c).0 at c.put.ensures

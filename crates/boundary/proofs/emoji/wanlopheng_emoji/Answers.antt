@@ -3,4 +3,4 @@ use mathlib.Core.Path.{◌∙◌}
 use Rattle.boundary.proofs.emoji.wanlopheng_emoji.Goals as goal
 
 pub returns : goal.returns
-returns c = c.emoji_fields.ensures ∙ c.which_emoji-found.ensures
+returns c = c.from.ensures ∙ c.which_emoji-found.ensures

@@ -4,4 +4,4 @@ use Rattle.call_fields.specs.GroupFields.{group_numbers}
 use Rattle.boundary.proofs.group.wanlopheng_group.Goals as goal
 
 pub returns : goal.returns
-returns c = c.group_fields.ensures ∙ ap group_numbers c.group-found.ensures
+returns c = c.from.ensures ∙ ap group_numbers c.group-found.ensures

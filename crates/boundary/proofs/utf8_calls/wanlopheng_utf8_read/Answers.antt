@@ -5,4 +5,4 @@ use Rattle.boundary.proofs.utf8_calls.wanlopheng_utf8_read.Goals as goal
 pub returns : goal.returns
 returns c =
     let u = c.read-found.ensures in
-    record { values = c.read_fields.ensures ∙ u.values; answer = u.answer }
+    record { values = c.from.ensures ∙ u.values; answer = u.answer }

@@ -1,5 +1,5 @@
 -- `write_answer`: the line for each case of the answer.
-use mathlib.Core.Path.{sym}
+use mathlib.Core.Path.{sym, ◌∙◌}
 use native.Mathlib.Omega.{arith}
 use lib.ListN.{length-take}
 use lib.Seq.{length-take-le}
@@ -16,4 +16,4 @@ pub returns-in-Ok : goal.returns-in-Ok
 returns-in-Ok c = rw (accepted_line _ _ _ _ c.in-Ok.is) c.write_ok.ensures
 
 pub returns-in-Err : goal.returns-in-Err
-returns-in-Err c = rw (refused_line _ _ _ c.in-Err.is _ _ c.number_of.ensures c.place_of.ensures) c.write_no.ensures
+returns-in-Err c = rw (refused_line _ _ _ c.in-Err.is _ _ (c.from.ensures ∙ c.number.ensures) c.place.ensures) c.write_no.ensures

@@ -12,14 +12,14 @@ pub slice_bounds-write_spaced-start : goal.slice_bounds-write_spaced-start
 slice_bounds-write_spaced-start c = slice_bounds-write_spaced-count c
 
 pub write_spaced-k-requires : goal.write_spaced-k-requires
-write_spaced-k-requires c = numbering_room c.loop-n.invariant c.requires _ c.wide.ensures.1 (omega arith)
+write_spaced-k-requires c = numbering_room c.loop-n.invariant c.requires _ (rw c.from.ensures (c.type_inv.numbers c.loop-n.n-index).fits) (omega arith)
 
 pub overflow_add-at : goal.overflow_add-at
 overflow_add-at c =
-    record { fits = omega (arith, numbering_place c.loop-n.invariant c.requires _ c.wide.ensures.1 (omega arith) c.wide.ensures.0 c.write_spaced-k.ensures) }
+    record { fits = omega (arith, numbering_place c.loop-n.invariant c.requires _ (rw c.from.ensures (c.type_inv.numbers c.loop-n.n-index).fits) (omega arith) c.from.ensures c.write_spaced-k.ensures) }
 
 pub loop-n-preserved : goal.loop-n-preserved
-loop-n-preserved c = numbering_more c.loop-n.invariant c.requires _ c.wide.ensures.1 (omega arith) c.wide.ensures.0 c.write_spaced-k.ensures
+loop-n-preserved c = numbering_more c.loop-n.invariant c.requires _ (rw c.from.ensures (c.type_inv.numbers c.loop-n.n-index).fits) (omega arith) c.from.ensures c.write_spaced-k.ensures
 
 pub shape_of-out : goal.shape_of-out
 shape_of-out c = numbering_same c.loop-n.invariant c.requires

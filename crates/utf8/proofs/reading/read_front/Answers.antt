@@ -16,7 +16,7 @@ pub loop-at-smaller : goal.loop-at-smaller
 loop-at-smaller c = omega (arith, reading-fits c.loop-at.invariant _ c.in-Some.ensures)
 
 pub loop-at-preserved : goal.loop-at-preserved
-loop-at-preserved c = reading_more c.loop-at.invariant _ c.in-Some.ensures c.put_codepoint-n.ensures
+loop-at-preserved c = reading_more c.loop-at.invariant _ c.in-Some.ensures c.put-n.ensures
 
 pub returns-in-None : goal.returns-in-None
 returns-in-None c = reading-stop c.loop-at.invariant c.loop-at-test.true c.in-None.ensures
