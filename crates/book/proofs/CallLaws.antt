@@ -9,10 +9,9 @@ use borrow.Rule.Slice.PartMut.{mid_of, put_mid}
 use Rattle.buffers.proofs.Parts.{mid_tail, length-tail, put_tail}
 use Rattle.answers.specs.Verdict.{Verdict, accepted, refused, next}
 use Rattle.book_slots.specs.Book.{front_size, slot_count, slot_size, form_room, area_size, Slot, slots_of, slots_in}
-use Rattle.book_answers.specs.declared.BookAnswer.{BookAnswer}
-use Rattle.book_forms.specs.declared.Filing.{Filing}
-use Rattle.book_forms.specs.declared.Filing.TheVariants.{Refused, Form}
-use Rattle.book_answers.specs.Calls.{BookValues, Kept, book_number, book_place, no_account, area_after, book_result, opened, form_for, by_form}
+use Rattle.std.specs.Prelude.{Result, Ok, Err}
+use Rattle.book_answers.specs.declared.BookError.{BookError}
+use Rattle.book_answers.specs.Calls.{BookValues, Kept, book_number, book_place, area_after, book_result, opened, form_for, by_form}
 use Rattle.book_answers.specs.Promise.{book_values, Leaves}
 use Rattle.book_forms.specs.Forms.{Stands, FilingIs, Files}
 use Rattle.book_jobs.specs.Works.{slots_after, Works}
@@ -27,8 +26,8 @@ next_refused (accepted a) (refused m q) g n p e = cc
 next_refused (refused m q) v g n p e = cc
 
 -- the form stands in the answer buffer, and the area is whole
-module _ (area : List ℕ) (v : Verdict (List ℕ)) (answer answer' work work' : List ℕ) (r : Filing) (f : Files area v answer answer' work work' r)
-    (n : ℕ) (e : r ≡ Form n) where
+module _ (area : List ℕ) (v : Verdict (List ℕ)) (answer answer' work work' : List ℕ) (r : Result ℕ BookError) (f : Files area v answer answer' work work' r)
+    (n : ℕ) (e : r ≡ Ok n) where
   stands : (opened area ≡ accepted (slots_in area)) × Stands v answer' n
   stands = rw e at f.is
 
@@ -45,23 +44,23 @@ module _ (area : List ℕ) (v : Verdict (List ℕ)) (answer answer' work work' :
   pub job_asks : (length (mid_of front_size (length area - front_size) area) ≡ slot_size * slot_count) × (length (take n answer') ≤ form_room)
   job_asks = (rw (length-tail front_size area) (omega (arith, whole_area)), rw form_long stands.1.short)
 
-module _ (job : List ℕ → List Slot → Verdict Kept) (setting : ℕ) (words name area answer answer' work work' : List ℕ) (r : Filing)
+module _ (job : List ℕ → List Slot → Verdict Kept) (setting : ℕ) (words name area answer answer' work work' : List ℕ) (r : Result ℕ BookError)
     (f : Files area (form_for setting words name (length answer) (length work)) answer answer' work work' r) where
   -- the verdict of the call
   abbrev pub due : Verdict Kept
   due = by_form job setting words name area (length answer) (length work)
 
-  pub judged_refused : (x : BookAnswer) → r ≡ Refused x → (account : List ℕ) → account ≡ no_account
-      → Judged due area area answer answer' work work' (book_values x account)
+  pub judged_refused : {A : Type 0} (account : A → List ℕ) (x : BookError) → r ≡ Err x
+      → Judged due area area answer answer' work work' (book_values account (Err x))
   unfolding by_form
-  judged_refused x e account n =
-      let h : FilingIs area (form_for setting words name (length answer) (length work)) answer' (Refused x) = rw e at f.is in
+  judged_refused account x e =
+      let h : FilingIs area (form_for setting words name (length answer) (length work)) answer' (Err x) = rw e at f.is in
       let v : due ≡ refused (book_number x) (book_place x) =
       next_refused (opened area) (form_for setting words name (length answer) (length work)) (λ slots form. job form slots) (book_number x)
       (book_place x) h in
-      record { values = rw (v, n) refl; area = rw v refl; same = f.same; same-work = f.same-work }
+      record { values = rw v refl; area = rw v refl; same = f.same; same-work = f.same-work }
 
-  module _ (n : ℕ) (e : r ≡ Form n) where
+  module _ (n : ℕ) (e : r ≡ Ok n) where
     standing : (opened area ≡ accepted (slots_in area)) × Stands (form_for setting words name (length answer) (length work)) answer' n
     standing = stands area (form_for setting words name (length answer) (length work)) answer answer' work work' r f n e
 

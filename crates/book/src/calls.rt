@@ -1,15 +1,16 @@
 // The calls of the book that take a name: each answers, and leaves the answer buffer and the work area as zeros.
 ghost use Rattle.std.specs.Prelude.{length};
-ghost use Rattle.book_answers.specs.Calls.{save_in, find_in, forget_in, no_account, by_form};
-ghost use Rattle.book_answers.specs.Promise.{book_values, SaveCalls, FindCalls, ForgetCalls};
+ghost use Rattle.book_answers.specs.Calls.{save_in, find_in, forget_in, by_form};
+ghost use Rattle.book_answers.specs.Promise.{done_values, find_values, SaveCalls, FindCalls, ForgetCalls};
 ghost use Rattle.book.specs.Steps.{Judged};
 
-use book_answers::{BookAnswer, FindAnswer};
+use book_answers::BookError;
 use book_filing::form_for;
-use book_forms::Filing;
-use book_jobs::{find_in, forget_in, no_account, save_in};
+use book_jobs::{find_in, forget_in, save_in};
 use book_slots::{Account, FRONT};
 
+// Each job in two steps, and not one function with the job as a closure: find is lent the area to read, the others to write, and what a closure changes
+// in what it borrows its caller doesn't learn.
 fn save_judged(
     name: &[u32],
     words: &[u32],
@@ -18,14 +19,11 @@ fn save_judged(
     area: &mut [u32],
     answer: &mut [u32],
     work: &mut [u32],
-) -> BookAnswer
-    ensures { Judged (by_form (save_in account.words) setting words.now name.now area.old (length answer.old) (length work.old)) area.old area.new answer.old answer.new work.old work.new (book_values result no_account) }
+) -> Result<(), BookError>
+    ensures { Judged (by_form (save_in account.words) setting words.now name.now area.old (length answer.old) (length work.old)) area.old area.new answer.old answer.new work.old work.new (done_values result) }
 {
-    let filing = form_for(area, name, words, setting, answer, work);
-    match filing {
-        Filing::Refused(r) => r,
-        Filing::Form(n) => save_in(&mut area[FRONT..], &answer[..n], account),
-    }
+    let n = form_for(area, name, words, setting, answer, work)?;
+    save_in(&mut area[FRONT..], &answer[..n], account)
 }
 
 // Files an account under a name: a filed name's account is replaced, and another name takes the lowest free slot.
@@ -37,7 +35,7 @@ pub fn save(
     area: &mut [u32],
     answer: &mut [u32],
     work: &mut [u32],
-) -> BookAnswer
+) -> Result<(), BookError>
     ensures { SaveCalls setting words.now name.now account area.old area.new answer.old answer.new work.old work.new result }
 {
     let told = save_judged(name, words, setting, account, area, answer, work);
@@ -53,19 +51,11 @@ fn find_judged(
     area: &[u32],
     answer: &mut [u32],
     work: &mut [u32],
-) -> FindAnswer
-    ensures { Judged (by_form find_in setting words.now name.now area.now (length answer.old) (length work.old)) area.now area.now answer.old answer.new work.old work.new (book_values result.answer result.account.words) }
+) -> Result<Account, BookError>
+    ensures { Judged (by_form find_in setting words.now name.now area.now (length answer.old) (length work.old)) area.now area.now answer.old answer.new work.old work.new (find_values result) }
 {
-    let filing = form_for(area, name, words, setting, answer, work);
-    match filing {
-        Filing::Refused(r) => {
-            FindAnswer {
-                answer: r,
-                account: no_account(),
-            }
-        }
-        Filing::Form(n) => find_in(&area[FRONT..], &answer[..n]),
-    }
+    let n = form_for(area, name, words, setting, answer, work)?;
+    find_in(&area[FRONT..], &answer[..n])
 }
 
 // Answers the account that is filed under a name.
@@ -76,7 +66,7 @@ pub fn find(
     area: &[u32],
     answer: &mut [u32],
     work: &mut [u32],
-) -> FindAnswer
+) -> Result<Account, BookError>
     ensures { FindCalls setting words.now name.now area.now answer.old answer.new work.old work.new result }
 {
     let told = find_judged(name, words, setting, area, answer, work);
@@ -92,14 +82,11 @@ fn forget_judged(
     area: &mut [u32],
     answer: &mut [u32],
     work: &mut [u32],
-) -> BookAnswer
-    ensures { Judged (by_form forget_in setting words.now name.now area.old (length answer.old) (length work.old)) area.old area.new answer.old answer.new work.old work.new (book_values result no_account) }
+) -> Result<(), BookError>
+    ensures { Judged (by_form forget_in setting words.now name.now area.old (length answer.old) (length work.old)) area.old area.new answer.old answer.new work.old work.new (done_values result) }
 {
-    let filing = form_for(area, name, words, setting, answer, work);
-    match filing {
-        Filing::Refused(r) => r,
-        Filing::Form(n) => forget_in(&mut area[FRONT..], &answer[..n]),
-    }
+    let n = form_for(area, name, words, setting, answer, work)?;
+    forget_in(&mut area[FRONT..], &answer[..n])
 }
 
 // Clears the slot that is filed under a name, which is free again.
@@ -110,7 +97,7 @@ pub fn forget(
     area: &mut [u32],
     answer: &mut [u32],
     work: &mut [u32],
-) -> BookAnswer
+) -> Result<(), BookError>
     ensures { ForgetCalls setting words.now name.now area.old area.new answer.old answer.new work.old work.new result }
 {
     let told = forget_judged(name, words, setting, area, answer, work);

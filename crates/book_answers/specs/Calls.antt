@@ -7,14 +7,18 @@ use Rattle.answers.specs.Values.{number_of, place_of}
 use Rattle.name.specs.Name.{NameResult, name_call}
 use Rattle.book_slots.specs.Book.{slot_count, form_room, account_size, area_size, Slot, slots_in, with_slots, empty_slot, slot_for, has_name, spot_for}
 use Rattle.book_slots.specs.Damage.{damaged}
-use Rattle.book_answers.specs.declared.BookAnswer.{BookAnswer}
-use Rattle.book_answers.specs.declared.BookAnswer.TheVariants.{Done, OtherSize, Damaged, Refused, EmptyForm, FormTooLong, NotFiled, Full}
+use Rattle.book_answers.specs.declared.AreaError.{AreaError}
+use Rattle.book_answers.specs.declared.AreaError.TheVariants.{OtherSize, Damaged}
+use Rattle.book_answers.specs.declared.BookError.{BookError}
+use Rattle.book_answers.specs.declared.BookError.TheVariants.{Area, Refused, EmptyForm, FormTooLong, NotFiled, Full}
 
--- the number of each answer, 0 where there is no refusal; the name call's refusals keep theirs
-abbrev pub book_number : BookAnswer → ℕ
-book_number Done = 0
-book_number OtherSize = 40
-book_number Damaged = 41
+-- the number of each refusal; the name call's refusals keep theirs
+abbrev pub area_number : AreaError → ℕ
+area_number OtherSize = 40
+area_number Damaged = 41
+
+abbrev pub book_number : BookError → ℕ
+book_number (Area a) = area_number a
 book_number (Refused f) = number_of f
 book_number EmptyForm = 42
 book_number FormTooLong = 43
@@ -22,10 +26,8 @@ book_number NotFiled = 44
 book_number Full = 45
 
 -- its place, which only the refusals of the name call have
-abbrev pub book_place : BookAnswer → ℕ
-book_place Done = 0
-book_place OtherSize = 0
-book_place Damaged = 0
+abbrev pub book_place : BookError → ℕ
+book_place (Area a) = 0
 book_place (Refused f) = place_of f
 book_place EmptyForm = 0
 book_place FormTooLong = 0

@@ -1,13 +1,10 @@
--- The fields of an answer that the name call refused.
+-- What a call promises, with its values in the fields.
 use Prim.Native.Nat.{ℕ}
-use mathlib.Core.Path.{◌≡◌}
-use Rattle.answers.specs.Values.{number_of, place_of}
-use Rattle.answers.specs.declared.Refusal.{Refusal}
-use Rattle.book_answers.specs.declared.BookAnswer.{BookAnswer}
-use Rattle.book_answers.specs.declared.BookAnswer.TheVariants.{Refused}
-use Rattle.book_answers.specs.Promise.{book_values}
-use Rattle.book_crossing.specs.BookCrossing.{book_fields}
+use mathlib.Core.Path.{◌≡◌, ◌∙◌}
+use mathlib.Core.List.{List}
+use Rattle.book_answers.specs.Calls.{BookValues, BookResult}
+use Rattle.book_answers.specs.Promise.{Leaves}
 
-pub refused_fields : (a : BookAnswer) (f : Refusal) → a ≡ Refused f → (n p : ℕ) → n ≡ number_of f → p ≡ place_of f
-    → book_fields (record { number = n; place = p }) ≡ book_values a
-refused_fields a f e n p i j = rw (e, i, j)
+pub in_fields : (r : BookResult) (told fields : BookValues) (area' answer' work' : List ℕ) → fields ≡ told → Leaves r told area' answer' work'
+    → Leaves r fields area' answer' work'
+in_fields r told fields area' answer' work' e l = record { values = e ∙ l.values; area = l.area; answer = l.answer; work = l.work }

@@ -3,11 +3,11 @@
 #![tactic(auto)]
 
 ghost use Rattle.std.specs.Prelude.{◌≡◌};
-ghost use Rattle.book_answers.specs.Promise.{book_values};
-ghost use Rattle.book_crossing.specs.BookCrossing.{book_fields, SaveCrosses, FindCrosses, ForgetCrosses, ResetCrosses};
+ghost use Rattle.book_answers.specs.Calls.{no_account};
+ghost use Rattle.book_answers.specs.Promise.{done_values, find_values};
+ghost use Rattle.book_crossing.specs.BookCrossing.{book_fields, found_fields, SaveCrosses, FindCrosses, ForgetCrosses, ResetCrosses};
 
-use answers::{number_of, place_of};
-use book_answers::BookAnswer;
+use book_answers::{BookError, no_account};
 use book_slots::Account;
 
 // The refusal number, 0 where there is none, and its place.
@@ -27,45 +27,42 @@ pub struct WanlophengFound {
     pub account: Account,
 }
 
-// An answer as plain numbers.
-fn book_fields(answer: BookAnswer) -> WanlophengBook
-    ensures { book_fields result ≡ book_values answer }
-{
-    match answer {
-        BookAnswer::Done => WanlophengBook {
-            number: 0,
-            place: 0,
-        },
-        BookAnswer::OtherSize => WanlophengBook {
-            number: 40,
-            place: 0,
-        },
-        BookAnswer::Damaged => WanlophengBook {
-            number: 41,
-            place: 0,
-        },
-        BookAnswer::Refused(f) => {
-            WanlophengBook {
-                number: number_of(f),
-                place: place_of(f),
+impl From<Result<(), BookError>> for WanlophengBook {
+    ghost from_gives = { λ r w. book_fields w no_account ≡ done_values r };
+
+    // An answer as plain numbers.
+    fn from(answer: Result<(), BookError>) -> WanlophengBook {
+        match answer {
+            Ok(_) => WanlophengBook {
+                number: 0,
+                place: 0,
+            },
+            Err(e) => {
+                let number = e.number();
+                let place = e.place();
+                WanlophengBook { number, place }
             }
         }
-        BookAnswer::EmptyForm => WanlophengBook {
-            number: 42,
-            place: 0,
-        },
-        BookAnswer::FormTooLong => WanlophengBook {
-            number: 43,
-            place: 0,
-        },
-        BookAnswer::NotFiled => WanlophengBook {
-            number: 44,
-            place: 0,
-        },
-        BookAnswer::Full => WanlophengBook {
-            number: 45,
-            place: 0,
-        },
+    }
+}
+
+impl From<Result<Account, BookError>> for WanlophengFound {
+    ghost from_gives = { λ r w. found_fields w ≡ find_values r };
+
+    // An account that is found as plain numbers.
+    fn from(found: Result<Account, BookError>) -> WanlophengFound {
+        match found {
+            Ok(account) => WanlophengFound {
+                number: 0,
+                place: 0,
+                account,
+            },
+            Err(e) => WanlophengFound {
+                number: e.number(),
+                place: e.place(),
+                account: no_account(),
+            },
+        }
     }
 }
 
@@ -82,7 +79,7 @@ pub fn cross_save(
     ensures { SaveCrosses setting words.now name.now account area.old area.new answer.old answer.new work.old work.new result }
 {
     let told = book::calls::save(name, words, setting, account, area, answer, work);
-    book_fields(told)
+    WanlophengBook::from(told)
 }
 
 // Answers the account that is filed under a name.
@@ -97,14 +94,7 @@ pub fn cross_find(
     ensures { FindCrosses setting words.now name.now area.now answer.old answer.new work.old work.new result }
 {
     let found = book::calls::find(name, words, setting, area, answer, work);
-    let told = found.answer;
-    let account = found.account;
-    let fields = book_fields(told);
-    WanlophengFound {
-        number: fields.number,
-        place: fields.place,
-        account,
-    }
+    WanlophengFound::from(found)
 }
 
 // Clears the slot that is filed under a name.
@@ -119,7 +109,7 @@ pub fn cross_forget(
     ensures { ForgetCrosses setting words.now name.now area.old area.new answer.old answer.new work.old work.new result }
 {
     let told = book::calls::forget(name, words, setting, area, answer, work);
-    book_fields(told)
+    WanlophengBook::from(told)
 }
 
 // Clears every slot.
@@ -127,5 +117,5 @@ pub fn cross_reset(area: &mut [u32], answer: &mut [u32], work: &mut [u32]) -> Wa
     ensures { ResetCrosses area.old area.new answer.old answer.new work.old work.new result }
 {
     let told = book_reset::reset(area, answer, work);
-    book_fields(told)
+    WanlophengBook::from(told)
 }

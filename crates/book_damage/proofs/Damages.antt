@@ -1,25 +1,22 @@
 -- What makes a slot damaged, test by test.
-use Prim.Native.Nat.{ℕ, zero, suc, ◌+◌, ◌-◌, ◌*◌, ◌<◌, ◌≤◌}
+use Prim.Native.Nat.{ℕ, zero, suc, ◌+◌, ◌-◌, ◌<◌, ◌≤◌}
 use native.Mathlib.Omega.{arith}
 use mathlib.Core.Path.{◌≡◌, refl, sym, ap, ◌∙◌}
 use mathlib.Core.Bool.{Bool, true, false, not, ◌||◌, cond}
-use mathlib.Core.List.{List, [], ◌∷◌}
+use mathlib.Core.List.{List, [], ◌∷◌, map}
 use mathlib.Core.Option.{none, some}
 use Rattle.std.specs.Prelude.{Some, None}
 use Rattle.std.specs.Prelude as code
-use lib.ListN.{length, get_or, take, drop, length-drop}
-use lib.Seq.{drop-drop, take_all, take-take, get_or-take, length-take-le}
-use lib.Dec.{eqb}
+use lib.ListN.{length, get_or, take, drop, length-drop, drop_of_length-le}
+use lib.Seq.{drop-drop, take_all, drop-cons, length-take-le}
+use native.Mathlib.Numerals.{add-one}
 use borrow.Author.Tests.{lt-ltb, le-ltb, ltb-false, eq-eqb, ne_eqb}
 use Rattle.lists.specs.Lists.{any, place_with}
 use Rattle.lists.specs.Tests.{untrue}
-use Rattle.buffers.proofs.Parts.{mid_tail}
-use Rattle.book_slots.specs.Book.{form_room, slot_size, Slot, slot_of, slots_of, name_of, has_name, is_free}
+use Rattle.book_slots.specs.Book.{form_room, slot_size, Slot, slot_of, name_of, has_name, is_free}
 use Rattle.book_slots.specs.Damage.{zeros, slot_damaged, name_twice, damaged}
-use Rattle.book_slots.specs.SlotLaws.{slot_at, slots_long}
 use Rattle.book_slots.specs.Walks.{named_again, place_is}
 use Rattle.book_slots.proofs.Cuts.{drop-take}
-use Rattle.book_slots.proofs.Walking.{words_at}
 use Rattle.book_slots.proofs.Naming.{name_part}
 
 -- the words past the length, as they are lent
@@ -50,11 +47,10 @@ module _ (slot : List ℕ) where
       none-past : zeros (drop (get_or slot 0 0) (take form_room (drop 1 slot))) ≡ true
       none-past = sym (ap zeros (past_part slot (get_or slot 0 0))) ∙ sym e ∙ true_not r f
 
-      pub account_left : get_or slot 0 0 ≡ 0 → (q : Bool) → q ≡ zeros (take (length slot - 256) (drop 256 slot)) → not q ≡ slot_damaged (slot_of slot)
+      pub account_left : length slot ≡ slot_size → get_or slot 0 0 ≡ 0 → (q : Bool) → q ≡ zeros (take 8 (drop 256 slot)) → not q ≡ slot_damaged (slot_of slot)
       unfolding slot_damaged
-      account_left g q k =
-          let a : zeros (drop 256 slot) ≡ q =
-          ap zeros (sym (take_all (length slot - 256) (drop 256 slot) (rw (length-drop 256 slot) (omega arith)))) ∙ sym k in
+      account_left l g q k =
+          let a : zeros (drop 256 slot) ≡ q = ap zeros (sym (take_all 8 (drop 256 slot) (rw (length-drop 256 slot) (omega arith)))) ∙ sym k in
           sym (rw (le-ltb form_room (get_or slot 0 0) h, none-past, eq-eqb (get_or slot 0 0) 0 g, a))
 
       pub not_damaged : (get_or slot 0 0 ≡ 0 → ⊥) → false ≡ slot_damaged (slot_of slot)
@@ -70,34 +66,43 @@ not_too_long s e = ltb-false form_room s.size (first _ _ e)
     first true b f = f
     first false b f = refl
 
+-- and so has its name, as it is lent
+pub name_short : (slot : List ℕ) → length slot ≡ slot_size → get_or slot 0 0 ≤ form_room → length (take (1 + get_or slot 0 0 - 1) (drop 1 slot)) ≤ form_room
+name_short slot e h = rw (length-take-le (1 + get_or slot 0 0 - 1) (drop 1 slot) (rw (length-drop 1 slot) (omega arith))) (omega arith)
+
 -- none of the slots passes a test, so the one at i does not
-none-at : (p : Slot → Bool) (s : List Slot) (i : ℕ) (d : Slot) → any p s ≡ false → i < length s → p (get_or s i d) ≡ false
+pub none-at : (p : Slot → Bool) (s : List (List ℕ)) (i : ℕ) (d : List ℕ) → any p (map slot_of s) ≡ false → i < length s → p (slot_of (get_or s i d)) ≡ false
 none-at p [] i d e h = absurd (omega arith)
-none-at p (x ∷ s) zero d e h = first (p x) (any p s) e
+none-at p (x ∷ s) zero d e h = first (p (slot_of x)) (any p (map slot_of s)) e
   where
     first : (a b : Bool) → a || b ≡ false → a ≡ false
     first true b f = f
     first false b f = refl
-none-at p (x ∷ s) (suc i) d e h = none-at p s i d (second (p x) (any p s) e) (omega arith)
+none-at p (x ∷ s) (suc i) d e h = none-at p s i d (second (p (slot_of x)) (any p (map slot_of s)) e) (omega arith)
   where
     second : (a b : Bool) → a || b ≡ false → b ≡ false
     second true false f = refl
     second true true f = f
     second false b f = f
 
-pub whole-at : (n i : ℕ) (ws : List ℕ) → any slot_damaged (slots_of n ws) ≡ false → i < n → slot_damaged (slot_of (words_at ws i)) ≡ false
-whole-at n i ws e h =
-    let d : Slot = slot_of [] in
-    rw (← slot_at n i ws d h) (none-at slot_damaged (slots_of n ws) i d e (omega (arith, slots_long n ws)))
+-- whether two filed slots have one name: the slots from i on, and those behind as they are lent
+module _ (s : List (List ℕ)) (i : ℕ) (d : List ℕ) (h : i < length s) (r : Bool)
+    (e : r ≡ named_again (slot_of (get_or s i d) ∷ map slot_of (take (length s - (i + 1)) (drop (i + 1) s)))) where
+  from_here : name_twice (map slot_of (drop i s)) ≡ r || name_twice (map slot_of (drop (i + 1) s))
+  unfolding name_twice named_again
+  from_here =
+      let all : take (length s - (i + 1)) (drop (i + 1) s) ≡ drop (i + 1) s = take_all _ (drop (i + 1) s) (rw (length-drop (i + 1) s) (omega arith)) in
+      rw (drop-cons s i d h, add-one i) (rw (add-one i) at (ap (λ b. b || name_twice (map slot_of (drop (i + 1) s))) (sym (rw all at e))))
 
--- what `named_again` asks of the slots from i on
-pub asks_again : (n i : ℕ) (ws : List ℕ) → length ws ≡ slot_size * n → any slot_damaged (slots_of n ws) ≡ false → i < n
-    → (length (take (length ws - slot_size * i) (drop (slot_size * i) ws)) ≡ slot_size + slot_size * (n - i - 1))
-    × (slot_damaged (slot_of (take slot_size (take (length ws - slot_size * i) (drop (slot_size * i) ws)))) ≡ false)
-asks_again n i ws l e h = (
-  rw (mid_tail (slot_size * i) ws, length-drop (slot_size * i) ws) (omega arith),
-  rw (mid_tail (slot_size * i) ws) (whole-at n i ws e h),
-)
+  pub twice_here : r ≡ true → name_twice (map slot_of (drop i s)) ≡ true
+  twice_here f = from_here ∙ rw f
+
+  pub twice_behind : r ≡ false → name_twice (map slot_of (drop i s)) ≡ name_twice (map slot_of (drop (i + 1) s))
+  twice_behind f = from_here ∙ rw f
+
+pub twice_end : (s : List (List ℕ)) (i : ℕ) → length s ≤ i → name_twice (map slot_of (drop i s)) ≡ false
+unfolding name_twice
+twice_end s i h = rw (drop_of_length-le s {i = i} h)
 
 -- some slot is found exactly where one passes
 found-any : (p : Slot → Bool) (at i : ℕ) (s : List Slot) → some i ≡ place_with p at s → true ≡ any p s
@@ -116,59 +121,38 @@ none_any p at (x ∷ s) e = go (p x) e (none_any p (suc at) s)
     go true f k = absurd (let z : ◌≡◌ {A = ℕ} 0 1 = cc in omega arith)
     go false f k = k f
 
--- whether the name of the first slot stands again behind it
-module _ (n : ℕ) (ws : List ℕ) where
-  pub first-free : get_or ws 0 0 ≡ 0 → false ≡ named_again (slots_of (suc n) ws)
-  unfolding named_again slots_of
-  first-free e = sym (rw (get_or-take slot_size ws 0 0 (omega arith), eq-eqb (get_or ws 0 0) 0 e))
+-- whether the name of a slot stands again behind it
+module _ (slot : List ℕ) (behind : List (List ℕ)) where
+  pub first-free : get_or slot 0 0 ≡ 0 → false ≡ named_again (slot_of slot ∷ map slot_of behind)
+  unfolding named_again
+  first-free e = sym (rw (eq-eqb (get_or slot 0 0) 0 e))
 
-  module _ (h : get_or ws 0 0 ≤ form_room) (g : get_or ws 0 0 ≡ 0 → ⊥) where
-    -- the name and the slots behind, as they are lent
+  module _ (h : get_or slot 0 0 ≤ form_room) (g : get_or slot 0 0 ≡ 0 → ⊥) where
+    -- the name, as it is lent
     abbrev pub lent_name : List ℕ
-    lent_name = take (1 + get_or ws 0 0 - 1) (drop 1 ws)
+    lent_name = take (1 + get_or slot 0 0 - 1) (drop 1 slot)
 
-    abbrev pub lent_slots : List Slot
-    lent_slots = slots_of n (take (length ws - slot_size) (drop slot_size ws))
+    filed : is_free (slot_of slot) ≡ false
+    filed = ne_eqb (get_or slot 0 0) 0 g
 
-    name_again : lent_name ≡ name_of (slot_of (take slot_size ws))
-    name_again =
-        let e : get_or (take slot_size ws) 0 0 ≡ get_or ws 0 0 = get_or-take slot_size ws 0 0 (omega arith) in
-        let k : 1 + get_or ws 0 0 - 1 ≡ get_or ws 0 0 = omega arith in
-        let first : lent_name ≡ take (1 + get_or (take slot_size ws) 0 0 - 1) (drop 1 (take slot_size ws)) =
-        rw (e, k, drop-take 1 slot_size ws, take-take (get_or ws 0 0) (slot_size - 1) (drop 1 ws) (omega arith)) in
-        first ∙ name_part (take slot_size ws) (omega arith)
-
-    filed : is_free (slot_of (take slot_size ws)) ≡ false
-    filed = ap (λ (m : ℕ). eqb m 0) (get_or-take slot_size ws 0 0 (omega arith)) ∙ ne_eqb (get_or ws 0 0) 0 g
-
-    slots_again : lent_slots ≡ slots_of n (drop slot_size ws)
-    slots_again = rw (mid_tail slot_size ws)
-
-    again_found : (i : ℕ) → some i ≡ place_with (has_name lent_name) 0 lent_slots → true ≡ named_again (slots_of (suc n) ws)
-    unfolding named_again slots_of
+    again_found : (i : ℕ) → some i ≡ place_with (has_name lent_name) 0 (map slot_of behind) → true ≡ named_again (slot_of slot ∷ map slot_of behind)
+    unfolding named_again
     again_found i e =
-        let t : true ≡ any (has_name (name_of (slot_of (take slot_size ws)))) (slots_of n (drop slot_size ws)) =
-        found-any (has_name lent_name) 0 i lent_slots e ∙ rw (name_again, slots_again) in
+        let t : true ≡ any (has_name (name_of (slot_of slot))) (map slot_of behind) =
+        found-any (has_name lent_name) 0 i (map slot_of behind) e ∙ rw (name_part slot h) in
         sym (rw filed (sym t))
 
-    again_none : none ≡ place_with (has_name lent_name) 0 lent_slots → false ≡ named_again (slots_of (suc n) ws)
-    unfolding named_again slots_of
+    again_none : none ≡ place_with (has_name lent_name) 0 (map slot_of behind) → false ≡ named_again (slot_of slot ∷ map slot_of behind)
+    unfolding named_again
     again_none e =
-        let t : false ≡ any (has_name (name_of (slot_of (take slot_size ws)))) (slots_of n (drop slot_size ws)) =
-        none_any (has_name lent_name) 0 lent_slots e ∙ rw (name_again, slots_again) in
+        let t : false ≡ any (has_name (name_of (slot_of slot))) (map slot_of behind) =
+        none_any (has_name lent_name) 0 (map slot_of behind) e ∙ rw (name_part slot h) in
         sym (rw filed (sym t))
 
-    pub again_is : (o : code.Option ℕ) → place_is o ≡ place_with (has_name lent_name) 0 lent_slots → code.is_some o ≡ named_again (slots_of (suc n) ws)
+    pub again_is : (o : code.Option ℕ) → place_is o ≡ place_with (has_name lent_name) 0 (map slot_of behind)
+        → code.is_some o ≡ named_again (slot_of slot ∷ map slot_of behind)
     again_is (Some i) e = again_found i e
     again_is None e = again_none e
-
-    -- what `find_slot` asks of both
-    pub asks_find : length ws ≡ slot_size + slot_size * n
-        → (length (take (length ws - slot_size) (drop slot_size ws)) ≡ slot_size * n) × (length lent_name ≤ form_room)
-    asks_find l = (
-      rw (mid_tail slot_size ws, length-drop slot_size ws) (omega arith),
-      rw (length-take-le (1 + get_or ws 0 0 - 1) (drop 1 ws) (rw (length-drop 1 ws) (omega arith))) (omega arith),
-    )
 
 -- damage by itself, then a name that stands twice
 pub either_damage : (slots : List Slot) (r : Bool) → r ≡ any slot_damaged slots → r ≡ true → true ≡ damaged slots

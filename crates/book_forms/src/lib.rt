@@ -1,52 +1,38 @@
 // What a book's area is, and what a form of some length is: 40 and 41, then 42 and 43. specs/Forms.antt states both.
 #![tactic(auto)]
 
-ghost use Rattle.std.specs.Prelude.{◌≤◌, length, take};
+ghost use Rattle.std.specs.Prelude.{ℕ, ◌≡◌, List, length};
 ghost use Rattle.book_answers.specs.Calls.{fileable};
-ghost use Rattle.book_forms.specs.Forms.{OpeningIs, FormIs};
+ghost use Rattle.book_forms.specs.Forms.{OpeningIs, filed_by};
 
-use book_answers::BookAnswer;
+use book_answers::{AreaError, BookError};
 use book_damage::is_damaged;
-use book_slots::{AREA, FORM, FRONT, SLOTS};
+use book_slots::slots::slots_of;
+use book_slots::{AREA, FORM, FRONT, SLOT};
 
-// What the area is.
-#[derive(Clone, Copy)]
-pub enum Opening {
-    OtherSize,
-    Damaged,
-    Whole,
-}
-
-// A refusal, or the length of the form that stands in front of the answer buffer.
-#[derive(Clone, Copy)]
-pub enum Filing {
-    Refused(BookAnswer),
-    Form(usize),
-}
-
-// 40, then 41.
-pub fn open(area: &[u32]) -> Opening
+// The slots of an area: 40, then 41.
+pub fn open(area: &[u32]) -> Result<&[[u32; SLOT]], AreaError>
     ensures { OpeningIs area.now result }
 {
     if area.len() != AREA {
-        return Opening::OtherSize;
+        return Err(AreaError::OtherSize);
     }
-    if is_damaged(&area[FRONT..], SLOTS) {
-        return Opening::Damaged;
+    let slots = slots_of(&area[FRONT..]);
+    if is_damaged(slots) {
+        return Err(AreaError::Damaged);
     }
-    Opening::Whole
+    Ok(slots)
 }
 
-// 42 and 43 of the form in front of the answer buffer.
-pub fn file_form(answer: &[u32], n: usize) -> Filing
-    requires { n ≤ length answer.now }
-    ensures { FormIs (fileable (take n answer.now)) answer.now result }
+// 42 and 43 of a form of this length.
+pub fn check_length(n: usize) -> Result<(), BookError>
+    ensures { (form : List ℕ) → length form ≡ n → fileable form ≡ filed_by result form }
 {
     if n == 0 {
-        return Filing::Refused(BookAnswer::EmptyForm);
+        return Err(BookError::EmptyForm);
     }
     if n > FORM {
-        return Filing::Refused(BookAnswer::FormTooLong);
+        return Err(BookError::FormTooLong);
     }
-    Filing::Form(n)
+    Ok(())
 }

@@ -1,18 +1,16 @@
 -- Writing, clearing and reading the slot at a place.
-use Prim.Native.Nat.{ℕ, suc, ◌+◌, ◌-◌, ◌*◌, ◌<◌, ◌≤◌}
+use Prim.Native.Nat.{ℕ, suc, ◌+◌, ◌-◌, ◌*◌, ◌/◌, ◌%◌, ◌<◌, ◌≤◌}
 use native.Mathlib.Omega.{arith}
 use mathlib.Core.Path.{◌≡◌, refl, ap, ◌∙◌}
 use mathlib.Core.List.{List, [], ◌∷◌, ◌++◌, append-nil}
-use lib.ListN.{length, get_or, take, drop, set, replicate, length-append, length-drop, drop_of_length-le}
-use lib.Seq.{take_at, drop_at, drop-drop, length-take-le}
+use lib.ListN.{length, take, drop, set, replicate, length-append, length-drop}
+use lib.Seq.{take_at, drop_at, length-take-le}
 use borrow.Rule.Slice.PartMut.{mid_of, put_mid}
 use Rattle.lists.specs.Lists.{joined_map}
 use Rattle.lists.specs.Filled.{filled, length-filled}
 use Rattle.buffers.proofs.Parts.{mid_tail, length-tail, put_tail}
 use Rattle.book_slots.specs.Book.{form_room, account_size, slot_size, Slot, in_slot, slots_of, slot_for, empty_slot}
-use Rattle.book_slots.specs.SlotLaws.{slot_at, put_slot, zeros_slot}
-use Rattle.book_slots.proofs.Cuts.{drop-take}
-use Rattle.book_slots.proofs.Walking.{part_long}
+use Rattle.book_slots.specs.SlotLaws.{put_slot, zeros_slot}
 
 -- a list is copied to the front, and what is behind it cleared
 pub put_filled : (dst src mid part : List ℕ) → length src ≤ length dst → mid ≡ src ++ drop (length src) dst
@@ -48,38 +46,27 @@ account_put form account old mid part h k l e f =
     let p : part ≡ account = f ∙ rw (eight, l, append-nil) in
     put_tail 256 mid part ∙ rw (front, p)
 
+-- the words of the slot at i, as they are lent
+part_long : (n i : ℕ) (ws : List ℕ) → length ws ≡ slot_size * n → i < n
+    → length (take (slot_size * i + slot_size - slot_size * i) (drop (slot_size * i) ws)) ≡ slot_size
+part_long n i ws h k =
+    let e : slot_size * i + slot_size - slot_size * i ≡ slot_size = omega arith in
+    rw e (length-take-le slot_size (drop (slot_size * i) ws) (rw (length-drop (slot_size * i) ws) (omega arith)))
+
 -- the slot at i takes new words
-module _ (n i : ℕ) (ws : List ℕ) (h : length ws ≡ slot_size * n) (k : i < n) where
+module _ (i : ℕ) (ws : List ℕ) (whole : length ws % slot_size ≡ 0) (k : i < length ws / slot_size) where
+  count : length ws ≡ slot_size * (length ws / slot_size)
+  count = omega arith
+
   pub put_at : (part : List ℕ) (x : Slot) → part ≡ in_slot x
-      → put_mid (slot_size * i) (slot_size * i + slot_size - slot_size * i) ws part ≡ joined_map in_slot (set (slots_of n ws) i x)
+      → put_mid (slot_size * i) (slot_size * i + slot_size - slot_size * i) ws part ≡ joined_map in_slot (set (slots_of (length ws / slot_size) ws) i x)
   put_at part x e =
       let q : slot_size * i + slot_size - slot_size * i ≡ slot_size = omega arith in
-      rw (q, e) (put_slot n i ws x h k)
+      rw (q, e) (put_slot (length ws / slot_size) i ws x count k)
 
   -- its words cleared
   pub cleared : (part : List ℕ) → part ≡ replicate (length (mid_of (slot_size * i) (slot_size * i + slot_size - slot_size * i) ws)) 0
       → part ≡ in_slot empty_slot
   cleared part e =
-      let q : length (mid_of (slot_size * i) (slot_size * i + slot_size - slot_size * i) ws) ≡ slot_size = part_long n i ws h k in
+      let q : length (mid_of (slot_size * i) (slot_size * i + slot_size - slot_size * i) ws) ≡ slot_size = part_long (length ws / slot_size) i ws count k in
       e ∙ rw q zeros_slot
-
-  -- its account, as it is lent
-  pub account_part : take (slot_size * i + 256 + 8 - (slot_size * i + 256)) (drop (slot_size * i + 256) ws)
-      ≡ (get_or (slots_of n ws) i empty_slot).account
-  account_part =
-      let e : slot_size * i + 256 + 8 - (slot_size * i + 256) ≡ 8 = omega arith in
-      rw (e, slot_at n i ws empty_slot k, drop-take 256 slot_size (drop (slot_size * i) ws), drop-drop 256 (slot_size * i) ws)
-
-  -- it is copied to eight words
-  pub account_copied : (part got : List ℕ) → length part ≡ 8
-      → got ≡ take (slot_size * i + 256 + 8 - (slot_size * i + 256)) (drop (slot_size * i + 256) ws)
-      ++ drop (length (take (slot_size * i + 256 + 8 - (slot_size * i + 256)) (drop (slot_size * i + 256) ws))) part
-      → got ≡ (get_or (slots_of n ws) i empty_slot).account
-  account_copied part got l e =
-      let q : slot_size * i + 256 + 8 - (slot_size * i + 256) ≡ 8 = omega arith in
-      let long : length (take (slot_size * i + 256 + 8 - (slot_size * i + 256)) (drop (slot_size * i + 256) ws)) ≡ 8 =
-      rw q (length-take-le 8 (drop (slot_size * i + 256) ws) (rw (length-drop (slot_size * i + 256) ws) (omega arith))) in
-      let none : drop (length (take (slot_size * i + 256 + 8 - (slot_size * i + 256)) (drop (slot_size * i + 256) ws))) part ≡ [] =
-      drop_of_length-le part {i = length (take (slot_size * i + 256 + 8 - (slot_size * i + 256)) (drop (slot_size * i + 256) ws))} (omega arith) in
-      e ∙ ap (λ (r : List ℕ). take (slot_size * i + 256 + 8 - (slot_size * i + 256)) (drop (slot_size * i + 256) ws) ++ r) none
-      ∙ append-nil _ ∙ account_part

@@ -1,10 +1,10 @@
 // Writing, reading and clearing the slot at a place.
 #![tactic(auto)]
 
-ghost use Rattle.std.specs.Prelude.{◌≤◌, ◌<◌, ◌*◌, ◌≡◌, ◌∷◌, ◌++◌, length, get_or, set, drop};
+ghost use Rattle.std.specs.Prelude.{◌≤◌, ◌<◌, ◌/◌, ◌%◌, ◌≡◌, ◌∷◌, ◌++◌, length, set, drop};
 ghost use Rattle.lists.specs.Lists.{joined_map};
 ghost use Rattle.lists.specs.Filled.{filled};
-ghost use Rattle.book_slots.specs.Book.{form_room, slot_size, slots_of, in_slot, slot_for, empty_slot};
+ghost use Rattle.book_slots.specs.Book.{form_room, slot_size, slot_of, slots_of, in_slot, slot_for, empty_slot};
 
 use book_slots::{Account, SLOT};
 
@@ -39,12 +39,12 @@ fn fill_slot(slot: &mut [u32], form: &[u32], account: Account)
     put_words(&mut slot[256..], &words);
 }
 
-// The slot with the number i holds the form and its account.
-pub fn fill_at(slots: &mut [u32], count: usize, i: usize, form: &[u32], account: Account)
-    requires slots_len { length slots.old ≡ slot_size * count }
-    requires i_lt_count { i < count }
+// The slot with the number i holds the form and its account. The words are lent and not the slots: `as_chunks_mut` says nothing of what it leaves.
+pub fn fill_at(slots: &mut [u32], i: usize, form: &[u32], account: Account)
+    requires slots_len { length slots.old % slot_size ≡ 0 }
+    requires i_lt_count { i < length slots.old / slot_size }
     requires form_len_bound { length form.now ≤ form_room }
-    ensures { slots.new ≡ joined_map in_slot (set (slots_of count slots.old) i (slot_for form.now account.words)) }
+    ensures { slots.new ≡ joined_map in_slot (set (slots_of (length slots.old / slot_size) slots.old) i (slot_for form.now account.words)) }
 {
     let at = SLOT * i;
     let end = at + SLOT;
@@ -52,25 +52,21 @@ pub fn fill_at(slots: &mut [u32], count: usize, i: usize, form: &[u32], account:
 }
 
 // The slot with the number i is zeroed.
-pub fn clear_at(slots: &mut [u32], count: usize, i: usize)
-    requires slots_len { length slots.old ≡ slot_size * count }
-    requires i_lt_count { i < count }
-    ensures { slots.new ≡ joined_map in_slot (set (slots_of count slots.old) i empty_slot) }
+pub fn clear_at(slots: &mut [u32], i: usize)
+    requires slots_len { length slots.old % slot_size ≡ 0 }
+    requires i_lt_count { i < length slots.old / slot_size }
+    ensures { slots.new ≡ joined_map in_slot (set (slots_of (length slots.old / slot_size) slots.old) i empty_slot) }
 {
     let at = SLOT * i;
     let past = at + SLOT;
     buffers::clear(&mut slots[at..past]);
 }
 
-// The account of the slot with the number i.
-pub fn account_at(slots: &[u32], count: usize, i: usize) -> Account
-    requires slots_len { length slots.now ≡ slot_size * count }
-    requires i_lt_count { i < count }
-    ensures { result.words ≡ (get_or (slots_of count slots.now) i empty_slot).account }
+// The account of a slot.
+pub fn account_of(slot: &[u32; SLOT]) -> Account
+    ensures { result.words ≡ (slot_of slot.now).account }
 {
-    let at = SLOT * i + 256;
-    let end = at + 8;
     let mut words = [0; 8];
-    buffers::copy_into(&mut words, &slots[at..end]);
+    words.copy_from_slice(&slot[256..]);
     Account { words }
 }

@@ -21,9 +21,10 @@ use Rattle.idempotence.specs.Idempotence.{again}
 use Rattle.meaning.specs.Numbers.{name_zero}
 use Rattle.book_slots.specs.Book.{area_size, slots_in}
 use Rattle.book_slots.specs.Damage.{damaged}
-use Rattle.book_answers.specs.declared.FindAnswer.{FindAnswer}
-use Rattle.book_answers.specs.Calls.{BookValues, BookResult, book_number, told, book_result, opened, form_of, fileable, form_for, find_in, by_form, find_call}
-use Rattle.book_answers.specs.Promise.{book_values, FindCalls}
+use Rattle.book_slots.specs.declared.Account.{Account}
+use Rattle.book_answers.specs.declared.BookError.{BookError}
+use Rattle.book_answers.specs.Calls.{BookValues, BookResult, told, book_result, opened, form_of, fileable, form_for, find_in, by_form, find_call}
+use Rattle.book_answers.specs.Promise.{find_values, FindCalls}
 
 -- the normal form of a name: the first words of the answer that the name call leaves
 abbrev pub form_in : NameResult → List ℕ
@@ -110,20 +111,20 @@ module _ (setting : ℕ) (words name : List ℕ) (room work : ℕ) where
 -- buffers of the same lengths, whatever they held.
 pub same_payee : (setting : ℕ) (words name area : List ℕ) (before after work work' : List ℕ) (n : Result AcceptedName Refusal)
     → NameCalls setting words name before after work work' n
-    → (answer₁ answer₁' work₁ work₁' : List ℕ) (r : FindAnswer) → FindCalls setting words name area answer₁ answer₁' work₁ work₁' r
-    → (answer₂ answer₂' work₂ work₂' : List ℕ) (s : FindAnswer)
+    → (answer₁ answer₁' work₁ work₁' : List ℕ) (r : Result Account BookError) → FindCalls setting words name area answer₁ answer₁' work₁ work₁' r
+    → (answer₂ answer₂' work₂ work₂' : List ℕ) (s : Result Account BookError)
     → FindCalls setting words (take (name_values n).length after) area answer₂ answer₂' work₂ work₂' s
     → length answer₁ ≡ length before → length answer₂ ≡ length before → length work₁ ≡ length work → length work₂ ≡ length work
-    → soundness_of words ≡ none → book_number r.answer ≡ 0
-    → (book_number s.answer ≡ 0) × (s.account.words ≡ r.account.words)
+    → soundness_of words ≡ none → (find_values r).number ≡ 0
+    → ((find_values s).number ≡ 0) × ((find_values s).account ≡ (find_values r).account)
 same_payee setting words name area before after work work' n c answer₁ answer₁' work₁ work₁' r f answer₂ answer₂' work₂ work₂' s g a b d e sound zero =
     let room : ℕ = length before in
     let w : ℕ = length work in
     let form : take (name_values n).length after ≡ normal setting words name room w = rw (c.values, c.answer) in
-    let first : book_values r.answer r.account.words ≡ (find_call setting words name area room w).values = rw (a, d) at f.values in
-    let second : book_values s.answer s.account.words ≡ (find_call setting words (normal setting words name room w) area room w).values =
+    let first : find_values r ≡ (find_call setting words name area room w).values = rw (a, d) at f.values in
+    let second : find_values s ≡ (find_call setting words (normal setting words name room w) area room w).values =
     rw (form, b, e) at g.values in
     let number : (find_call setting words name area room w).values.number ≡ 0 = sym (ap (λ (v : BookValues). v.number) first) ∙ zero in
-    let same : book_values s.answer s.account.words ≡ book_values r.answer r.account.words =
+    let same : find_values s ≡ find_values r =
     second ∙ ap (λ (x : BookResult). x.values) (found_again setting words name room w area sound number) ∙ sym first in
     (ap (λ (v : BookValues). v.number) same ∙ zero, ap (λ (v : BookValues). v.account) same)

@@ -1,13 +1,12 @@
 -- The same of calls that were made, each with an answer buffer and a work area of its own, whatever they held.
-use Rattle.std.specs.Prelude.{ℕ, ◌≡◌, refl, List, [], ◌∷◌, length, take}
+use Rattle.std.specs.Prelude.{ℕ, ◌≡◌, refl, List, [], ◌∷◌, length, take, Result}
 use Rattle.std.proofs.Common.{ap, ◌∙◌}
 use Rattle.lists.specs.Laws.{Every}
 use Rattle.book_slots.specs.declared.Account.{Account}
 use Rattle.book_slots.specs.Book.{front_size, account_size}
-use Rattle.book_answers.specs.declared.BookAnswer.{BookAnswer}
-use Rattle.book_answers.specs.declared.FindAnswer.{FindAnswer}
-use Rattle.book_answers.specs.Calls.{BookValues, no_account}
-use Rattle.book_answers.specs.Promise.{book_values, Leaves, SaveCalls, FindCalls, ForgetCalls, ResetCalls}
+use Rattle.book_answers.specs.declared.BookError.{BookError}
+use Rattle.book_answers.specs.Calls.{BookValues}
+use Rattle.book_answers.specs.Promise.{done_values, find_values, Leaves, SaveCalls, FindCalls, ForgetCalls, ResetCalls}
 use Rattle.book_map.specs.Map.{save, find, forget, Call, by, reset, book_call, map_answers, book_answers, area_left}
 use Rattle.book_laws.specs.MapTheorem.{EightWords, zeroed, map_theorem}
 use Rattle.book_laws.specs.FrontWords.{front_left}
@@ -15,19 +14,19 @@ use Rattle.book_laws.specs.FrontWords.{front_left}
 -- calls in a row with one table and one setting: the area before them, the calls, their answers, and the area after them
 pub data Runs (setting : ℕ) (words : List ℕ) : List ℕ → List Call → List BookValues → List ℕ → Type 0 where
   done : (area : List ℕ) → Runs setting words area [] [] area
-  saved : (area area₁ area₂ name answer answer' work work' : List ℕ) (account : Account) (r : BookAnswer) (cs : List Call) (vs : List BookValues)
+  saved : (area area₁ area₂ name answer answer' work work' : List ℕ) (account : Account) (r : Result (Unit {0}) BookError) (cs : List Call) (vs : List BookValues)
       → length account.words ≡ account_size → SaveCalls setting words name account area area₁ answer answer' work work' r
       → Runs setting words area₁ cs vs area₂
-      → Runs setting words area (by (save account.words) name (length answer) (length work) ∷ cs) (book_values r no_account ∷ vs) area₂
-  found : (area area₂ name answer answer' work work' : List ℕ) (r : FindAnswer) (cs : List Call) (vs : List BookValues)
+      → Runs setting words area (by (save account.words) name (length answer) (length work) ∷ cs) (done_values r ∷ vs) area₂
+  found : (area area₂ name answer answer' work work' : List ℕ) (r : Result Account BookError) (cs : List Call) (vs : List BookValues)
       → FindCalls setting words name area answer answer' work work' r → Runs setting words area cs vs area₂
-      → Runs setting words area (by find name (length answer) (length work) ∷ cs) (book_values r.answer r.account.words ∷ vs) area₂
-  forgotten : (area area₁ area₂ name answer answer' work work' : List ℕ) (r : BookAnswer) (cs : List Call) (vs : List BookValues)
+      → Runs setting words area (by find name (length answer) (length work) ∷ cs) (find_values r ∷ vs) area₂
+  forgotten : (area area₁ area₂ name answer answer' work work' : List ℕ) (r : Result (Unit {0}) BookError) (cs : List Call) (vs : List BookValues)
       → ForgetCalls setting words name area area₁ answer answer' work work' r → Runs setting words area₁ cs vs area₂
-      → Runs setting words area (by forget name (length answer) (length work) ∷ cs) (book_values r no_account ∷ vs) area₂
-  wiped : (area area₁ area₂ answer answer' work work' : List ℕ) (r : BookAnswer) (cs : List Call) (vs : List BookValues)
+      → Runs setting words area (by forget name (length answer) (length work) ∷ cs) (done_values r ∷ vs) area₂
+  wiped : (area area₁ area₂ answer answer' work work' : List ℕ) (r : Result (Unit {0}) BookError) (cs : List Call) (vs : List BookValues)
       → ResetCalls area area₁ answer answer' work work' r → Runs setting words area₁ cs vs area₂
-      → Runs setting words area (reset (length answer) (length work) ∷ cs) (book_values r no_account ∷ vs) area₂
+      → Runs setting words area (reset (length answer) (length work) ∷ cs) (done_values r ∷ vs) area₂
 
 module _ (setting : ℕ) (words : List ℕ) where
   -- one call, and those behind it
@@ -44,13 +43,13 @@ module _ (setting : ℕ) (words : List ℕ) where
   unfolding book_answers area_left book_call
   runs-answer (done area) = (refl, refl)
   runs-answer (saved area area₁ area₂ name answer answer' work work' account r cs vs e c rest) =
-      one_more area area₁ area₂ answer' work' (by (save account.words) name (length answer) (length work)) (book_values r no_account) cs vs c (runs-answer rest)
+      one_more area area₁ area₂ answer' work' (by (save account.words) name (length answer) (length work)) (done_values r) cs vs c (runs-answer rest)
   runs-answer (found area area₂ name answer answer' work work' r cs vs c rest) =
-      one_more area area area₂ answer' work' (by find name (length answer) (length work)) (book_values r.answer r.account.words) cs vs c (runs-answer rest)
+      one_more area area area₂ answer' work' (by find name (length answer) (length work)) (find_values r) cs vs c (runs-answer rest)
   runs-answer (forgotten area area₁ area₂ name answer answer' work work' r cs vs c rest) =
-      one_more area area₁ area₂ answer' work' (by forget name (length answer) (length work)) (book_values r no_account) cs vs c (runs-answer rest)
+      one_more area area₁ area₂ answer' work' (by forget name (length answer) (length work)) (done_values r) cs vs c (runs-answer rest)
   runs-answer (wiped area area₁ area₂ answer answer' work work' r cs vs c rest) =
-      one_more area area₁ area₂ answer' work' (reset (length answer) (length work)) (book_values r no_account) cs vs c (runs-answer rest)
+      one_more area area₁ area₂ answer' work' (reset (length answer) (length work)) (done_values r) cs vs c (runs-answer rest)
 
   runs_eight : {area area' : List ℕ} {cs : List Call} {vs : List BookValues} → Runs setting words area cs vs area' → Every EightWords cs
   runs_eight (done area) = tt

@@ -10,18 +10,20 @@ use Rattle.lists.specs.Lists.{joined_map}
 use Rattle.buffers.proofs.Parts.{length-tail, put_tail}
 use Rattle.book_slots.specs.Book.{front_size, slot_count, slot_size, area_size, in_slot, empty_slot}
 use Rattle.book_slots.specs.SlotLaws.{zeros-slots}
-use Rattle.book_answers.specs.declared.BookAnswer.TheVariants.{Done, OtherSize}
+use Rattle.std.specs.Prelude.{Ok, Err}
+use Rattle.book_answers.specs.declared.AreaError.TheVariants.{OtherSize}
+use Rattle.book_answers.specs.declared.BookError.TheVariants.{Area}
 use Rattle.book_answers.specs.Calls.{book_result, reset_call}
 use Rattle.book_answers.specs.Promise.{ResetCalls}
 
 -- reset
 module _ (area answer answer' work work' : List ℕ) (a : answer' ≡ replicate (length answer) 0) (w : work' ≡ replicate (length work) 0) where
-  pub reset_other : (length area ≡ area_size → ⊥) → ResetCalls area area answer answer' work work' OtherSize
+  pub reset_other : (length area ≡ area_size → ⊥) → ResetCalls area area answer answer' work work' (Err (Area OtherSize))
   unfolding reset_call book_result
   reset_other h = rw (ne_eqb (length area) area_size h) (record { values = refl; area = refl; answer = a; work = w })
 
   pub reset_done : length area ≡ area_size → (after : List ℕ) → after ≡ replicate (length (mid_of front_size (length area - front_size) area)) 0
-      → ResetCalls area (put_mid front_size (length area - front_size) area after) answer answer' work work' Done
+      → ResetCalls area (put_mid front_size (length area - front_size) area after) answer answer' work work' (Ok tt)
   unfolding reset_call book_result
   reset_done h after e =
       let long : length (mid_of front_size (length area - front_size) area) ≡ slot_size * slot_count =

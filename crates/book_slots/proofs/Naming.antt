@@ -4,11 +4,14 @@ use native.Mathlib.Omega.{arith}
 use mathlib.Core.Path.{◌≡◌, sym, ap, ◌∙◌}
 use mathlib.Core.Bool.{Bool, false}
 use mathlib.Core.List.{List}
-use mathlib.Core.Option.{Option, none, some}
 use lib.ListN.{length, get_or, take, drop}
 use lib.Seq.{take-take}
 use borrow.Author.Tests.{eq-eqb, ne_eqb}
+use Rattle.std.specs.Option.{MatchOption}
+use Rattle.std.specs.Prelude.{Some, None}
+use Rattle.std.specs.Prelude as code
 use Rattle.lists.specs.Lists.{place_with, same_list}
+use Rattle.book_slots.specs.Walks.{place_is}
 use Rattle.book_slots.specs.Book.{form_room, Slot, slot_of, is_free, name_of, has_name, spot_for}
 
 -- the words of a slot's name, as they are lent
@@ -31,10 +34,8 @@ module _ (slot form : List ℕ) where
 
 -- the slot of the name, otherwise the lowest free one
 module _ (form : List ℕ) (slots : List Slot) where
-  pub spot_filed : (i : ℕ) → some i ≡ place_with (has_name form) 0 slots → some i ≡ spot_for form slots
+  pub spot_either : (o r : code.Option ℕ) (P : Type 0) → (P → place_is r ≡ place_with is_free 0 slots) → MatchOption o P (λ i. r ≡ Some i)
+      → place_is o ≡ place_with (has_name form) 0 slots → place_is r ≡ spot_for form slots
   unfolding spot_for
-  spot_filed i e = sym (rw (← e))
-
-  pub spot_free : (o : Option ℕ) → none ≡ place_with (has_name form) 0 slots → o ≡ place_with is_free 0 slots → o ≡ spot_for form slots
-  unfolding spot_for
-  spot_free o e f = f ∙ sym (rw (← e))
+  spot_either (Some i) r P f m e = ap place_is m ∙ sym (rw (← e))
+  spot_either None r P f m e = f m ∙ sym (rw (← e))

@@ -6,14 +6,17 @@ use mathlib.Core.Path.{◌≡◌, refl, sym, ap}
 use mathlib.Core.Bool.{Bool, true, false, cond}
 use mathlib.Core.List.{List, [], ◌∷◌, ◌++◌}
 use lib.ListN.{length, get_or, take, drop, drop_of_length-le}
-use borrow.Author.Tests.{ne_eqb, eq-eqb}
-use Rattle.table.proofs.Lookups.{drop-next}
+use lib.Seq.{drop-cons}
 use Rattle.name.specs.Parts.{Put}
 use Rattle.listing.specs.Filling.{Holds, Filling, fill_start, fill_end, fill_more}
 use Rattle.group_list.specs.Places.{places_of, is_set, GroupPut}
 
+-- the flags from a place on are the flag there and those from the next place on
+flags_next : (fs : List Bool) (i : ℕ) → i < length fs → drop i fs ≡ get_or fs i false ∷ drop (i + 1) fs
+flags_next fs i h = rw add-one (drop-cons fs i false h)
+
 -- the flag at i and those behind it
-module _ (flags before : List ℕ) where
+module _ (flags : List Bool) (before : List ℕ) where
   -- the numbers of the flags before i that are set stand in the list
   pub record Walked (after : List ℕ) (len i : ℕ) : Type 0 where
     pub inside : i ≤ length flags
@@ -28,7 +31,7 @@ module _ (flags before : List ℕ) where
     unfolding places_of
     walk_end h = fill_end (places_of is_set 0 flags) before after len (rw (drop_of_length-le flags {i = i} h) at l.filling)
 
-    places_next : (f : ℕ) (fs : List ℕ) → places_of is_set i (f ∷ fs) ≡ cond (is_set f) (i ∷ []) [] ++ places_of is_set (i + 1) fs
+    places_next : (f : Bool) (fs : List Bool) → places_of is_set i (f ∷ fs) ≡ cond (is_set f) (i ∷ []) [] ++ places_of is_set (i + 1) fs
     unfolding places_of
     places_next f fs = rw (add-one i) (go (is_set f))
       where
@@ -40,24 +43,24 @@ module _ (flags before : List ℕ) where
     item_short true = omega arith
     item_short false = omega arith
 
-    pub walk_more : i < length flags → (after' : List ℕ) (len' : ℕ) → GroupPut i (get_or flags i 0) after after' len len' → Walked after' len' (i + 1)
+    pub walk_more : i < length flags → (after' : List ℕ) (len' : ℕ) → GroupPut i (get_or flags i false) after after' len len' → Walked after' len' (i + 1)
     walk_more h after' len' p =
         record {
           inside = omega arith;
-          few = omega (arith, p.ends, item_short (is_set (get_or flags i 0)), l.few);
+          few = omega (arith, p.ends, item_short (is_set (get_or flags i false)), l.few);
           filling =
-              fill_more (places_of is_set 0 flags) before after len (cond (is_set (get_or flags i 0)) (i ∷ []) []) (places_of is_set (i + 1) (drop (i + 1) flags))
-              after' len' (rw (drop-next flags i h, places_next (get_or flags i 0) (drop (i + 1) flags)) at l.filling) p;
+              fill_more (places_of is_set 0 flags) before after len (cond (is_set (get_or flags i false)) (i ∷ []) []) (places_of is_set (i + 1) (drop (i + 1) flags))
+              after' len' (rw (flags_next flags i h, places_next (get_or flags i false) (drop (i + 1) flags)) at l.filling) p;
         }
 
 -- nothing is put for a flag that is not set
-pub group-none : (list : List ℕ) (len group flag : ℕ) → flag ≡ 0 → GroupPut group flag list list len len
+pub group-none : (list : List ℕ) (len group : ℕ) (flag : Bool) → flag ≡ false → GroupPut group flag list list len len
 group-none list len group flag e =
-    rw (eq-eqb flag 0 e) (record { same = refl; ends = omega arith; written = λ h. sym (nil (take len list)) })
+    rw e (record { same = refl; ends = omega arith; written = λ h. sym (nil (take len list)) })
   where
     nil : (s : List ℕ) → s ++ [] ≡ s
     nil [] = refl
     nil (x ∷ s) = ap (λ (r : List ℕ). x ∷ r) (nil s)
 
-pub group_put : (list list' : List ℕ) (len group flag r : ℕ) → (flag ≡ 0 → ⊥) → Put list list' len true (group ∷ []) r → GroupPut group flag list list' len r
-group_put list list' len group flag r h p = rw (ne_eqb flag 0 h) p
+pub group_put : (list list' : List ℕ) (len group : ℕ) (flag : Bool) (r : ℕ) → flag ≡ true → Put list list' len true (group ∷ []) r → GroupPut group flag list list' len r
+group_put list list' len group flag r h p = rw h p

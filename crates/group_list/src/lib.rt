@@ -1,7 +1,7 @@
 // The numbers of the groups whose flags are set, put into a list. specs/Places.antt states which.
 #![tactic(auto)]
 
-ghost use Rattle.std.specs.Prelude.{◌≤◌, ◌≡◌, length};
+ghost use Rattle.std.specs.Prelude.{◌≤◌};
 ghost use Rattle.table.specs.Layout.{most_groups};
 ghost use Rattle.listing.specs.Filling.{Holds};
 ghost use Rattle.group_list.specs.Places.{places_of, is_set, GroupPut};
@@ -9,27 +9,23 @@ ghost use Rattle.group_list.specs.Places.{places_of, is_set, GroupPut};
 use name::labels::put_label;
 
 // Puts the number of a group behind the first `len` words of the list, if its flag is set and it fits. Answers the length with it.
-fn put_group(list: &mut [u32], len: usize, group: usize, flag: u32) -> usize
+fn put_group(list: &mut [u32], len: usize, group: usize, flag: bool) -> usize
     requires { (len ≤ most_groups) × (group ≤ most_groups) }
     ensures { GroupPut group flag list.old list.new len result }
 {
-    if flag == 0 {
+    if !flag {
         return len;
     }
     put_label(list, len, true, &[group as u32])
 }
 
-// Lists the groups whose flags are set; `left` flags are still to be looked at. Answers the length of the list.
-pub fn list_flags(list: &mut [u32], flags: &[u32; 256]) -> usize
-    requires { length flags.now ≡ most_groups }
+// Lists the groups whose flags are set. Answers the length of the list.
+pub fn list_flags(list: &mut [u32], flags: &[bool; 256]) -> usize
     ensures { Holds (places_of is_set 0 flags.now) list.old list.new result }
 {
     let mut len = 0;
-    let mut left: usize = 256;
-    while left > 0 {
-        let i = 256 - left;
-        len = put_group(list, len, i, flags[i]);
-        left -= 1;
+    for (i, &flag) in flags.iter().enumerate() {
+        len = put_group(list, len, i, flag);
     }
     len
 }

@@ -7,10 +7,9 @@ ghost use Rattle.moved_list.specs.Promise.{moved_values};
 ghost use Rattle.respelled.specs.Promise.{respelled_values};
 ghost use Rattle.listing_crossing.specs.ListingCrossing.{list_fields, MovedCrosses, RespelledCrosses};
 
-use answers::{number_of, place_of};
 use moved::moved;
-use moved_list::MovedAnswer;
-use respelled::{RespelledAnswer, respelled};
+use moved_list::MovedError;
+use respelled::{RespelledError, respelled};
 
 // The refusal number, 0 where there is none, its place, and the number of entries, 0 beside a refusal.
 #[repr(C)]
@@ -21,59 +20,47 @@ pub struct WanlophengList {
     pub entries: usize,
 }
 
-// An answer on moved slots as plain numbers.
-fn moved_fields(answer: MovedAnswer) -> WanlophengList
-    ensures { list_fields result ≡ moved_values answer }
-{
-    match answer {
-        MovedAnswer::Listed(n) => WanlophengList {
-            number: 0,
-            place: 0,
-            entries: n,
-        },
-        MovedAnswer::OtherSize => WanlophengList {
-            number: 40,
-            place: 0,
-            entries: 0,
-        },
-        MovedAnswer::Damaged => WanlophengList {
-            number: 41,
-            place: 0,
-            entries: 0,
-        },
-        MovedAnswer::Refused(f) => WanlophengList {
-            number: number_of(f),
-            place: place_of(f),
-            entries: 0,
-        },
-        MovedAnswer::NoRoom => WanlophengList {
-            number: 33,
-            place: 0,
-            entries: 0,
-        },
+impl From<Result<usize, MovedError>> for WanlophengList {
+    ghost from_gives = { λ r w. list_fields w ≡ moved_values r };
+
+    // An answer on moved slots as plain numbers.
+    fn from(answer: Result<usize, MovedError>) -> WanlophengList {
+        match answer {
+            Ok(entries) => WanlophengList {
+                number: 0,
+                place: 0,
+                entries,
+            },
+            Err(e) => {
+                let number = e.number();
+                let place = e.place();
+                WanlophengList {
+                    number,
+                    place,
+                    entries: 0,
+                }
+            }
+        }
     }
 }
 
-// An answer on groups as plain numbers.
-fn respelled_fields(answer: RespelledAnswer) -> WanlophengList
-    ensures { list_fields result ≡ respelled_values answer }
-{
-    match answer {
-        RespelledAnswer::Listed(n) => WanlophengList {
-            number: 0,
-            place: 0,
-            entries: n,
-        },
-        RespelledAnswer::Refused(f) => WanlophengList {
-            number: number_of(f),
-            place: place_of(f),
-            entries: 0,
-        },
-        RespelledAnswer::NoRoom => WanlophengList {
-            number: 33,
-            place: 0,
-            entries: 0,
-        },
+impl From<Result<usize, RespelledError>> for WanlophengList {
+    ghost from_gives = { λ r w. list_fields w ≡ respelled_values r };
+
+    // An answer on groups as plain numbers.
+    fn from(answer: Result<usize, RespelledError>) -> WanlophengList {
+        match answer {
+            Ok(entries) => WanlophengList {
+                number: 0,
+                place: 0,
+                entries,
+            },
+            Err(e) => WanlophengList {
+                number: e.number(),
+                place: e.place(),
+                entries: 0,
+            },
+        }
     }
 }
 
@@ -87,7 +74,7 @@ pub fn cross_moved(
     ensures { MovedCrosses words.now area.now list.old list.new work.old work.new result }
 {
     let told = moved(area, words, list, work);
-    moved_fields(told)
+    WanlophengList::from(told)
 }
 
 // Lists the groups in which a label could be respelled.
@@ -100,5 +87,5 @@ pub fn cross_respelled(
     ensures { RespelledCrosses words.now label.now list.old list.new work.old work.new result }
 {
     let told = respelled(label, words, list, work);
-    respelled_fields(told)
+    WanlophengList::from(told)
 }

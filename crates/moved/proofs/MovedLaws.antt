@@ -1,15 +1,16 @@
 -- The slots of a book one after another, and the ends of the call.
-use Rattle.std.specs.Prelude.{Result, Err}
+use Rattle.std.specs.Prelude.{Result, Ok, Err}
+use Rattle.std.specs.Borrow.{Bor}
 use Rattle.sections.specs.declared.Sections.{Sections}
 use Prim.Native.Nat.{ℕ, zero, suc, ◌+◌, ◌-◌, ◌*◌, ◌/◌, ◌≤◌, ◌<◌}
 use native.Mathlib.Numerals.{add-one}
 use native.Mathlib.Omega.{arith}
 use mathlib.Core.Path.{◌≡◌, refl, sym, ap, ◌∙◌}
 use mathlib.Core.Bool.{Bool, true, false, ◌||◌, cond}
-use mathlib.Core.List.{List, [], ◌∷◌, ◌++◌}
+use mathlib.Core.List.{List, [], ◌∷◌, ◌++◌, map}
 use mathlib.Core.Option.{Option, none, some}
-use lib.ListN.{length, get_or, take, drop, length-drop}
-use lib.Seq.{length-take-le}
+use lib.ListN.{length, get_or, take, drop, length-drop, drop_of_length-le}
+use lib.Seq.{length-take-le, drop-cons}
 use lib.Dec.{eqb}
 use borrow.Author.Tests.{eq-eqb, ne_eqb}
 use Rattle.lists.specs.Lists.{any, joined_map, on_some}
@@ -23,32 +24,24 @@ use Rattle.table.specs.Layout.{the_table}
 use Rattle.name.specs.Label.{admitted}
 use Rattle.name.specs.Admission.{AdmissionIs}
 use Rattle.name.specs.Parts.{Put}
-use Rattle.buffers.proofs.Parts.{mid_tail}
-use Rattle.book_slots.specs.Book.{area_size, front_size, slot_count, slot_size, form_room, Slot, slot_of, slots_of, slots_in, name_of}
+use Rattle.book_slots.specs.Book.{area_size, front_size, slot_count, slot_size, form_room, Slot, slot_of, slots_in, name_of}
 use Rattle.book_slots.specs.Damage.{slot_damaged, name_twice, damaged}
-use Rattle.book_slots.specs.SlotLaws.{slots_next, slots_long}
+use Rattle.book_slots.specs.SlotLaws.{slots_long}
 use Rattle.book_slots.proofs.Naming.{name_part}
-use Rattle.book_damage.proofs.Damages.{not_too_long, whole-at}
-use Rattle.book_slots.proofs.Walking.{words_at, part_slot}
-use Rattle.book_answers.specs.Calls.{opened}
+use Rattle.book_damage.proofs.Damages.{not_too_long}
+use Rattle.book_answers.specs.Calls.{area_number, opened}
 use Rattle.book_forms.specs.Forms.{OpeningIs}
-use Rattle.book_forms.specs.declared.Opening.{Opening}
-use Rattle.book_forms.specs.declared.Opening.TheVariants as opening
+use Rattle.book_answers.specs.declared.AreaError.{AreaError}
 use Rattle.refiled.specs.Refiled.{changed}
 use Rattle.listing.specs.Listing.{listed_long}
 use Rattle.listing.specs.Filling.{Holds, Filling, fill_start, fill_end, fill_more}
 use Rattle.listing.specs.Listed.{judged-listed, judged_refused}
 use Rattle.listing.proofs.ListedLaws.{list-kept, list_over}
-use Rattle.moved_list.specs.declared.MovedAnswer.{MovedAnswer}
-use Rattle.moved_list.specs.declared.MovedAnswer.TheVariants.{Listed, OtherSize, Damaged, Refused, NoRoom}
+use Rattle.moved_list.specs.declared.MovedError.{MovedError}
+use Rattle.moved_list.specs.declared.MovedError.TheVariants.{Area, Refused, NoRoom}
 use Rattle.moved_list.specs.Moved.{Entry, in_list, slot_change, moved_from, moved_before33, moved_listing, moved_call}
 use Rattle.moved_list.specs.Promise.{moved_values, MovedCalls}
 use Rattle.moved_list.specs.Steps.{entry_words, SlotsListed, moved_entries, MovedJudged}
-
--- the slot at i, as it is lent
-pub slot_whole : (i : ℕ) (ws : List ℕ) → any slot_damaged (slots_of slot_count ws) ≡ false → i < slot_count
-    → slot_damaged (slot_of (take (slot_size * i + slot_size - slot_size * i) (drop (slot_size * i) ws))) ≡ false
-slot_whole i ws e h = rw (part_slot i ws) (whole-at slot_count i ws e h)
 
 nonzero : (n : ℕ) → (n ≡ 0 → ⊥) → 1 ≤ n
 nonzero zero h = absurd (h refl)
@@ -87,15 +80,9 @@ entry_next words work i s slots none e = rw (← e, add-one i)
 entry_next words work i s slots (some n) e = rw (← e, add-one i)
 
 -- What is known before the slot with the number i: the entries of those before it stand in the list.
-pub record Walked (words : List ℕ) (work : ℕ) (ws before after : List ℕ) (len i : ℕ) : Type 0 where
-  pub inside : i ≤ slot_count
+pub record Walked (words : List ℕ) (work : ℕ) (xs : List (List ℕ)) (before after : List ℕ) (len i : ℕ) : Type 0 where
   pub few : len ≤ 2 * i
-  pub filling : Filling (joined_map in_list (moved_from words work 0 (slots_of slot_count ws))) (joined_map in_list (moved_from words work i (slots_of (slot_count - i) (drop (slot_size * i) ws)))) before after len
-
--- behind the last slot
-no_slots : (ws : List ℕ) → slots_of 0 ws ≡ []
-unfolding slots_of
-no_slots ws = refl
+  pub filling : Filling (joined_map in_list (moved_from words work 0 (map slot_of xs))) (joined_map in_list (moved_from words work i (map slot_of (drop i xs)))) before after len
 
 none-moved : (words : List ℕ) (work i : ℕ) → moved_from words work i [] ≡ []
 unfolding moved_from
@@ -105,56 +92,30 @@ entry_short : (i : ℕ) (c : Option ℕ) → length (entry_words i c) ≤ 2
 entry_short i none = omega arith
 entry_short i (some n) = omega arith
 
-module _ (words : List ℕ) (work : ℕ) (ws before : List ℕ) where
-  pub walk_start : Walked words work ws before before 0 0
-  walk_start =
-      record {
-        inside = omega arith;
-        few = omega arith;
-        filling = fill_start (joined_map in_list (moved_from words work 0 (slots_of slot_count ws))) before;
-      }
+module _ (words : List ℕ) (work : ℕ) (xs : List (List ℕ)) (before : List ℕ) where
+  pub walk_start : Walked words work xs before before 0 0
+  walk_start = record { few = omega arith; filling = fill_start (joined_map in_list (moved_from words work 0 (map slot_of xs))) before }
 
-  module _ (after : List ℕ) (len i : ℕ) (l : Walked words work ws before after len i) where
-    pub walk_end : slot_count ≤ i → Holds (joined_map in_list (moved_from words work 0 (slots_of slot_count ws))) before after len
+  module _ (after : List ℕ) (len i : ℕ) (l : Walked words work xs before after len i) where
+    pub walk_end : length xs ≤ i → Holds (joined_map in_list (moved_from words work 0 (map slot_of xs))) before after len
     walk_end h =
-        let z : slot_count - i ≡ 0 = omega arith in
-        fill_end (joined_map in_list (moved_from words work 0 (slots_of slot_count ws))) before after len
-        (rw (z, no_slots (drop (slot_size * i) ws), none-moved words work i) at l.filling)
+        fill_end (joined_map in_list (moved_from words work 0 (map slot_of xs))) before after len
+        (rw (drop_of_length-le xs {i = i} h, none-moved words work i) at l.filling)
 
-    module _ (h : i < slot_count) where
-      abbrev behind : List Slot
-      behind = slots_of (slot_count - (i + 1)) (drop (slot_size * (i + 1)) ws)
-
-      pub walk_more : (c : Option ℕ) → c ≡ slot_change words work (slot_of (take (slot_size * i + slot_size - slot_size * i) (drop (slot_size * i) ws)))
-          → (after' : List ℕ) (len' : ℕ) → Put after after' len true (entry_words i c) len' → Walked words work ws before after' len' (i + 1)
-      walk_more c e after' len' p =
-          let here : c ≡ slot_change words work (slot_of (words_at ws i)) = rw (part_slot i ws) at e in
-          let rest : joined_map in_list (moved_from words work i (slots_of (slot_count - i) (drop (slot_size * i) ws)))
-          ≡ entry_words i c ++ joined_map in_list (moved_from words work (i + 1) behind) =
-          rw (slots_next slot_count i ws h) (entry_next words work i (slot_of (words_at ws i)) behind c here) in
+    module _ (h : i < length xs) where
+      pub walk_more : (d : List ℕ) (c : Option ℕ) → c ≡ slot_change words work (slot_of (get_or xs i d))
+          → (after' : List ℕ) (len' : ℕ) → Put after after' len true (entry_words i c) len' → Walked words work xs before after' len' (i + 1)
+      walk_more d c e after' len' p =
+          let cut : drop i xs ≡ get_or xs i d ∷ drop (i + 1) xs = rw (add-one i) (drop-cons xs i d h) in
+          let rest : joined_map in_list (moved_from words work i (map slot_of (drop i xs)))
+          ≡ entry_words i c ++ joined_map in_list (moved_from words work (i + 1) (map slot_of (drop (i + 1) xs))) =
+          rw cut (entry_next words work i (slot_of (get_or xs i d)) (map slot_of (drop (i + 1) xs)) c e) in
           record {
-            inside = omega arith;
             few = omega (arith, p.ends, entry_short i c, l.few);
             filling =
-                fill_more (joined_map in_list (moved_from words work 0 (slots_of slot_count ws))) before after len (entry_words i c)
-                (joined_map in_list (moved_from words work (i + 1) behind)) after' len' (rw rest at l.filling) p;
+                fill_more (joined_map in_list (moved_from words work 0 (map slot_of xs))) before after len (entry_words i c)
+                (joined_map in_list (moved_from words work (i + 1) (map slot_of (drop (i + 1) xs)))) after' len' (rw rest at l.filling) p;
           }
-
--- the slots of an area, as they are lent
-module _ (area : List ℕ) where
-  lent_slots : slots_of slot_count (take (length area - front_size) (drop front_size area)) ≡ slots_in area
-  lent_slots = rw (mid_tail front_size area)
-
-  pub area_slots : length area ≡ area_size → any slot_damaged (slots_in area) ≡ false
-      → (length (take (length area - front_size) (drop front_size area)) ≡ slot_size * slot_count)
-      × (any slot_damaged (slots_of slot_count (take (length area - front_size) (drop front_size area))) ≡ false)
-  area_slots e h =
-      (rw (mid_tail front_size area, length-drop front_size area) (omega arith), ap (any slot_damaged) lent_slots ∙ h)
-
-  pub area_listed : (words list list' w w' : List ℕ) (r : ℕ)
-      → SlotsListed words (slots_of slot_count (take (length area - front_size) (drop front_size area))) list list' w w' r
-      → SlotsListed words (slots_in area) list list' w w' r
-  area_listed words list list' w w' r s = rw lent_slots at s
 
 -- at most an entry for each slot
 entries_few : (words : List ℕ) (work i : ℕ) (slots : List Slot) → length (moved_from words work i slots) ≤ length slots
@@ -168,8 +129,21 @@ entries_few words work i (s ∷ slots) = go (slot_change words work s) (entries_
     go (some n) h = omega arith
 
 -- what the answers before it say
-pub opened-whole : (area : List ℕ) (o : Opening) → OpeningIs area o → o ≡ opening.Whole → opened area ≡ accepted (slots_in area)
-opened-whole area o h e = rw e at h
+pub opened-whole : (area : List ℕ) (o : Result (Bor (List (List ℕ))) AreaError) → OpeningIs area o → (slots : Bor (List (List ℕ))) → o ≡ Ok slots
+    → (opened area ≡ accepted (slots_in area)) × (map slot_of slots.now ≡ slots_in area)
+opened-whole area o h slots e = rw e at h
+
+pub opened-not : (area : List ℕ) (o : Result (Bor (List (List ℕ))) AreaError) → OpeningIs area o → (a : AreaError) → o ≡ Err a
+    → opened area ≡ refused (area_number a) 0
+opened-not area o h a e = rw e at h
+
+-- at most as many slots as a book has
+pub slots_few : (area : List ℕ) (xs : List (List ℕ)) → map slot_of xs ≡ slots_in area → length xs ≤ slot_count
+slots_few area xs e = omega (arith, count xs, ap length e, slots_long slot_count (drop front_size area))
+  where
+    count : (ys : List (List ℕ)) → length (map slot_of ys) ≡ length ys
+    count [] = refl
+    count (y ∷ ys) = ap suc (count ys)
 
 pub not_admitted : (words : List ℕ) (work : ℕ) (r : Result Sections Refusal) → AdmissionIs words [] work r → (f : Refusal) → r ≡ Err f
     → admitted words work [] ≡ refused (number_of f) (place_of f)
@@ -197,22 +171,19 @@ whole-slots area e = size (eqb (length area) area_size) e
 
 -- the call as far as 2
 module _ (words area list work : List ℕ) where
-  pub judged_40 : opened area ≡ refused 40 0 → MovedJudged words area list list work work OtherSize
+  pub judged_area : (a : AreaError) → opened area ≡ refused (area_number a) 0 → MovedJudged words area list list work work (Err (Area a))
   unfolding moved_before33
-  judged_40 e = record { judged = judged_refused moved_listing _ list list work work refl 40 0 (rw e refl) refl; few = omega arith }
-
-  pub judged_41 : opened area ≡ refused 41 0 → MovedJudged words area list list work work Damaged
-  unfolding moved_before33
-  judged_41 e = record { judged = judged_refused moved_listing _ list list work work refl 41 0 (rw e refl) refl; few = omega arith }
+  judged_area a e =
+      record { judged = judged_refused moved_listing _ list list work work refl (area_number a) 0 (rw e refl) refl; few = omega arith }
 
   module _ (e : opened area ≡ accepted (slots_in area)) where
-    pub judged_1_2 : (f : Refusal) → admitted words (length work) [] ≡ refused (number_of f) (place_of f) → MovedJudged words area list list work work (Refused f)
+    pub judged_1_2 : (f : Refusal) → admitted words (length work) [] ≡ refused (number_of f) (place_of f) → MovedJudged words area list list work work (Err (Refused f))
     unfolding moved_before33
     judged_1_2 f a =
         record { judged = judged_refused moved_listing _ list list work work refl (number_of f) (place_of f) (rw (e, a) refl) refl; few = omega arith }
 
     pub judged_entries : admitted words (length work) [] ≡ accepted (the_table words) → (list' work' : List ℕ) (len : ℕ)
-        → SlotsListed words (slots_in area) list list' work work' len → MovedJudged words area list list' work work' (Listed (len / 2))
+        → SlotsListed words (slots_in area) list list' work work' len → MovedJudged words area list list' work work' (Ok (len / 2))
     unfolding moved_before33
     judged_entries a list' work' len s =
         let es : List Entry = moved_from words (length work) 0 (slots_in area) in
@@ -221,16 +192,16 @@ module _ (words area list work : List ℕ) where
         record {
           judged =
               rw half (judged-listed moved_listing _ list list' work work' s.same-work es len (rw (e, a) refl) s.holds);
-          few = rw half (omega (arith, entries_few words (length work) 0 (slots_in area), slots_long slot_count (drop 16 area)));
+          few = rw half (omega (arith, entries_few words (length work) 0 (slots_in area), slots_long slot_count (drop front_size area)));
         }
 
 -- the ends of the call
-module _ (words area list mid list' work mid-work work' : List ℕ) (r : MovedAnswer) (j : MovedJudged words area list mid work mid-work r) (n : ℕ)
+module _ (words area list mid list' work mid-work work' : List ℕ) (r : Result ℕ MovedError) (j : MovedJudged words area list mid work mid-work r) (n : ℕ)
     (e : n ≡ 2 * moved_entries r) (kept : Bool) (f : Finishes mid list' mid-work work' n kept) where
   pub moved-kept : kept ≡ true → MovedCalls words area list list' work work' r
   unfolding moved_call
   moved-kept = list-kept moved_listing list mid list' work mid-work work' (moved_values r) _ j.judged n e kept f
 
-  pub moved_over : kept ≡ false → MovedCalls words area list list' work work' NoRoom
+  pub moved_over : kept ≡ false → MovedCalls words area list list' work work' (Err NoRoom)
   unfolding moved_call
   moved_over = list_over moved_listing list mid list' work mid-work work' (moved_values r) _ j.judged n e kept f

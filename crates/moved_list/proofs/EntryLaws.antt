@@ -2,28 +2,30 @@
 use Prim.Native.Nat.{ℕ, ◌*◌, ◌≤◌}
 use native.Mathlib.Omega.{arith}
 use mathlib.Core.Path.{◌≡◌, refl, sym}
-use mathlib.Core.Bool.{true}
+use mathlib.Core.Bool.{Bool, true, false}
 use mathlib.Core.List.{List, [], ◌∷◌, append-nil}
 use lib.ListN.{take}
+use Rattle.std.specs.Prelude.{Result, Ok, Err}
 use Rattle.name.specs.Parts.{Put}
-use Rattle.book_slots.specs.Book.{slot_count}
 use Rattle.refiled.specs.Changes.{change_is}
-use Rattle.refiled.specs.declared.Change.{Change}
-use Rattle.refiled.specs.declared.Change.TheVariants.{Stays, Moved}
-use Rattle.moved_list.specs.declared.MovedAnswer.{MovedAnswer}
+use Rattle.book_answers.specs.declared.BookError.{BookError}
+use Rattle.book_answers.specs.Calls.{book_number}
+use Rattle.std.specs.Result.{result_unwrap_or}
+use Rattle.moved_list.specs.declared.MovedError.{MovedError}
 use Rattle.moved_list.specs.Steps.{EntryPut, moved_entries}
 
 -- what is put into the list for a slot
-pub put_nothing : (list : List ℕ) (len slot : ℕ) (c : Change) → c ≡ Stays → EntryPut slot (change_is c) list list len len
+pub put_nothing : (list : List ℕ) (len slot : ℕ) (c : Result Bool BookError) → c ≡ Ok true → EntryPut slot (change_is c) list list len len
 put_nothing list len slot c e = rw e (record { same = refl; ends = omega arith; written = λ h. sym (append-nil (take len list)) })
 
-pub put_moved : (list list' : List ℕ) (len slot r : ℕ) (c : Change) (n : ℕ) → c ≡ Moved n → Put list list' len true (slot ∷ n ∷ []) r
-    → EntryPut slot (change_is c) list list' len r
-put_moved list list' len slot r c n e p = rw e p
+module _ (list list' : List ℕ) (len slot r n : ℕ) (c : Result Bool BookError) (p : Put list list' len true (slot ∷ n ∷ []) r) where
+  pub put_other : c ≡ Ok false → n ≡ 0 → EntryPut slot (change_is c) list list' len r
+  put_other e z = rw e (rw z at p)
 
--- the words of the entries
-pub twice : (a b : MovedAnswer) → a ≡ b → 2 * moved_entries b ≡ 2 * moved_entries a
-twice a b e = rw e
+  pub put_refused : (f : BookError) → c ≡ Err f → n ≡ book_number f → EntryPut slot (change_is c) list list' len r
+  put_refused f e z = rw e (rw z at p)
 
-pub no_more : (a b : MovedAnswer) → a ≡ b → moved_entries a ≤ slot_count → moved_entries b ≤ slot_count
-no_more a b e h = rw e at h
+-- none beside a refusal
+pub entries_is : (r : Result ℕ MovedError) → result_unwrap_or r 0 ≡ moved_entries r
+entries_is (Ok n) = refl
+entries_is (Err e) = refl

@@ -1,12 +1,12 @@
 -- What the functions of this crate and the inner ones of `moved` answer.
-use Rattle.std.specs.Prelude.{ℕ, ◌≤◌, ◌≡◌, true, List, [], ◌∷◌, length}
+use Rattle.std.specs.Prelude.{ℕ, ◌≤◌, ◌≡◌, true, List, [], ◌∷◌, length, Result}
 use Rattle.std.proofs.Math.Option.{Option, none, some}
 use Rattle.lists.specs.Lists.{joined_map, on_some}
 use Rattle.ending.specs.Ends.{Judged}
 use Rattle.book_slots.specs.Book.{Slot, slot_count}
 use Rattle.listing.specs.Filling.{Holds}
 use Rattle.name.specs.Parts.{Put}
-use Rattle.moved_list.specs.declared.MovedAnswer.{MovedAnswer}
+use Rattle.moved_list.specs.declared.MovedError.{MovedError}
 use Rattle.moved_list.specs.Moved.{in_list, moved_from, moved_before33, moved_listing}
 use Rattle.moved_list.specs.Promise.{moved_values}
 
@@ -24,10 +24,10 @@ pub record SlotsListed (words : List ℕ) (slots : List Slot) (list list' w w' :
   pub same-work : length w' ≡ length w
 
 -- how many entries an answer has
-abbrev pub moved_entries : MovedAnswer → ℕ
+abbrev pub moved_entries : Result ℕ MovedError → ℕ
 moved_entries r = (moved_values r).entries
 
 -- what is judged before 33
-pub record MovedJudged (words area list list' work work' : List ℕ) (r : MovedAnswer) : Type 0 where
+pub record MovedJudged (words area list list' work work' : List ℕ) (r : Result ℕ MovedError) : Type 0 where
   pub judged : Judged moved_listing (moved_before33 words area (length work)) list list' work work' (moved_values r)
   pub few : moved_entries r ≤ slot_count

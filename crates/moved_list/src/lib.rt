@@ -4,43 +4,84 @@
 ghost use Rattle.std.specs.Prelude.{◌≤◌, ◌*◌, ◌≡◌};
 ghost use Rattle.book_slots.specs.Book.{slot_count};
 ghost use Rattle.refiled.specs.Changes.{change_is};
+ghost use Rattle.moved_list.specs.Promise.{moved_number, moved_place};
 ghost use Rattle.moved_list.specs.Steps.{EntryPut, moved_entries};
+ghost use Rattle.moved_list.specs.declared.MovedError.TheVariants.{Area, Refused};
 
 use answers::Refusal;
+use book_answers::{AreaError, BookError};
 use name::labels::put_label;
-use refiled::Change;
 
-// What the call answers: how many entries stand in the list, or why there are none.
+// Why the call lists no slots.
 #[derive(Clone, Copy)]
-pub enum MovedAnswer {
-    Listed(usize),
-    OtherSize,
-    Damaged,
+pub enum MovedError {
+    Area(AreaError),
     Refused(Refusal),
     NoRoom,
 }
 
-// Puts the entry of a slot behind the first `len` words of the list, if there is one and it fits. Answers the length with it.
-pub fn put_entry(list: &mut [u32], len: usize, slot: usize, change: Change) -> usize
-    requires { (len ≤ 2 * slot_count) × (slot ≤ slot_count) }
-    ensures { EntryPut slot (change_is change) list.old list.new len result }
-{
-    match change {
-        Change::Stays => len,
-        Change::Moved(number) => put_label(list, len, true, &[slot as u32, number]),
+impl MovedError {
+    // The number of the refusal.
+    pub fn number(self) -> u32
+        ensures { result ≡ moved_number self }
+    {
+        match self {
+            MovedError::Area(a) => a.number(),
+            MovedError::Refused(f) => f.number(),
+            MovedError::NoRoom => 33,
+        }
+    }
+
+    // Its place.
+    pub fn place(self) -> usize
+        ensures { result ≡ moved_place self }
+    {
+        match self {
+            MovedError::Refused(f) => f.place(),
+            _ => 0,
+        }
     }
 }
 
+impl From<AreaError> for MovedError {
+    ghost from_gives = { λ a e. e ≡ Area a };
+
+    fn from(a: AreaError) -> MovedError {
+        MovedError::Area(a)
+    }
+}
+
+impl From<Refusal> for MovedError {
+    ghost from_gives = { λ f e. e ≡ Refused f };
+
+    fn from(f: Refusal) -> MovedError {
+        MovedError::Refused(f)
+    }
+}
+
+// Puts the entry of a slot behind the first `len` words of the list, if there is one and it fits: none where the name stays as it is filed. Answers the
+// length with it.
+pub fn put_entry(
+    list: &mut [u32],
+    len: usize,
+    slot: usize,
+    change: Result<bool, BookError>,
+) -> usize
+    requires { (len ≤ 2 * slot_count) × (slot ≤ slot_count) }
+    ensures { EntryPut slot (change_is change) list.old list.new len result }
+{
+    let number = match change {
+        Ok(true) => return len,
+        Ok(false) => 0,
+        Err(e) => e.number(),
+    };
+    put_label(list, len, true, &[slot as u32, number])
+}
+
 // The words of the entries, two each; none beside a refusal.
-pub fn moved_words(answer: MovedAnswer) -> usize
+pub fn moved_words(answer: Result<usize, MovedError>) -> usize
     requires { moved_entries answer ≤ slot_count }
     ensures { result ≡ 2 * moved_entries answer }
 {
-    match answer {
-        MovedAnswer::Listed(n) => 2 * n,
-        MovedAnswer::OtherSize => 0,
-        MovedAnswer::Damaged => 0,
-        MovedAnswer::Refused(_) => 0,
-        MovedAnswer::NoRoom => 0,
-    }
+    2 * answer.unwrap_or(0)
 }

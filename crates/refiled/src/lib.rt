@@ -4,27 +4,13 @@
 ghost use Rattle.std.specs.Prelude.{◌≡◌};
 ghost use Rattle.refiled.specs.Changes.{change_by, change_is};
 
-use book_slots::FORM;
+use book_answers::BookError;
+use book_forms::check_length;
 
-// A name stays as it is filed, or is listed beside this number.
-#[derive(Clone, Copy)]
-pub enum Change {
-    Stays,
-    Moved(u32),
-}
-
-// 42 and 43 of a form of this length, which is the name or another.
-pub fn change_by(length: usize, same: bool) -> Change
+// 42 and 43 of a form of this length, which is the name or another; else whether the name stays as it is filed.
+pub fn change_by(length: usize, same: bool) -> Result<bool, BookError>
     ensures { change_is result ≡ change_by length same }
 {
-    if length == 0 {
-        return Change::Moved(42);
-    }
-    if length > FORM {
-        return Change::Moved(43);
-    }
-    if same {
-        return Change::Stays;
-    }
-    Change::Moved(0)
+    check_length(length)?;
+    Ok(same)
 }

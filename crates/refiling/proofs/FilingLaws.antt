@@ -32,11 +32,10 @@ use Rattle.name.proofs.Parting.{label-length, parts_next, parts_all, parts_none}
 use Rattle.one_label.proofs.Said.{judged_accepted, judged_refused}
 use Rattle.book_slots.specs.Book.{form_room}
 use Rattle.book_answers.specs.Calls.{fileable}
-use Rattle.refiling.specs.declared.Filed.{Filed}
-use Rattle.refiling.specs.declared.Filed.TheVariants.{Refused, Form}
 use Rattle.refiled.specs.Refiled.{form_by, change_of, changed}
 use Rattle.refiled.specs.Changes.{change_by}
-use Rattle.refiling.specs.Labels.{on_label, filing}
+use Rattle.refiling.specs.declared.FiledForm.{FiledForm}
+use Rattle.refiling.specs.Labels.{Filed, Refused, Form, filed_is, on_label, filing}
 use Rattle.refiling.proofs.Joins.{alike, alike_joined}
 
 -- one accepted label in front of others
@@ -236,3 +235,10 @@ module _ (words name : List ℕ) (work : ℕ) (ix : Sections) (laid : Laid words
             let b : same ≡ alike stop (map answer xs) (labels_of name) = cc in
             formed xs count a (rw (labels_split name some_name) at b)
         go (refused m p) ev f = absurd (let z : ◌≡◌ {A = ℕ} 0 1 = cc in omega arith)
+
+    module _ (r : Result FiledForm Refusal) (e : filed_is r ≡ filing (the_table words) 0 0 0 0 true (labels_of name)) where
+      pub labels_refused : (f : Refusal) → r ≡ Err f → some (number_of f) ≡ changed words work name
+      labels_refused f g = changed_refused (number_of f) (rw g at e)
+
+      pub labels_formed : (f : FiledForm) → r ≡ Ok f → change_by f.length f.same ≡ changed words work name
+      labels_formed f g = changed_form f.length f.same (rw g at e)

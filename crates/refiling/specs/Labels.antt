@@ -1,5 +1,5 @@
 -- The judging of a filed name in the steps that the code takes, label by label.
-use Rattle.std.specs.Prelude.{ℕ, suc, ◌+◌, ◌-◌, ◌≤◌, ◌≡◌, Bool, ◌&&◌, List, [], ◌∷◌, length}
+use Rattle.std.specs.Prelude.{ℕ, suc, ◌+◌, ◌-◌, ◌≤◌, ◌≡◌, Bool, ◌&&◌, List, [], ◌∷◌, length, Result, Ok, Err}
 use Rattle.lists.specs.Lists.{same_list}
 use Rattle.limits.specs.Limits.{least_work}
 use Rattle.answers.specs.Verdict.{Verdict, accepted, refused}
@@ -10,8 +10,19 @@ use Rattle.sections.specs.declared.Sections.{Sections}
 use Rattle.unpaired.specs.Unpaired.{Unpaired}
 use Rattle.memo.specs.Memo.{Memo}
 use Rattle.name.specs.Label.{Label, answer, label_verdict}
-use Rattle.refiling.specs.declared.Filed.{Filed}
-use Rattle.refiling.specs.declared.Filed.TheVariants.{Refused, Form}
+use Rattle.answers.specs.Values.{number_of}
+use Rattle.answers.specs.declared.Refusal.{Refusal}
+use Rattle.refiling.specs.declared.FiledForm.{FiledForm}
+
+-- what the labels of a name give: the number of a refusal, or the length of the form and whether it is the name
+pub data Filed : Type 0 where
+  Refused : ℕ → Filed
+  Form : ℕ → Bool → Filed
+
+-- what an answer stands for
+abbrev pub filed_is : Result FiledForm Refusal → Filed
+filed_is (Ok f) = Form f.length f.same
+filed_is (Err f) = Refused (number_of f)
 
 -- what follows a label's verdict
 abbrev pub on_label : Verdict Label → (Label → Filed) → Filed

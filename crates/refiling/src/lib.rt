@@ -11,20 +11,21 @@ ghost use Rattle.memo.specs.Memo.{Memo};
 ghost use Rattle.name.specs.Name.{labels_of};
 ghost use Rattle.refiled.specs.Refiled.{changed};
 ghost use Rattle.refiled.specs.Changes.{change_is};
-ghost use Rattle.refiling.specs.Labels.{filing, Lent, Lasting};
+ghost use Rattle.refiling.specs.Labels.{filed_is, filing, Lent, Lasting};
 
-use answers::number_of;
+use answers::Refusal;
+use book_answers::BookError;
 use name::admit::first_not_scalar;
 use name::labels::label_end;
 use one_label::judge_label;
-use refiled::{Change, change_by};
+use refiled::change_by;
 use sections::Sections;
 
-// What the labels of a name give: a refusal's number, or the length of the form and whether it is the name.
+// What the labels of a name give: the length of the form, and whether it is the name.
 #[derive(Clone, Copy)]
-pub enum Filed {
-    Refused(u32),
-    Form { length: usize, same: bool },
+pub struct FiledForm {
+    pub length: usize,
+    pub same: bool,
 }
 
 // Judges the labels of a name from the left, and compares the answer of each with the label itself.
@@ -35,10 +36,10 @@ fn file_labels(
     unpaired: &mut [u32],
     w: &mut [u32],
     memo: &mut [u32],
-) -> Filed
+) -> Result<FiledForm, Refusal>
     requires lent { Lent words.now ix unpaired.old w.old memo.old }
     requires in_bounds { (1 ≤ length name.now) × (length name.now ≤ most_input) }
-    ensures value { result ≡ filing (the_table words.now) 0 0 0 0 true (labels_of name.now) }
+    ensures value { filed_is result ≡ filing (the_table words.now) 0 0 0 0 true (labels_of name.now) }
     ensures lasting { Lasting words.now w.old w.new unpaired.new memo.new }
 {
     let mut at = 0;
@@ -49,7 +50,7 @@ fn file_labels(
     // by hand: the step is the label's own length
     while at <= name.len() {
         let end = label_end(name, at);
-        let judged = judge_label(
+        let label = judge_label(
             words,
             ix,
             &name[at..end],
@@ -59,26 +60,22 @@ fn file_labels(
             unpaired,
             w,
             memo,
-        );
-        match judged {
-            Ok(label) => {
-                let alike = buffers::same(&w[..label.length], &name[at..end]);
-                same = same & alike;
-                len += label.length + 1;
-                done += label.worked + 1;
-                place += 1;
-                at = end + 1;
-            }
-            Err(f) => return Filed::Refused(number_of(f)),
-        }
+        )?;
+        let alike = buffers::same(&w[..label.length], &name[at..end]);
+        same = same & alike;
+        len += label.length + 1;
+        done += label.worked + 1;
+        place += 1;
+        at = end + 1;
     }
-    Filed::Form {
+    Ok(FiledForm {
         length: len - 1,
         same,
-    }
+    })
 }
 
-// How the table files a name. What is known of the table alone, `ix`, `unpaired` and `memo`, serves the next name too.
+// How the table files a name: whether as it is filed, or the refusal. What is known of the table alone, `ix`, `unpaired` and `memo`, serves the next name
+// too.
 pub fn refile(
     words: &[u32],
     ix: Sections,
@@ -86,21 +83,15 @@ pub fn refile(
     unpaired: &mut [u32],
     w: &mut [u32],
     memo: &mut [u32],
-) -> Change
+) -> Result<bool, BookError>
     requires lent { Lent words.now ix unpaired.old w.old memo.old }
     requires in_bounds { (1 ≤ length name.now) × (length name.now ≤ most_input) }
     ensures result_value { change_is result ≡ changed words.now (length w.old) name.now }
     ensures lasting { Lasting words.now w.old w.new unpaired.new memo.new }
 {
-    let place = first_not_scalar(name);
-    match place {
-        Some(_) => Change::Moved(4),
-        None => {
-            let filed = file_labels(words, ix, name, unpaired, w, memo);
-            match filed {
-                Filed::Refused(n) => Change::Moved(n),
-                Filed::Form { length, same } => change_by(length, same),
-            }
-        }
+    if let Some(place) = first_not_scalar(name) {
+        return Err(BookError::Refused(Refusal::NotScalar(place)));
     }
+    let form = file_labels(words, ix, name, unpaired, w, memo)?;
+    change_by(form.length, form.same)
 }

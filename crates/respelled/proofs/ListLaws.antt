@@ -1,4 +1,5 @@
 -- The groups that the flags of the look-alike test list, and the ends of the call.
+use Rattle.std.specs.Result.{result_unwrap_or}
 use Rattle.std.specs.Prelude.{Result, Ok, Err}
 use Rattle.answers.specs.declared.AcceptedLabel.{AcceptedLabel}
 use Prim.Native.Nat.{ℕ, zero, suc, ◌+◌, ◌-◌, ◌*◌, ◌≤◌, ◌<◌}
@@ -26,12 +27,10 @@ use Rattle.tokens.specs.Tokens.{Token, tokens_of, worked, normal, joined_tokens,
 use Rattle.tokens.specs.Cells.{Cells}
 use Rattle.normal_cells.specs.Normal.{NormalCells}
 use Rattle.scanning.specs.Scanning.{Tallied, ScanIs, Scans}
-use Rattle.scanning.specs.declared.Tally.{Tally}
-use Rattle.scanning.specs.declared.Scanned.{Scanned}
-use Rattle.scanning.specs.declared.Scanned.TheVariants as scanned
+use Rattle.laying.specs.declared.Tally.{Tally}
 use Rattle.group_numbers.specs.Components.{no_group}
 use Rattle.confusable.specs.Confusable.{is_confused, respells}
-use Rattle.group_flags.specs.Flags.{bit, slots, flags_for}
+use Rattle.group_flags.specs.Flags.{slots, flags_for}
 use Rattle.lookalike.specs.Respelling.{Respellings}
 use Rattle.lookalike.proofs.OutsideLaws.{respells-none}
 use Rattle.label.specs.CellText.{text_at, TextAlone}
@@ -42,8 +41,8 @@ use Rattle.group_list.specs.Places.{places_of, is_set}
 use Rattle.listing.specs.Filling.{Holds}
 use Rattle.listing.specs.Listed.{judged-listed, judged_refused}
 use Rattle.listing.proofs.ListedLaws.{list-kept, list_over}
-use Rattle.respelled.specs.declared.RespelledAnswer.{RespelledAnswer}
-use Rattle.respelled.specs.declared.RespelledAnswer.TheVariants.{Listed, Refused, NoRoom}
+use Rattle.respelled.specs.declared.RespelledError.{RespelledError}
+use Rattle.respelled.specs.declared.RespelledError.TheVariants.{Refused, NoRoom}
 use Rattle.respelled.specs.Respelled.{respelled_in, tested_text, groups_for, before14, respelled_before33, group_listing, respelled_call}
 use Rattle.respelled.specs.Promise.{respelled_values, RespelledCalls}
 use Rattle.respelled.specs.Steps.{Passes, TextStands, LabelListed, entries_of, RespelledJudged}
@@ -56,8 +55,8 @@ module _ (f : Group → Bool) (None-passes : f no_group ≡ false) where
   places_flags at [] = refl
   places_flags at (g ∷ gs) = go (f g) (places_flags (suc at) gs)
     where
-      go : (b : Bool) → places_of is_set (suc at) (map (λ x. bit (f x)) gs) ≡ places_of f (suc at) gs
-          → cond (is_set (bit b)) (at ∷ places_of is_set (suc at) (map (λ x. bit (f x)) gs)) (places_of is_set (suc at) (map (λ x. bit (f x)) gs))
+      go : (b : Bool) → places_of is_set (suc at) (map f gs) ≡ places_of f (suc at) gs
+          → cond (is_set b) (at ∷ places_of is_set (suc at) (map f gs)) (places_of is_set (suc at) (map f gs))
           ≡ cond b (at ∷ places_of f (suc at) gs) (places_of f (suc at) gs)
       go true e = ap (λ (r : List ℕ). at ∷ r) e
       go false e = e
@@ -77,7 +76,7 @@ module _ (f : Group → Bool) (None-passes : f no_group ≡ false) where
   places_slots gs = places_flags 0 (gs ++ replicate (most_groups - length gs) no_group) ∙ places_front (most_groups - length gs) 0 gs
 
 -- what the look-alike test left
-module _ (t : Table) (s fs : List ℕ) (seen : Bool) (r : Respellings t s fs seen) where
+module _ (t : Table) (s : List ℕ) (fs : List Bool) (seen : Bool) (r : Respellings t s fs seen) where
   pub text_unseen : seen ≡ false → (list : List ℕ) → Holds (respelled_in t s) list list 0
   unfolding respelled_in
   text_unseen e list = rw (← r.confused, e) (record { same = refl; long = refl; written = λ h. refl })
@@ -98,13 +97,13 @@ module _ (t : Table) (s fs : List ℕ) (seen : Bool) (r : Respellings t s fs see
       rw (confused, ← same) h
 
 -- the text of a label in the work area
-module _ (t : Table) (l : List ℕ) (p : Passes t l) (w w₁ : List ℕ) (r : Scanned) (s : Scans t l w w₁ r) where
-  pub not_disallowed : (i : ℕ) → r ≡ scanned.Disallowed i → ⊥
+module _ (t : Table) (l : List ℕ) (p : Passes t l) (w w₁ : List ℕ) (r : Result Tally ℕ) (s : Scans t l w w₁ r) where
+  pub not_disallowed : (i : ℕ) → r ≡ Err i → ⊥
   not_disallowed i e =
       let is : first_disallowed 0 (steps t l) ≡ some i = rw e at s.is in
       let z : ◌≡◌ {A = ℕ} 0 1 = cc p.no_5 in omega arith
 
-  module _ (k : Tally) (e : r ≡ scanned.Tokens k) where
+  module _ (k : Tally) (e : r ≡ Ok k) where
     tallied : Tallied t (tokens_of (steps t l)) w₁ k
     tallied = (rw e at s.is).1
 
@@ -163,7 +162,7 @@ module _ (words label list : List ℕ) (ix : Sections) (before after work work' 
   listed_is = rw a.admits
 
   -- accepted: no group is listed
-  pub label_accepted : (n : ℕ) (k : Kind) → r ≡ Ok (record { length = n; kind = k }) → RespelledJudged words label list list work work' (Listed 0)
+  pub label_accepted : (n : ℕ) (k : Kind) → r ≡ Ok (record { length = n; kind = k }) → RespelledJudged words label list list work work' (Ok 0)
   label_accepted n k e =
       let x = told_accepted _ after n k (rw e at j.told) in
       let one : one_label 0 (the_table words) label ≡ accepted x.0 = sym one_is ∙ x.1 in
@@ -177,7 +176,7 @@ module _ (words label list : List ℕ) (ix : Sections) (before after work work' 
     refusal = sym one_is ∙ told_refused _ after f (rw e at j.told)
 
     -- refused before 14
-    pub label_refused : (n : ℕ) → n ≡ number_of f → (n ≡ 14 → ⊥) → RespelledJudged words label list list work work' (Refused f)
+    pub label_refused : (n : ℕ) → n ≡ number_of f → (n ≡ 14 → ⊥) → RespelledJudged words label list list work work' (Err (Refused f))
     label_refused n g h =
         judged_refused group_listing _ list list work work' j.same-work (number_of f) (place_of f)
         (listed_is ∙ rw (refusal, ne_eqb (number_of f) 14 (λ z. h (g ∙ z))) refl) refl
@@ -197,7 +196,7 @@ module _ (words label list : List ℕ) (ix : Sections) (before after work work' 
       single (x ∷ gs) = ap (λ (y : List ℕ). x ∷ y) (single gs)
 
       pub label_14 : (list' work'' : List ℕ) (n' : ℕ) → LabelListed (the_table words) label list list' work' work'' n'
-          → RespelledJudged words label list list' work work'' (Listed n')
+          → RespelledJudged words label list list' work work'' (Ok n')
       label_14 list' work'' n' s =
           let gs : List ℕ = groups_for (the_table words) label in
           let fourteen : number_of f ≡ 14 = sym g ∙ h in
@@ -208,7 +207,7 @@ module _ (words label list : List ℕ) (ix : Sections) (before after work work' 
 
 -- 1 to 4
 pub not_admitted : (words label list work : List ℕ) (f : Refusal) → admitted words (length work) label ≡ refused (number_of f) (place_of f)
-    → RespelledJudged words label list list work work (Refused f)
+    → RespelledJudged words label list list work work (Err (Refused f))
 unfolding respelled_before33
 not_admitted words label list work f e = judged_refused group_listing _ list list work work refl (number_of f) (place_of f) (rw e refl) refl
 
@@ -216,8 +215,13 @@ pub refused_by : (words label : List ℕ) (work : ℕ) (r : Result Sections Refu
     → admitted words work label ≡ refused (number_of f) (place_of f)
 refused_by words label work r h f e = rw e at h
 
+-- none beside a refusal
+pub entries_is : (r : Result ℕ RespelledError) → result_unwrap_or r 0 ≡ entries_of r
+entries_is (Ok n) = refl
+entries_is (Err e) = refl
+
 -- the ends of the call
-module _ (words label list mid list' work mid-work work' : List ℕ) (r : RespelledAnswer) (j : RespelledJudged words label list mid work mid-work r)
+module _ (words label list mid list' work mid-work work' : List ℕ) (r : Result ℕ RespelledError) (j : RespelledJudged words label list mid work mid-work r)
     (n : ℕ) (e : n ≡ entries_of r) (kept : Bool) (f : Finishes mid list' mid-work work' n kept) where
   one_each : n ≡ 1 * entries_of r
   one_each = omega (arith, e)
@@ -226,6 +230,6 @@ module _ (words label list mid list' work mid-work work' : List ℕ) (r : Respel
   unfolding respelled_call
   respelled_kept = list-kept group_listing list mid list' work mid-work work' (respelled_values r) _ j n one_each kept f
 
-  pub respelled_over : kept ≡ false → RespelledCalls words label list list' work work' NoRoom
+  pub respelled_over : kept ≡ false → RespelledCalls words label list list' work work' (Err NoRoom)
   unfolding respelled_call
   respelled_over = list_over group_listing list mid list' work mid-work work' (respelled_values r) _ j n one_each kept f

@@ -1,5 +1,5 @@
 -- What the inner functions of this crate answer.
-use Rattle.std.specs.Prelude.{ℕ, ◌≤◌, ◌≡◌, false, ◌||◌, List, length, take, drop}
+use Rattle.std.specs.Prelude.{ℕ, ◌≤◌, ◌≡◌, false, ◌||◌, List, length, take, drop, Result}
 use Rattle.std.proofs.Math.Option.{none}
 use Rattle.limits.specs.Limits.{most_worked}
 use Rattle.ending.specs.Ends.{Judged}
@@ -8,7 +8,7 @@ use Rattle.tokens.specs.Scan.{steps, first_disallowed}
 use Rattle.tokens.specs.Tokens.{tokens_of, worked, normal, joined_text}
 use Rattle.label.specs.Judge.{only_emoji, only_ascii}
 use Rattle.listing.specs.Filling.{Holds}
-use Rattle.respelled.specs.declared.RespelledAnswer.{RespelledAnswer}
+use Rattle.respelled.specs.declared.RespelledError.{RespelledError}
 use Rattle.respelled.specs.Respelled.{groups_for, respelled_before33, group_listing}
 use Rattle.respelled.specs.Promise.{respelled_values}
 
@@ -30,10 +30,10 @@ pub record LabelListed (t : Table) (l list list' w w' : List ℕ) (r : ℕ) : Ty
   pub same-work : length w' ≡ length w
 
 -- how many entries an answer has
-abbrev pub entries_of : RespelledAnswer → ℕ
+abbrev pub entries_of : Result ℕ RespelledError → ℕ
 entries_of r = (respelled_values r).entries
 
 -- what is judged before 33
-abbrev pub RespelledJudged : List ℕ → List ℕ → List ℕ → List ℕ → List ℕ → List ℕ → RespelledAnswer → Type 0
+abbrev pub RespelledJudged : List ℕ → List ℕ → List ℕ → List ℕ → List ℕ → List ℕ → Result ℕ RespelledError → Type 0
 RespelledJudged words label list list' work work' r =
     Judged group_listing (respelled_before33 words label (length work)) list list' work work' (respelled_values r)

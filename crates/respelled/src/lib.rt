@@ -8,10 +8,11 @@ ghost use Rattle.sections.specs.Laid.{Laid};
 ghost use Rattle.name.specs.Admission.{Admits};
 ghost use Rattle.listing.specs.Filling.{Holds};
 ghost use Rattle.respelled.specs.Respelled.{respelled_in};
-ghost use Rattle.respelled.specs.Promise.{RespelledCalls};
-ghost use Rattle.respelled.specs.Steps.{Passes, TextStands, LabelListed, RespelledJudged, entries_of};
+ghost use Rattle.respelled.specs.Promise.{respelled_number, respelled_place, RespelledCalls};
+ghost use Rattle.respelled.specs.declared.RespelledError.TheVariants.{Refused};
+ghost use Rattle.respelled.specs.Steps.{Passes, TextStands, LabelListed, RespelledJudged};
 
-use answers::{Refusal, number_of};
+use answers::Refusal;
 use ending::finish;
 use group_list::list_flags;
 use label::cells::text_alone;
@@ -21,17 +22,46 @@ use lookalike::respellings;
 use memo::MEMO;
 use name::admit::admit;
 use normal_cells::normalise;
-use scanning::{Scanned, scan};
+use scanning::scan;
 use sections::Sections;
 use unpaired::KNOWN_WORDS;
 use unpaired::index::index_pairs;
 
-// What the call answers: how many groups stand in the list, or why there are none.
+// Why the call lists no groups.
 #[derive(Clone, Copy)]
-pub enum RespelledAnswer {
-    Listed(usize),
+pub enum RespelledError {
     Refused(Refusal),
     NoRoom,
+}
+
+impl RespelledError {
+    // The number of the refusal.
+    pub fn number(self) -> u32
+        ensures { result ≡ respelled_number self }
+    {
+        match self {
+            RespelledError::Refused(f) => f.number(),
+            RespelledError::NoRoom => 33,
+        }
+    }
+
+    // Its place.
+    pub fn place(self) -> usize
+        ensures { result ≡ respelled_place self }
+    {
+        match self {
+            RespelledError::Refused(f) => f.place(),
+            RespelledError::NoRoom => 0,
+        }
+    }
+}
+
+impl From<Refusal> for RespelledError {
+    ghost from_gives = { λ f e. e ≡ Refused f };
+
+    fn from(f: Refusal) -> RespelledError {
+        RespelledError::Refused(f)
+    }
 }
 
 // Lists the groups in which a text could be respelled: none without a confused character.
@@ -40,7 +70,7 @@ fn list_text(words: &[u32], ix: Sections, text: &[u32], list: &mut [u32]) -> usi
     ensures { Holds (respelled_in (the_table words.now) text.now) list.old list.new result }
 {
     let mut memo = [0; MEMO];
-    let mut flags = [1; 256];
+    let mut flags = [true; 256];
     let seen = respellings(words, ix, text, &mut memo[0..MEMO], &mut flags);
     if !seen {
         return 0;
@@ -57,8 +87,8 @@ fn label_text(words: &[u32], ix: Sections, label: &[u32], w: &mut [u32]) -> usiz
 {
     let scanned = scan(words, ix, label, w);
     match scanned {
-        Scanned::Disallowed(_) => 0,
-        Scanned::Tokens(tally) => {
+        Err(_) => 0,
+        Ok(tally) => {
             let mut unpaired = [0u32; KNOWN_WORDS];
             index_pairs(words, ix, &mut unpaired);
             let n = normalise(words, ix, &mut unpaired, w, tally.worked);
@@ -92,21 +122,21 @@ fn list_label(
     label: &[u32],
     list: &mut [u32],
     work: &mut [u32],
-) -> RespelledAnswer
+) -> Result<usize, RespelledError>
     requires { Admits words.now label.now (length work.old) ix }
     ensures { RespelledJudged words.now label.now list.old list.new work.old work.new result }
 {
     let mut room = [0u32; 0];
     let judged = judge_input(0, words, label, &mut room, work);
     match judged {
-        Ok(_) => RespelledAnswer::Listed(0),
+        Ok(_) => Ok(0),
         Err(f) => {
-            let number = number_of(f);
+            let number = f.number();
             if number != 14 {
-                return RespelledAnswer::Refused(f);
+                return Err(RespelledError::Refused(f));
             }
             let entries = list_refused(words, ix, label, list, work);
-            RespelledAnswer::Listed(entries)
+            Ok(entries)
         }
     }
 }
@@ -117,25 +147,11 @@ fn respelled_judged(
     words: &[u32],
     list: &mut [u32],
     work: &mut [u32],
-) -> RespelledAnswer
+) -> Result<usize, RespelledError>
     ensures { RespelledJudged words.now input.now list.old list.new work.old work.new result }
 {
-    let admitted = admit(words, input, work.len());
-    match admitted {
-        Err(f) => RespelledAnswer::Refused(f),
-        Ok(ix) => list_label(words, ix, input, list, work),
-    }
-}
-
-// The entries of an answer; none beside a refusal.
-fn entries_of(answer: RespelledAnswer) -> usize
-    ensures { result ≡ entries_of answer }
-{
-    match answer {
-        RespelledAnswer::Listed(n) => n,
-        RespelledAnswer::Refused(_) => 0,
-        RespelledAnswer::NoRoom => 0,
-    }
+    let ix = admit(words, input, work.len())?;
+    list_label(words, ix, input, list, work)
 }
 
 // Lists the groups in which a label could be respelled, by their numbers from 0. The words of the list behind them, and the work area, are
@@ -145,13 +161,13 @@ pub fn respelled(
     words: &[u32],
     list: &mut [u32],
     work: &mut [u32],
-) -> RespelledAnswer
+) -> Result<usize, RespelledError>
     ensures { RespelledCalls words.now input.now list.old list.new work.old work.new result }
 {
     let judged = respelled_judged(input, words, list, work);
-    let entries = entries_of(judged);
+    let entries = judged.unwrap_or(0);
     if !finish(list, work, entries) {
-        return RespelledAnswer::NoRoom;
+        return Err(RespelledError::NoRoom);
     }
     judged
 }

@@ -4,7 +4,7 @@
 ghost use Rattle.std.specs.Prelude.{◌≡◌, length};
 ghost use Rattle.trim.specs.Trim.{is_blank, start_of, off_back, remaining, Remains};
 
-// Where a part of a slice starts, and its length.
+// Where a part of a slice starts, and its length: C takes it as it is, so it is no span with an end.
 #[repr(C)]
 #[derive(Clone, Copy)]
 pub struct Part {
@@ -20,7 +20,7 @@ pub fn is_blank(c: u32) -> bool
     c == 0x9 || c == 0xA || c == 0xD || c == 0x20
 }
 
-// The place of the first codepoint that is no blank, the length where there is none.
+// The place of the first codepoint that is no blank, the length where there is none: a place to cut at, so there always is one.
 fn start_of(input: &[u32]) -> usize
     ensures { result ≡ start_of input.now }
 {

@@ -3,9 +3,6 @@ use native.Mathlib.Omega.{arith}
 use Rattle.book_damage.proofs.Damages.{too_long, words-past, account_left, not_damaged}
 use Rattle.book_damage.proofs.slot_damaged.Goals as goal
 
-pub overflow_cast-n : goal.overflow_cast-n
-overflow_cast-n c = omega (arith, c.type_inv.slot 0)
-
 pub returns-then-n-gt-FORM : goal.returns-then-n-gt-FORM
 returns-then-n-gt-FORM c = too_long c.args.slot.now c.if-n-gt-FORM.true
 
@@ -19,7 +16,7 @@ returns-then-n-eq0 c =
     let t = c in
     let z = t in
     account_left z.args.slot.now (omega arith) _ z.all_zero.ensures t.if-not-all_zero.false-raw
-    t.if-n-eq0.true _ c.all_zero-then-n-eq0.ensures
+    c.told-slot t.if-n-eq0.true _ c.all_zero-then-n-eq0.ensures
 
 pub returns : goal.returns
 returns c =

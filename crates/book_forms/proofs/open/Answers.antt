@@ -6,11 +6,7 @@ pub returns-then-area-ne-AREA : goal.returns-then-area-ne-AREA
 returns-then-area-ne-AREA c = other_size c.args.area.now c.if-area-ne-AREA.true
 
 pub returns-then-is_damaged : goal.returns-then-is_damaged
-returns-then-is_damaged c =
-    let e = c in
-    is_damaged e.args.area.now e.if-area-ne-AREA.false _ c.is_damaged.ensures c.if-is_damaged.true
+returns-then-is_damaged c = is_damaged c.args.area.now c.if-area-ne-AREA.false _ c.slots_of-slots.ensures _ c.is_damaged.ensures c.if-is_damaged.true
 
 pub returns : goal.returns
-returns c =
-    let e = c in
-    is_whole e.args.area.now e.if-area-ne-AREA.false _ c.is_damaged.ensures c.if-is_damaged.false
+returns c = is_whole c.args.area.now c.if-area-ne-AREA.false _ c.slots_of-slots.ensures _ c.is_damaged.ensures c.if-is_damaged.false

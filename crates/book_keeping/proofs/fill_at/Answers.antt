@@ -5,4 +5,4 @@ use Rattle.book_keeping.proofs.fill_at.Goals as goal
 pub returns : goal.returns
 returns c =
     let s = c in
-    put_at _ _ s.args.slots.now s.requires.slots_len s.requires.i_lt_count _ _ c.fill_slot.ensures
+    put_at _ s.args.slots.now s.requires.slots_len s.requires.i_lt_count _ _ c.fill_slot.ensures

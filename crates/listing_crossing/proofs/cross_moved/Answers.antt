@@ -5,4 +5,4 @@ use Rattle.listing_crossing.proofs.cross_moved.Goals as goal
 pub returns : goal.returns
 returns c =
     let u = c.moved-told.ensures in
-    record { values = c.moved_fields.ensures ∙ u.values; answer = u.answer; cleared = u.cleared }
+    record { values = c.from.ensures ∙ u.values; answer = u.answer; cleared = u.cleared }

@@ -1,9 +1,9 @@
-use Prim.Native.Nat.{◌-◌}
 use native.Mathlib.Omega.{arith}
 use mathlib.Core.Path.{refl, sym, ◌∙◌}
-use Rattle.book_slots.specs.Book.{slot_count}
-use Rattle.book_slots.proofs.Walking.{part_long}
-use Rattle.moved.proofs.MovedLaws.{slot_whole, walk_start, walk_end, walk_more}
+use mathlib.Core.List.{[]}
+use Rattle.book_slots.specs.Damage.{slot_damaged}
+use Rattle.book_damage.proofs.Damages.{none-at}
+use Rattle.moved.proofs.MovedLaws.{walk_start, walk_end, walk_more}
 use Rattle.moved.proofs.list_slots.Goals as goal
 
 pub loop-i-init : goal.loop-i-init
@@ -11,32 +11,23 @@ loop-i-init c =
     let p = c.requires in
     (walk_start _ _ _ _, record { same = refl; pairs = p.lent.pairs; remembered = p.lent.remembered })
 
-pub slice_bounds-slot_change-end : goal.slice_bounds-slot_change-end
-slice_bounds-slot_change-end c = omega (arith, c.requires.slots_len.0, c.loop-i-test.true)
-
 pub slot_change-change-requires : goal.slot_change-change-requires
 slot_change-change-requires c =
     let p = c.requires in
     let i = c.loop-i.invariant in
-    let h = c.loop-i-test.true in record { slot_len = (part_long slot_count c.loop-i.i _ p.slots_len.0 h, slot_whole c.loop-i.i _ p.slots_len.1 h); lent = record { laid = p.lent.laid; pairs = i.1.pairs; enough = omega (arith, p.lent.enough, i.1.same); remembered = i.1.remembered } }
+    record { whole = none-at slot_damaged _ c.loop-i.i [] p.whole.1 c.loop-i-test.true; lent = record { laid = p.lent.laid; pairs = i.1.pairs; enough = omega (arith, p.lent.enough, i.1.same); remembered = i.1.remembered } }
 
 pub put_entry-len-requires : goal.put_entry-len-requires
 put_entry-len-requires c =
     let i = c.loop-i.invariant.0 in
     let h = c.loop-i-test.true in
-    (omega (arith, i.few, h), omega (arith, h))
-
-pub overflow_add-i : goal.overflow_add-i
-overflow_add-i c = omega (arith, c.loop-i-test.true)
-
-pub loop-i-smaller : goal.loop-i-smaller
-loop-i-smaller c = omega (arith, c.loop-i-test.true)
+    (omega (arith, i.few, h, c.requires.whole.0), omega (arith, h, c.requires.whole.0))
 
 pub loop-i-preserved : goal.loop-i-preserved
 loop-i-preserved c =
     let i = c.loop-i.invariant in
     let s = c.slot_change-change.ensures in (
-      walk_more _ _ _ _ _ _ _ i.0 c.loop-i-test.true _ (rw i.1.same at s.result_value) _ _ c.put_entry-len.ensures,
+      walk_more _ _ _ _ _ _ _ i.0 c.loop-i-test.true [] _ (rw i.1.same at s.result_value) _ _ c.put_entry-len.ensures,
       record { same = s.lasting.same ∙ i.1.same; pairs = s.lasting.pairs; remembered = s.lasting.remembered },
     )
 

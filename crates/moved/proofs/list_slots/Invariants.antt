@@ -1,13 +1,8 @@
 -- `list_slots`: after each turn the entries of the slots before the next stand in the list.
-use Prim.Native.Nat.{◌-◌}
 use lib.ListN.{length}
-use Rattle.book_slots.specs.Book.{slot_count}
 use Rattle.refiling.specs.Labels.{Lasting}
 use Rattle.moved.proofs.MovedLaws.{Walked}
 use Rattle.moved.proofs.list_slots.Given as goal
 
 abbrev pub invariant-loop-i : goal.invariant-loop-i
 invariant-loop-i l = Walked l.words (length l.initial.w) l.slots l.initial.list l.list l.len l.i × Lasting l.words l.initial.w l.w l.unpaired l.memo
-
-abbrev pub decreases-loop-i : goal.decreases-loop-i
-decreases-loop-i l = slot_count - l.i

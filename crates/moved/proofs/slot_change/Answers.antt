@@ -4,24 +4,21 @@ use mathlib.Core.Path.{refl, sym, ◌∙◌}
 use Rattle.moved.proofs.MovedLaws.{free_stays, form_short, filed_change, name_long}
 use Rattle.moved.proofs.slot_change.Goals as goal
 
-pub overflow_cast-n : goal.overflow_cast-n
-overflow_cast-n c = omega (arith, c.type_inv.slot 0)
-
 pub returns-then-n-eq0 : goal.returns-then-n-eq0
 returns-then-n-eq0 c =
     let p = c.requires in
     record { result_value = free_stays _ _ c.args.slot.now c.if-n-eq0.true; lasting = record { same = refl; pairs = p.lent.pairs; remembered = p.lent.remembered } }
 
 pub overflow_add-end : goal.overflow_add-end
-overflow_add-end c = omega (arith, form_short c.args.slot.now c.requires.slot_len.1)
+overflow_add-end c = omega (arith, form_short c.args.slot.now c.requires.whole)
 
 pub slice_bounds-refile-end : goal.slice_bounds-refile-end
-slice_bounds-refile-end c = omega (arith, form_short c.args.slot.now c.requires.slot_len.1, c.requires.slot_len.0)
+slice_bounds-refile-end c = omega (arith, form_short c.args.slot.now c.requires.whole)
 
 pub refile-requires : goal.refile-requires
 refile-requires c =
     let p = c.requires in
-    record { lent = p.lent; in_bounds = name_long c.args.slot.now p.slot_len.1 p.slot_len.0 c.if-n-eq0.false }
+    record { lent = p.lent; in_bounds = name_long c.args.slot.now p.whole c.told-slot c.if-n-eq0.false }
 
 pub shape_of-unpaired : goal.shape_of-unpaired
 shape_of-unpaired c = c.refile.ensures.lasting.pairs.size ∙ sym c.requires.lent.pairs.size
@@ -35,4 +32,4 @@ shape_of-memo c = c.refile.ensures.lasting.remembered.size ∙ sym c.requires.le
 pub returns : goal.returns
 returns c =
     let r = c.refile.ensures in
-    record { result_value = filed_change _ _ c.args.slot.now c.requires.slot_len.1 c.if-n-eq0.false _ r.result_value; lasting = r.lasting }
+    record { result_value = filed_change _ _ c.args.slot.now c.requires.whole c.if-n-eq0.false _ r.result_value; lasting = r.lasting }

@@ -1,15 +1,12 @@
--- `change_by`: each return is one of the tests.
-use borrow.Author.Tests.{eq-eqb, ne_eqb, lt-ltb, le-ltb}
+-- `change_by`: 42 and 43, or whether it is the name.
+use Rattle.std.proofs.lemmas.Result.{err_from_is_err_and}
+use Rattle.refiled.proofs.ChangeLaws.{refused_change, form_change}
 use Rattle.refiled.proofs.change_by.Goals as goal
 
-pub returns-then-length-eq0 : goal.returns-then-length-eq0
-returns-then-length-eq0 c = rw (eq-eqb _ _ c.if-length-eq0.true)
-
-pub returns-then-length-gt-FORM : goal.returns-then-length-gt-FORM
-returns-then-length-gt-FORM c = rw (ne_eqb _ _ c.if-length-eq0.false, lt-ltb _ _ c.if-length-gt-FORM.true)
-
-pub returns-then-same : goal.returns-then-same
-returns-then-same c = rw (ne_eqb _ _ c.if-length-eq0.false, le-ltb _ _ c.if-length-gt-FORM.false, c.if-same.true)
+pub returns-in_err-check_length : goal.returns-in_err-check_length
+returns-in_err-check_length c =
+    let p = err_from_is_err_and c.from_residual.result c.from_residual.ensures.1 in
+    rw (p.1, p.2) (refused_change _ _ _ c.check_length.ensures _ c.in_err-check_length.was)
 
 pub returns : goal.returns
-returns c = rw (ne_eqb _ _ c.if-length-eq0.false, le-ltb _ _ c.if-length-gt-FORM.false, c.if-same.false)
+returns c = form_change _ _ _ c.check_length.ensures _ c.in_ok-check_length.was

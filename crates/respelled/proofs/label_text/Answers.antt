@@ -14,24 +14,24 @@ pub normalise-n-requires : goal.normalise-n-requires
 normalise-n-requires c =
     let p = c.requires in
     let s = c.scan-scanned.ensures in
-    record { laid = p.laid; unpaired = c.index_pairs.ensures; least_work_in_bounds = (omega (arith, p.least_work_in_bounds.0, s.same), worked_few _ _ p.passes _ _ _ s _ c.in-Tokens.is) }
+    record { laid = p.laid; unpaired = c.index_pairs.ensures; least_work_in_bounds = (omega (arith, p.least_work_in_bounds.0, s.same), worked_few _ _ p.passes _ _ _ s _ c.in-Ok.is) }
 
 pub text_alone-requires : goal.text_alone-requires
 text_alone-requires c =
     let p = c.requires in
     let s = c.scan-scanned.ensures in
     let n = c.normalise-n.ensures.normal_cells in
-    record { least_work_in_bounds = omega (arith, p.least_work_in_bounds.0, s.same, n.same); n_le_most_worked = omega (arith, n.few, worked_few _ _ p.passes _ _ _ s _ c.in-Tokens.is) }
+    record { least_work_in_bounds = omega (arith, p.least_work_in_bounds.0, s.same, n.same); n_le_most_worked = omega (arith, n.few, worked_few _ _ p.passes _ _ _ s _ c.in-Ok.is) }
 
-pub shape_of-w-in-Disallowed : goal.shape_of-w-in-Disallowed
-shape_of-w-in-Disallowed c = c.scan-scanned.ensures.same
+pub shape_of-w-in-Err : goal.shape_of-w-in-Err
+shape_of-w-in-Err c = c.scan-scanned.ensures.same
 
-pub returns-in-Disallowed : goal.returns-in-Disallowed
-returns-in-Disallowed c = absurd (not_disallowed _ _ c.requires.passes _ _ _ c.scan-scanned.ensures _ c.in-Disallowed.is)
+pub returns-in-Err : goal.returns-in-Err
+returns-in-Err c = absurd (not_disallowed _ _ c.requires.passes _ _ _ c.scan-scanned.ensures _ c.in-Err.is)
 
-pub shape_of-w-in-Tokens : goal.shape_of-w-in-Tokens
-shape_of-w-in-Tokens c = c.text_alone.ensures.same ∙ (c.normalise-n.ensures.normal_cells.same ∙ c.scan-scanned.ensures.same)
+pub shape_of-w-in-Ok : goal.shape_of-w-in-Ok
+shape_of-w-in-Ok c = c.text_alone.ensures.same ∙ (c.normalise-n.ensures.normal_cells.same ∙ c.scan-scanned.ensures.same)
 
-pub returns-in-Tokens : goal.returns-in-Tokens
-returns-in-Tokens c =
-    text_stands _ _ c.requires.passes _ _ _ c.scan-scanned.ensures _ c.in-Tokens.is _ _ c.normalise-n.ensures.normal_cells _ _ c.text_alone.ensures
+pub returns-in-Ok : goal.returns-in-Ok
+returns-in-Ok c =
+    text_stands _ _ c.requires.passes _ _ _ c.scan-scanned.ensures _ c.in-Ok.is _ _ c.normalise-n.ensures.normal_cells _ _ c.text_alone.ensures

@@ -1,9 +1,7 @@
 -- `list_text`: the groups whose flags the look-alike test left, or none.
 use mathlib.Core.Path.{refl}
 use borrow.Author.Tests.{not-true, not-false}
-use Rattle.sections.proofs.SectionLaws.{laid_reads}
 use Rattle.memo.proofs.MemoLaws.{memo_new}
-use Rattle.lookalike.proofs.RespellingLaws.{respelt_size}
 use Rattle.respelled.proofs.ListLaws.{text_unseen, text_seen}
 use Rattle.respelled.proofs.list_text.Goals as goal
 
@@ -12,9 +10,6 @@ respellings-seen-requires c = record { laid = c.requires; memo = memo_new _; fla
 
 pub returns-then-not-seen : goal.returns-then-not-seen
 returns-then-not-seen c = text_unseen _ _ _ _ c.respellings-seen.ensures.respellings (not-true _ c.if-not-seen.true-raw) _
-
-pub list_flags-requires : goal.list_flags-requires
-list_flags-requires c = respelt_size _ _ _ _ c.respellings-seen.ensures.respellings (laid_reads _ _ c.requires).few
 
 pub shape_of-list : goal.shape_of-list
 shape_of-list c = c.list_flags.ensures.same

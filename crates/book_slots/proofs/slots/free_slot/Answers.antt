@@ -1,12 +1,12 @@
-use native.Mathlib.Omega.{arith}
-use Rattle.book_slots.proofs.Walking.{free_here, filed_here, place_stop, place_hit, place_more}
+use Rattle.std.proofs.Common.{rules, tests}
+use Rattle.std.proofs.lemmas.Iterator.{YieldsList-from_slice}
+use Rattle.std.proofs.lemmas.Iterator.Search.{position_from_yields_List}
+use Rattle.book_slots.specs.Book.{slot_of, is_free}
+use Rattle.book_slots.proofs.Walking.{first_place}
 use Rattle.book_slots.proofs.slots.free_slot.Goals as goal
 
-pub returns-then-slots-i-eq0 : goal.returns-then-slots-i-eq0
-returns-then-slots-i-eq0 c = place_hit _ _ _ _ c.loop-i.invariant (omega arith) (free_here c.loop-i.i c.args.slots.now c.if-slots-i-eq0.true)
-
-pub loop-i-preserved : goal.loop-i-preserved
-loop-i-preserved c = place_more _ _ _ _ c.loop-i.invariant (omega arith) (filed_here c.loop-i.i c.args.slots.now c.if-slots-i-eq0.false)
-
 pub returns : goal.returns
-returns c = place_stop _ _ _ _ c.loop-i.invariant (omega arith)
+returns c =
+    let s = c.args.slots.now in
+    first_place is_free s _
+    (position_from_yields_List (λ a. is_free (slot_of a)) _ _ c.position.result c.position.ensures.ran (YieldsList-from_slice s cc) (λ x b q k. search (rules, tests)))

@@ -9,4 +9,4 @@ returns-then-n-form c = other_length c.args.slot.now c.args.form.now c.if-n-form
 pub returns : goal.returns
 returns c =
     let s = c in
-    same_length s.args.slot.now s.args.form.now _ s.requires.form_len_bound (omega arith) c.same.ensures
+    same_length s.args.slot.now s.args.form.now _ s.requires (omega arith) c.same.ensures
