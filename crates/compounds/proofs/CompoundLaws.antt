@@ -8,17 +8,19 @@ use mathlib.Core.Option.{Option, none, some}
 use lib.ListN.{length, get_or, take, drop, length-drop, drop_of_length-le}
 use lib.Seq.{drop-drop}
 use lib.Dec.{leb}
+use Rattle.std.specs.Borrow.{Bor}
+use Rattle.std.specs.List.{prefix_len}
 use Rattle.std.specs.Bool.{then_some}
 use Rattle.std.specs.Option.{MatchOption}
-use Rattle.lists.specs.Lists.{all, is_empty, is_some, same_list, and_then}
+use Rattle.lists.specs.Lists.{all, take_with, is_empty, is_some, same_list, and_then}
 use Rattle.table.specs.declared.Span.{Span}
 use Rattle.table.specs.declared.GroupRecord.{GroupRecord}
 use Rattle.table.specs.Table.{Range, Group, Table}
 use Rattle.table.specs.Layout.{most_flags, in_front, ranges, sequences, is_whitelisted, has_list, flags_fit, group, GroupEnd, group_end, groups, the_table}
 use Rattle.table.specs.Spans.{Fits, within}
 use Rattle.table.specs.Part.{SequencesAt, SequenceHere, records_in, counted_at}
-use Rattle.table.specs.GroupPart.{groups_in, GroupsPart, group_at, ListHere}
-use Rattle.table.proofs.Lookups.{drop-next, Walk, none-some, false_true, both, only_if-some, in_front-some, and_then-some, behind, within-within, behind-fits}
+use Rattle.table.specs.GroupPart.{groups_in, GroupsPart, group_at, ListHere, ListAt}
+use Rattle.table.proofs.Lookups.{drop-next, Walk, none-some, false_true, both, only_if-some, in_front-some, and_then-some}
 use Rattle.table.proofs.Records.{records_start, sequences_end, sequences_step, sequence-fits, sequence_items}
 use Rattle.table.proofs.ListSizes.{rest_of}
 use Rattle.table.proofs.GroupWalks.{GroupWalk, group_start, group-stop, group_here_lem, group_here, group_on, list_here, group_uncounted}
@@ -26,33 +28,17 @@ use Rattle.sections.specs.declared.Sections.{Sections}
 use Rattle.sections.specs.Laid.{Laid}
 use Rattle.sections.proofs.SectionLaws.{laid_reads}
 use Rattle.spelling.specs.Spelling.{is_mark}
-use Rattle.compounds.specs.ListAt.{ListAt}
+use Rattle.compounds.specs.ListIs.{ListIs}
 use Rattle.compounds.specs.Compounds.{marks_of, compounds, in_list, compounds_fit, one_fits, list_of}
 
--- The marks in front: the first n codepoints are marks.
-pub record Marks (t : Table) (s : List ℕ) (n : ℕ) : Type 0 where
-  pub inside : n ≤ length s
-  pub count : length (marks_of t s) ≡ n + length (marks_of t (drop n s))
-
-module _ (t : Table) (s : List ℕ) where
-  pub marks_start : Marks t s 0
-  marks_start = record { inside = omega arith; count = omega arith }
-
-  module _ (n : ℕ) (w : Marks t s n) where
-    pub marks_on : n < length s → is_mark t (get_or s n 0) ≡ true → Marks t s (n + 1)
-    marks_on h e =
-        let more : length (marks_of t s) ≡ n + suc (length (marks_of t (drop (n + 1) s))) = rw (drop-next s n h, e) at w.count in
-        record { inside = omega arith; count = omega arith }
-
-    pub marks-stop : n < length s → is_mark t (get_or s n 0) ≡ false → n ≡ length (marks_of t s)
-    marks-stop h e =
-        let none_left : length (marks_of t s) ≡ n + 0 = rw (drop-next s n h, e) at w.count in
-        omega arith
-
-    pub marks_end : length s ≤ n → length s ≡ length (marks_of t s)
-    marks_end h =
-        let none_left : length (marks_of t s) ≡ n + 0 = rw (drop_of_length-le s h) at w.count in
-        omega (arith, w.inside)
+-- the elements in front that pass, in std's words and in those of `lists`
+pub prefix_with : (p : ℕ → Bool) (s : List ℕ) → prefix_len p s ≡ length (take_with p s)
+prefix_with p [] = refl
+prefix_with p (x ∷ s) = go (p x) (prefix_with p s)
+  where
+    go : (b : Bool) → prefix_len p s ≡ length (take_with p s) → cond b (1 + prefix_len p s) 0 ≡ length (cond b (x ∷ take_with p s) [])
+    go true e = omega (arith, e)
+    go false e = refl
 
 pub marks-behind : (t : Table) (s : List ℕ) (at n : ℕ) → n ≡ length (marks_of t (take (length s - at) (drop at s))) → n ≡ length (marks_of t (drop at s))
 marks-behind t s at n e = rw (rest_of s at) at e
@@ -211,7 +197,7 @@ module _ (part : List ℕ) (number : ℕ) where
     to_stop h = rw (group-stop part 0 at (ListLeft part number n) w h)
 
     module _ (h : at < length part) (v : GroupRecord) (e : v ≡ group_at part at) where
-      pub to_here : n ≡ 0 → ListHere part v.listed v.list (list_of (groups_in part) number)
+      pub to_here : n ≡ 0 → ListHere part v.list (list_of (groups_in part) number)
       unfolding list_of
       to_here z =
           let here = group_here_lem part 0 at (ListLeft part number n) w h in
@@ -232,17 +218,9 @@ module _ (part : List ℕ) (number : ℕ) where
           less zero i rest = absurd (i refl)
           less (suc k) i rest = let j : suc k - 1 ≡ k = omega arith in rw j
 
--- the list of a group, by its flag and its place
-module _ (ws : List ℕ) (s : Span) (list : Option (List (List ℕ))) where
-  pub list-told : (b : Bool) → ListHere ws b s list → MatchOption (then_some b s) (list ≡ none) (λ r. ListAt ws r list)
-  list-told true h = record { fits = h.fits; holds = h.holds; same = h.same }
-  list-told false h = h.same
-
--- the list of a part of the words, by its place among all
-pub list-behind : (ws : List ℕ) (s t : Span) (list : Option (List (List ℕ))) → Fits ws s → ListAt (within s ws) t list → ListAt ws (behind s.from t) list
-list-behind ws s t list f h =
-    let same : within t (within s ws) ≡ within (behind s.from t) ws = within-within ws s t f h.fits in
-    record { fits = behind-fits ws s t f h.fits; holds = rw same at h.holds; same = rw same at h.same }
+-- the list of a group, by its place
+pub list-told : (ws : List ℕ) (list : Option (List (List ℕ))) (s : Span) (found : Bor (List ℕ)) → found.now ≡ within s ws → ListAt ws s list → ListIs found.now list
+list-told ws list s found e h = rw e (record { holds = h.holds; same = h.same })
 
 -- a list permits the text, or there is none
 pub fits_unasked : (white b : Bool) → not white ≡ true → true ≡ (not white || b)
@@ -258,9 +236,9 @@ module _ (t : Table) (list : Option (List (List ℕ))) (text : List ℕ) where
   unfolding compounds_fit
   fits_unlisted e = rw e
 
-  pub fits-listed : (ws : List ℕ) (s : Span) → ListAt ws s list → all (in_list (records_in sequences (within s ws))) (compounds t text) ≡ compounds_fit t list text
+  pub fits-listed : (words : List ℕ) → ListIs words list → all (in_list (records_in sequences words)) (compounds t text) ≡ compounds_fit t list text
   unfolding compounds_fit
-  fits-listed ws s l = rw l.same
+  fits-listed words l = rw l.same
 
 -- "flag 4, allowed only beside flag 2": a group with a list is whitelisted, in every table that is read from words
 abbrev pub listed_white : Group → Bool

@@ -1,3 +1,3 @@
 pub mod Compounds
 pub mod Tokens
-pub mod ListAt
+pub mod ListIs

@@ -5,17 +5,15 @@ ghost use Rattle.std.specs.Prelude.{◌≡◌, ◌<◌, true, not, ◌||◌, len
 ghost use Rattle.std.proofs.Math.Option.{none};
 ghost use Rattle.lists.specs.Lists.{all, is_some};
 ghost use Rattle.table.specs.Layout.{sequences, the_table};
-ghost use Rattle.table.specs.Spans.{Fits, within};
 ghost use Rattle.table.specs.Part.{records_in};
 ghost use Rattle.table.specs.GroupPart.{GroupsPart, groups_in};
 ghost use Rattle.sections.specs.Laid.{Laid};
 ghost use Rattle.compounds.specs.Compounds.{marks_of, compounds, in_list, compounds_fit, one_fits, list_of};
-ghost use Rattle.compounds.specs.ListAt.{ListAt};
+ghost use Rattle.compounds.specs.ListIs.{ListIs};
 
 use buffers::same;
 use sections::Sections;
 use sections::lookup::is_mark;
-use table::Span;
 use table::lookup::{counted, group_at};
 
 // The number of marks that the text begins with.
@@ -23,12 +21,7 @@ fn marks_in_front(words: &[u32], ix: Sections, text: &[u32]) -> usize
     requires { Laid words.now ix }
     ensures { result ≡ length (marks_of (the_table words.now) text.now) }
 {
-    for (n, &c) in text.iter().enumerate() {
-        if !is_mark(words, ix, c) {
-            return n;
-        }
-    }
-    text.len()
+    text.iter().take_while(|&&c| is_mark(words, ix, c)).count()
 }
 
 // Whether a list has the sequence.
@@ -49,10 +42,10 @@ fn in_list(list: &[u32], run: &[u32]) -> bool
 }
 
 // Whether the list permits a character and the marks behind it.
-fn one_fits(words: &[u32], ix: Sections, list: Span, run: &[u32]) -> bool
-    requires laid { Laid words.now ix × Fits words.now list × (0 < length run.now) }
-    requires words_value { is_some (sequences (length (within list words.now)) (within list words.now)) ≡ true }
-    ensures { result ≡ one_fits (the_table words.now) (records_in sequences (within list words.now)) run.now }
+fn one_fits(words: &[u32], ix: Sections, list: &[u32], run: &[u32]) -> bool
+    requires laid { Laid words.now ix × (0 < length run.now) }
+    requires list_value { is_some (sequences (length list.now) list.now) ≡ true }
+    ensures { result ≡ one_fits (the_table words.now) (records_in sequences list.now) run.now }
 {
     if run.len() == 1 {
         return true;
@@ -60,14 +53,14 @@ fn one_fits(words: &[u32], ix: Sections, list: Span, run: &[u32]) -> bool
     if is_mark(words, ix, run[0]) {
         return true;
     }
-    in_list(list.of(words), run)
+    in_list(list, run)
 }
 
 // Whether the list has every compound sequence of the text.
-fn all_listed(words: &[u32], ix: Sections, list: Span, text: &[u32]) -> bool
-    requires laid { Laid words.now ix × Fits words.now list }
-    requires words_value { is_some (sequences (length (within list words.now)) (within list words.now)) ≡ true }
-    ensures { result ≡ all (in_list (records_in sequences (within list words.now))) (compounds (the_table words.now) text.now) }
+fn all_listed(words: &[u32], ix: Sections, list: &[u32], text: &[u32]) -> bool
+    requires laid { Laid words.now ix }
+    requires list_value { is_some (sequences (length list.now) list.now) ≡ true }
+    ensures { result ≡ all (in_list (records_in sequences list.now)) (compounds (the_table words.now) text.now) }
 {
     // by hand: the place goes on behind the marks
     let mut i: usize = 0;
@@ -82,10 +75,10 @@ fn all_listed(words: &[u32], ix: Sections, list: Span, text: &[u32]) -> bool
     true
 }
 
-// Where the records of the list of the group of this number stand, if it has one.
-fn list_in(part: &[u32], number: usize) -> Option<Span>
+// The records of the list of the group of this number, if it has one.
+fn list_in(part: &[u32], number: usize) -> Option<&[u32]>
     requires { GroupsPart part.now }
-    ensures { MatchOption result (list_of (groups_in part.now) number ≡ none) (λ s. ListAt part.now s (list_of (groups_in part.now) number)) }
+    ensures { MatchOption result (list_of (groups_in part.now) number ≡ none) (λ list. ListIs list.now (list_of (groups_in part.now) number)) }
 {
     // by hand: a record's length is its own, and the place goes on by it
     let mut left = number;
@@ -93,25 +86,13 @@ fn list_in(part: &[u32], number: usize) -> Option<Span>
     while at < part.len() {
         let group = group_at(part, at);
         if left == 0 {
-            return group.listed.then_some(group.list);
+            let list = group.list?;
+            return Some(list.of(part));
         }
         left -= 1;
         at = group.next;
     }
     None
-}
-
-fn list_of(words: &[u32], ix: Sections, number: usize) -> Option<Span>
-    requires { Laid words.now ix }
-    ensures { MatchOption result (list_of (the_table words.now).groups number ≡ none)
-        (λ s. ListAt words.now s (list_of (the_table words.now).groups number)) }
-{
-    let s = ix.groups;
-    let list = list_in(s.of(words), number)?;
-    Some(Span {
-        from: s.from + list.from,
-        to: s.from + list.to,
-    })
 }
 
 // Whether the group of this number, where it has a list, permits the text. Only a whitelisted group has one.
@@ -128,7 +109,7 @@ pub fn compounds_fit(
     if !whitelisted {
         return true;
     }
-    match list_of(words, ix, number) {
+    match list_in(ix.groups.of(words), number) {
         Some(list) => all_listed(words, ix, list, text),
         None => true,
     }

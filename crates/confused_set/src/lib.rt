@@ -18,38 +18,33 @@ use sections::lookup::whole_of;
 use table::WholeLists;
 use table::lookup::counted;
 
-// The words of the filter.
+// The words of the filter. It is lent as an array: a struct of it would have to name its table in a ghost field, and each clause to say which, which
+// is no plainer.
 pub const FILTER_WORDS: usize = 128;
 
 // The fewest characters that the filter is made for. Making it takes as long as walking the wholes for one character.
 const FEWEST: usize = 3;
 
 // Puts the bits of the items.
-fn note_items(set: &mut [u32], items: &[u32])
-    requires { length set.old ≡ filter_words }
+fn note_items(set: &mut [u32; FILTER_WORDS], items: &[u32])
     ensures { Put set.old set.new (placed items.now) }
 {
-    let mut i: usize = 0;
-    while i < items.len() {
-        put(set, items[i] % 4096);
-        i += 1;
+    for &c in items {
+        put(set, c % 4096);
     }
 }
 
 // Puts the bits of the confused items of every whole of a section.
-fn note_wholes(part: &[u32], set: &mut [u32])
-    requires part_value { is_some (wholes (length part.now) part.now) ≡ true }
-    requires set_len { length set.old ≡ filter_words }
+fn note_wholes(part: &[u32], set: &mut [u32; FILTER_WORDS])
+    requires { is_some (wholes (length part.now) part.now) ≡ true }
     ensures { Put set.old set.new (noted (wholes_in part.now)) }
 {
+    // by hand: a record's length is its own, and the place goes on by it
     let mut i: usize = 0;
     while i < part.len() {
         let valid = counted(part, i);
-        let at = valid.to;
-        let confused = counted(part, at);
-        let from = confused.from;
-        let to = confused.to;
-        note_items(set, &part[from..to]);
+        let confused = counted(part, valid.to);
+        note_items(set, confused.of(part));
         i = confused.to;
     }
 }
@@ -57,7 +52,7 @@ fn note_wholes(part: &[u32], set: &mut [u32])
 // Makes the filter for a text of so many characters. Of few it leaves every bit set, which rules nothing out.
 // The promise only limits the result: a character whose bit is clear is in no confused list, and of a bit that is set nothing is promised. Which bits
 // are set costs or saves time alone: `whole_by` searches the wholes where one is set, and its answer does not depend on it.
-pub fn make_filter(words: &[u32], ix: Sections, set: &mut [u32], characters: usize)
+pub fn make_filter(words: &[u32], ix: Sections, set: &mut [u32; FILTER_WORDS], characters: usize)
     requires laid { Laid words.now ix }
     requires set_value { set.old ≡ replicate filter_words 0xFFFFFFFF }
     ensures { Filter (the_table words.now).wholes set.new }
@@ -66,13 +61,16 @@ pub fn make_filter(words: &[u32], ix: Sections, set: &mut [u32], characters: usi
         return;
     }
     clear(set);
-    let from = ix.wholes.from;
-    let to = ix.wholes.to;
-    note_wholes(&words[from..to], set);
+    note_wholes(ix.wholes.of(words), set);
 }
 
 // Where the lists of the whole of c stand, if c is confused.
-pub fn whole_by(words: &[u32], ix: Sections, set: &[u32], c: u32) -> Option<WholeLists>
+pub fn whole_by(
+    words: &[u32],
+    ix: Sections,
+    set: &[u32; FILTER_WORDS],
+    c: u32,
+) -> Option<WholeLists>
     requires laid { Laid words.now ix }
     requires filter { Filter (the_table words.now).wholes set.now }
     ensures { WholeFound words.now (whole_of (the_table words.now).wholes c) result }

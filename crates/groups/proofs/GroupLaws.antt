@@ -3,11 +3,11 @@ use Prim.Native.Nat.{ℕ, suc, ◌+◌, ◌*◌, ◌<◌, ◌≤◌}
 use native.Mathlib.Numerals.{add-one}
 use native.Mathlib.Omega.{arith}
 use mathlib.Core.Path.{◌≡◌, refl, sym, ◌∙◌, ap}
-use mathlib.Core.Bool.{Bool, true, false, not, cond}
-use mathlib.Core.List.{List, [], ◌∷◌, map}
+use mathlib.Core.Bool.{Bool, true, false, not}
+use mathlib.Core.List.{List, [], ◌∷◌}
 use lib.ListN.{length, get_or, drop, drop_of_length-le}
 use Rattle.limits.specs.Limits.{most_input}
-use Rattle.lists.specs.Lists.{all, total}
+use Rattle.lists.specs.Lists.{all}
 use Rattle.table.specs.declared.GroupRecord.{GroupRecord}
 use Rattle.table.specs.Table.{Group}
 use Rattle.table.specs.Spans.{within}
@@ -16,9 +16,9 @@ use Rattle.table.specs.Part.{in_pairs}
 use Rattle.table.specs.GroupPart.{groups_in, GroupsPart, group_at}
 use Rattle.table.proofs.Lookups.{drop-next, all_same}
 use Rattle.table.proofs.GroupWalks.{GroupWalk, group_start, group-stop, group_here, group_here_lem, pairs_hold, group_on}
-use Rattle.groups.specs.declared.GroupFound.TheVariants.{At, Nothing}
+use Rattle.std.specs.Prelude.{Some, None}
 use Rattle.groups.specs.Bound.{asked_in_fewer}
-use Rattle.groups.specs.Groups.{holds_all, group_from, group_of, up_to, asked_in, asked, group_found, search_of}
+use Rattle.groups.specs.Groups.{holds_all, group_from, group_of, up_to, asked_in, asked, search_of}
 
 -- In one group: its test p passed at the first i places, and one question was asked at each, a₀ before them.
 pub record Asking (p : ℕ → Bool) (s : List ℕ) (a₀ a i : ℕ) : Type 0 where
@@ -80,7 +80,7 @@ module _ (part text : List ℕ) where
       record { groups = group_start part (Lacking part text 0 0) g (record { found = refl; count = omega arith }); few = omega arith }
 
   module _ (n at a : ℕ) (w : Searching part text n at a) where
-    pub lacking_stop : length part ≤ at → record { found = Nothing; asked = a } ≡ search_of (groups_in part) text
+    pub lacking_stop : length part ≤ at → record { found = None; asked = a } ≡ search_of (groups_in part) text
     unfolding group_from up_to asked
     lacking_stop h =
         let q = group-stop part n at (Lacking part text n a) w.groups h in
@@ -119,7 +119,7 @@ module _ (part text : List ℕ) where
           }
 
       pub lacking_hit : (a' : ℕ) → Left test text a a' true
-          → record { found = At n v.restricted v.whitelisted; asked = a' } ≡ search_of (groups_in part) text
+          → record { found = Some (record { number = n; restricted = v.restricted; whitelisted = v.whitelisted }); asked = a' } ≡ search_of (groups_in part) text
       unfolding group_from up_to asked
       lacking_hit a' l =
           let k : holds_all text here ≡ true = sym held ∙ l.held in

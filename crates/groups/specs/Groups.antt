@@ -1,11 +1,11 @@
 -- Refusal 12: "the first group that holds every character, else 12", and how often the search for it asks.
-use Rattle.std.specs.Prelude.{ℕ, suc, Bool, not, cond, List, [], ◌∷◌, map, length}
+use Rattle.std.specs.Prelude as std
+use Rattle.std.specs.Prelude.{ℕ, suc, Bool, not, cond, List, [], ◌∷◌, map, length, Some, None}
 use Rattle.std.proofs.Math.Option.{Option, none, some}
 use Rattle.lists.specs.Lists.{all, total}
 use Rattle.table.specs.Table.{Group}
 use Rattle.table.specs.Lookup.{holds}
-use Rattle.groups.specs.declared.GroupFound.{GroupFound}
-use Rattle.groups.specs.declared.GroupFound.TheVariants.{At, Nothing}
+use Rattle.groups.specs.declared.FoundGroup.{FoundGroup}
 use Rattle.groups.specs.declared.GroupSearch.{GroupSearch}
 
 -- the group holds every character of the text
@@ -44,9 +44,9 @@ unfolding up_to asked_in
 asked gs s = total (map (asked_in s) (up_to (holds_all s) gs))
 
 -- the code's answer for a group
-abbrev pub group_found : Option Numbered → GroupFound
-group_found none = Nothing
-group_found (some g) = At g.number g.group.restricted g.group.whitelisted
+abbrev pub group_found : Option Numbered → std.Option FoundGroup
+group_found none = None
+group_found (some g) = Some (record { number = g.number; restricted = g.group.restricted; whitelisted = g.group.whitelisted })
 
 -- the code's answer for the search
 abbrev pub search_of : List Group → List ℕ → GroupSearch

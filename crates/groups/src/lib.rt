@@ -19,27 +19,17 @@ use table::lookup::group_at;
 
 // The first group that holds a text: its number and its flags.
 #[derive(Clone, Copy)]
-pub enum GroupFound {
-    At {
-        number: usize,
-        restricted: bool,
-        whitelisted: bool,
-    },
-    Nothing,
+pub struct FoundGroup {
+    pub number: usize,
+    pub restricted: bool,
+    pub whitelisted: bool,
 }
 
-// What the search answers: the group, and how often it was asked whether a group holds a character.
+// What the search answers: the group, if one holds the text, and how often it was asked whether a group holds a character.
 #[derive(Clone, Copy)]
 pub struct GroupSearch {
-    pub found: GroupFound,
+    pub found: Option<FoundGroup>,
     pub asked: usize,
-}
-
-// What the call answers.
-#[derive(Clone, Copy)]
-pub enum GroupAnswer {
-    Searched(GroupSearch),
-    Refused(Refusal),
 }
 
 // The first group of a section that holds every character. A group is left at the first character that it lacks.
@@ -57,27 +47,23 @@ fn group_in(part: &[u32], sorted: bool, text: &[u32]) -> GroupSearch
         let group = group_at(part, at);
         next += 1;
         at = group.next;
-        let mut i: usize = 0;
-        while i < text.len() {
+        for &c in text {
             asked += 1;
-            if !in_section(part, group.pairs, sorted, text[i]) {
+            if !in_section(part, group.pairs, sorted, c) {
                 continue 'groups;
             }
-            i += 1;
         }
+        let found = FoundGroup {
+            number,
+            restricted: group.restricted,
+            whitelisted: group.whitelisted,
+        };
         return GroupSearch {
-            found: GroupFound::At {
-                number: number,
-                restricted: group.restricted,
-                whitelisted: group.whitelisted,
-            },
-            asked: asked,
+            found: Some(found),
+            asked,
         };
     }
-    GroupSearch {
-        found: GroupFound::Nothing,
-        asked: asked,
-    }
+    GroupSearch { found: None, asked }
 }
 
 // The first group of a table that holds every character.
@@ -86,24 +72,18 @@ pub fn group_of(words: &[u32], ix: Sections, text: &[u32]) -> GroupSearch
     requires text_len_bound { length text.now ≤ most_input }
     ensures { result ≡ search_of (the_table words.now).groups text.now }
 {
-    let s = ix.groups;
-    let from = s.from;
-    let to = s.to;
-    group_in(&words[from..to], ix.sorted.groups, text)
+    group_in(ix.groups.of(words), ix.sorted.groups, text)
 }
 
 // The call: 1, then 3, then the search.
-pub fn group(text: &[u32], words: &[u32]) -> GroupAnswer
+pub fn group(text: &[u32], words: &[u32]) -> Result<GroupSearch, Refusal>
     ensures { group_values result ≡ group_call words.now text.now }
 {
-    let found = layout(words);
-    match found {
-        None => GroupAnswer::Refused(Refusal::LayoutFault),
-        Some(ix) => {
-            if text.len() > MOST_INPUT {
-                return GroupAnswer::Refused(Refusal::InputTooLong);
-            }
-            GroupAnswer::Searched(group_of(words, ix, text))
-        }
+    let Some(ix) = layout(words) else {
+        return Err(Refusal::LayoutFault);
+    };
+    if text.len() > MOST_INPUT {
+        return Err(Refusal::InputTooLong);
     }
+    Ok(group_of(words, ix, text))
 }

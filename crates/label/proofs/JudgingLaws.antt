@@ -1,10 +1,10 @@
 -- Laws of the judging: the text alone, its group, and the choice of the kind.
-use Rattle.std.specs.Prelude.{Result, Err}
+use Rattle.std.specs.Prelude.{Result, Err, Option, Some, None}
 use Rattle.answers.specs.declared.Refusal.{Refusal}
 use Prim.Native.Nat.{ℕ, ◌+◌, ◌-◌, ◌≤◌}
 use native.Mathlib.Omega.{arith}
 use mathlib.Core.Path.{◌≡◌, refl, sym, ◌∙◌}
-use mathlib.Core.Bool.{Bool, true, false, not, ◌||◌, false≢true}
+use mathlib.Core.Bool.{Bool, true, false, ◌||◌, false≢true}
 use mathlib.Core.List.{List}
 use lib.ListN.{length, take, drop}
 use lib.Seq.{length-take-le}
@@ -18,8 +18,7 @@ use Rattle.lists.specs.Lists.{all}
 use Rattle.compounds.proofs.CompoundLaws.{listed_white}
 use Rattle.spelling.specs.Spelling.{all_ascii}
 use Rattle.spelling.specs.CellTags.{codes_in, tags_in}
-use Rattle.groups.specs.declared.GroupFound.{GroupFound}
-use Rattle.groups.specs.declared.GroupFound.TheVariants.{At, Nothing}
+use Rattle.groups.specs.declared.FoundGroup.{FoundGroup}
 use Rattle.groups.specs.Groups.{group_of, group_found}
 use Rattle.label.specs.Judge.{judge_ascii, judge_text}
 use Rattle.label.specs.CellText.{text_at, TextAlone}
@@ -38,13 +37,17 @@ pub judged_as : (w w' : List ℕ) (u v : Verdict Kind) (j : Result Kind Refusal)
 judged_as w w' u v j e o = record { same = o.same; kept = o.kept; verdict = o.verdict ∙ e }
 
 -- whether 13 does not apply, asked only where the group is not whitelisted
-pub fits-asked : (whitelisted fit fits : Bool) → not whitelisted ≡ true → fits ≡ fit → fits ≡ (whitelisted || fit)
-fits-asked true fit fits e h = absurd (false≢true e)
-fits-asked false fit fits e h = h
+pub fits_white : (whitelisted fit : Bool) → whitelisted ≡ true → (whitelisted || fit) ≡ true
+fits_white true fit e = refl
+fits_white false fit e = absurd (false≢true e)
 
-pub fits_known : (whitelisted fit fits : Bool) → not whitelisted ≡ false → fits ≡ whitelisted → fits ≡ (whitelisted || fit)
-fits_known true fit fits e h = h
-fits_known false fit fits e h = absurd (false≢true (sym e))
+pub fits-asked : (whitelisted fit : Bool) → fit ≡ true → (whitelisted || fit) ≡ true
+fits-asked true fit e = refl
+fits-asked false fit e = e
+
+pub fits_not : (whitelisted fit : Bool) → whitelisted ≡ false → fit ≡ false → (whitelisted || fit) ≡ false
+fits_not true fit e h = absurd (false≢true (sym e))
+fits_not false fit e h = h
 
 -- the text alone
 module _ (t : Table) (place : ℕ) (w w' : List ℕ) (n m : ℕ) (a : TextAlone w w' n m) where
@@ -56,8 +59,8 @@ module _ (t : Table) (place : ℕ) (w w' : List ℕ) (n m : ℕ) (a : TextAlone 
       let e : most_worked + m - most_worked ≡ m = omega arith in
       rw e a.put
 
-  module _ (r : GroupFound) (found : r ≡ group_found (group_of t.groups alone)) where
-    pub judged-none : r ≡ Nothing → CellsJudged (judge_text t place (text_at (codes_in w n) (tags_in w n))) w w' (Err (NoGroup place))
+  module _ (r : Option FoundGroup) (found : r ≡ group_found (group_of t.groups alone)) where
+    pub judged-none : r ≡ None → CellsJudged (judge_text t place (text_at (codes_in w n) (tags_in w n))) w w' (Err (NoGroup place))
     judged-none e =
         record {
           same = a.same;
@@ -65,16 +68,16 @@ module _ (t : Table) (place : ℕ) (w w' : List ℕ) (n m : ℕ) (a : TextAlone 
           verdict = text-none t place (text_at (codes_in w n) (tags_in w n)) (sym e ∙ rw alone_text at found);
         }
 
-    pub judged-in_group : all listed_white t.groups ≡ true → (number : ℕ) (restricted whitelisted : Bool) → r ≡ At number restricted whitelisted → (j : Result Kind Refusal)
-        → verdict_of j ≡ in_group t place alone number restricted whitelisted
+    pub judged-in_group : all listed_white t.groups ≡ true → (g : FoundGroup) → r ≡ Some g → (j : Result Kind Refusal)
+        → verdict_of j ≡ in_group t place alone g.number g.restricted g.whitelisted
         → CellsJudged (judge_text t place (text_at (codes_in w n) (tags_in w n))) w w' j
-    judged-in_group white number restricted whitelisted e j v =
+    judged-in_group white g e j v =
         record {
           same = a.same;
           kept = a.kept;
           verdict =
               (rw alone_text at v)
-              ∙ text-group t place (text_at (codes_in w n) (tags_in w n)) white number restricted whitelisted (sym e ∙ rw alone_text at found);
+              ∙ text-group t place (text_at (codes_in w n) (tags_in w n)) white g (sym e ∙ rw alone_text at found);
         }
 
 -- the choice of the kind

@@ -13,7 +13,8 @@ use Rattle.answers.specs.declared.Kind.TheVariants.{Emoji, Ascii, Group}
 use Rattle.table.specs.Table.{Table}
 use Rattle.tokens.specs.Tokens.{Token, emoji, text, is_emoji, joined_tokens}
 use Rattle.tokens.specs.Cells.{tags_of, Cells}
-use Rattle.groups.specs.declared.GroupFound.TheVariants.{At, Nothing}
+use Rattle.std.specs.Prelude.{Some, None}
+use Rattle.groups.specs.declared.FoundGroup.{FoundGroup}
 use Rattle.nsm.specs.Marks.{nsm_fits}
 use Rattle.compounds.specs.Compounds.{compounds_fit, list_of}
 use Rattle.compounds.proofs.CompoundLaws.{listed_white, white_asked}
@@ -79,12 +80,12 @@ module _ (t : Table) (place : ℕ) (s : List ℕ) (number : ℕ) (restricted : B
         let b : Bool = not whitelisted || compounds_fit t (list_of t.groups number) s in
         first_refused (not b) 16 place (group_verdict t place s (whitelisted || nsm_fits t s) number restricted) (ap not (sym p ∙ k))
 
-    pub verdict_group : permitted ≡ true → (fits : Bool) → fits ≡ (whitelisted || nsm_fits t s)
-        → group_verdict t place s fits number restricted ≡ in_group t place s number restricted whitelisted
+    pub verdict_group : permitted ≡ true → group_verdict t place s (whitelisted || nsm_fits t s) number restricted ≡ in_group t place s number restricted whitelisted
     unfolding in_group
-    verdict_group k fits e =
+    verdict_group k =
         let b : Bool = not whitelisted || compounds_fit t (list_of t.groups number) s in
-        next_verdict (not b) 16 place (group_verdict t place s fits number restricted) (group_verdict t place s (whitelisted || nsm_fits t s) number restricted) (ap not (sym p ∙ k)) (ap (λ (f : Bool). group_verdict t place s f number restricted) e)
+        let v : Verdict Kind = group_verdict t place s (whitelisted || nsm_fits t s) number restricted in
+        next_verdict (not b) 16 place v v (ap not (sym p ∙ k)) refl
 
 -- other tokens
 module _ (t : Table) (place : ℕ) (s ks : List ℕ) where
@@ -112,32 +113,30 @@ module _ (t : Table) (place : ℕ) (s ks : List ℕ) where
 
 -- the group of the text
 module _ (t : Table) (place : ℕ) (s : List ℕ) where
-  pub text-none : Nothing ≡ group_found (group_of t.groups s) → refused 12 place ≡ judge_text t place s
+  pub text-none : None ≡ group_found (group_of t.groups s) → refused 12 place ≡ judge_text t place s
   unfolding judge_text
   text-none e = go (group_of t.groups s) e
     where
-      go : (o : Option Numbered) → Nothing ≡ group_found o → refused 12 place ≡ on_some o (judge_in_group t place s) (refused 12 place)
+      go : (o : Option Numbered) → None ≡ group_found o → refused 12 place ≡ on_some o (judge_in_group t place s) (refused 12 place)
       go none f = refl
       go (some g) f = absurd (let z : ◌≡◌ {A = ℕ} 0 1 = cc in omega arith)
 
-  pub text-group : all listed_white t.groups ≡ true → (number : ℕ) (restricted whitelisted : Bool)
-      → At number restricted whitelisted ≡ group_found (group_of t.groups s) → in_group t place s number restricted whitelisted ≡ judge_text t place s
+  pub text-group : all listed_white t.groups ≡ true → (f : FoundGroup)
+      → Some f ≡ group_found (group_of t.groups s) → in_group t place s f.number f.restricted f.whitelisted ≡ judge_text t place s
   unfolding judge_text judge_in_group in_group group_verdict
-  text-group white number restricted whitelisted e = go (group_of t.groups s) refl e
+  text-group white f e = go (group_of t.groups s) refl e
     where
       same : (a b : Bool) → not (a || b) ≡ (not a && not b)
       same true b = refl
       same false b = refl
 
-      go : (o : Option Numbered) → group_of t.groups s ≡ o → At number restricted whitelisted ≡ group_found o
-          → in_group t place s number restricted whitelisted ≡ on_some o (judge_in_group t place s) (refused 12 place)
-      go none k f = absurd (let z : ◌≡◌ {A = ℕ} 0 1 = cc in omega arith)
-      go (some g) k f =
-          let a : number ≡ g.number = cc in
-          let b : restricted ≡ g.group.restricted = cc in
-          let d : whitelisted ≡ g.group.whitelisted = cc in
-          let h = found_here t.groups s g white k in
-          rw (a, b, d, h.list, white_asked t g.group s h.white, same g.group.whitelisted (nsm_fits t s))
+      go : (o : Option Numbered) → group_of t.groups s ≡ o → Some f ≡ group_found o
+          → in_group t place s f.number f.restricted f.whitelisted ≡ on_some o (judge_in_group t place s) (refused 12 place)
+      go none k h = absurd (let z : ◌≡◌ {A = ℕ} 0 1 = cc in omega arith)
+      go (some g) k h =
+          let is : f ≡ record { number = g.number; restricted = g.group.restricted; whitelisted = g.group.whitelisted } = cc in
+          let l = found_here t.groups s g white k in
+          rw (is, l.list, white_asked t g.group s l.white, same g.group.whitelisted (nsm_fits t s))
 
 -- Without emoji tokens there is at most one token: text between emoji is one token.
 abbrev pub Parted : List Token → Type 0

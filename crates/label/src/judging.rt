@@ -8,12 +8,12 @@ ghost use Rattle.memo.specs.Memo.{Memo};
 ghost use Rattle.spelling.specs.CellTags.{codes_in, tags_in};
 ghost use Rattle.label.specs.Judge.{judge_ascii, judge_text};
 ghost use Rattle.label.specs.CellText.{text_at};
-ghost use Rattle.label.specs.Judging.{verdict_of, group_verdict, in_group, mixed_at, judge_at, CellsJudged};
+ghost use Rattle.label.specs.Judging.{verdict_of, in_group, mixed_at, judge_at, CellsJudged};
 
 use crate::cells::text_alone;
 use answers::{GroupKind, Kind, Refusal};
 use compounds::compounds_fit;
-use groups::{GroupFound, group_of};
+use groups::{FoundGroup, group_of};
 use limits::MOST_WORKED;
 use lookalike::confusable;
 use nsm_text::nsm_fits;
@@ -33,55 +33,35 @@ fn judge_ascii(s: &[u32], place: usize) -> Result<Kind, Refusal>
     Ok(Kind::Ascii)
 }
 
-// 13 unless the NSM of the text fit, which `fits` says, then 14; the kind is the group.
-fn judge_group(
+// In the group that holds the text: 16, then 13, which is spared to a whitelisted group, then 14; the kind is the group.
+fn judge_in_group(
     words: &[u32],
     ix: Sections,
     text: &[u32],
-    fits: bool,
-    number: usize,
-    restricted: bool,
+    group: FoundGroup,
     place: usize,
     memo: &mut [u32],
 ) -> Result<Kind, Refusal>
     requires laid { Laid words.now ix }
     requires memo { Memo words.now memo.old }
-    ensures result_value { verdict_of result ≡ group_verdict (the_table words.now) place text.now fits number restricted }
+    ensures result_value { verdict_of result ≡ in_group (the_table words.now) place text.now group.number group.restricted group.whitelisted }
     ensures memo_2 { Memo words.now memo.new }
 {
-    if !fits {
+    let FoundGroup {
+        number,
+        restricted,
+        whitelisted,
+    } = group;
+    if !compounds_fit(words, ix, whitelisted, number, text) {
+        return Err(Refusal::Compound(place));
+    }
+    if !whitelisted && !nsm_fits(words, ix, text) {
         return Err(Refusal::NsmRun(place));
     }
     if confusable(words, ix, text, memo) {
         return Err(Refusal::Confusable(place));
     }
     Ok(Kind::Group(GroupKind { number, restricted }))
-}
-
-// 16, 13 and 14, in the group that holds the text.
-fn judge_in_group(
-    words: &[u32],
-    ix: Sections,
-    text: &[u32],
-    number: usize,
-    restricted: bool,
-    whitelisted: bool,
-    place: usize,
-    memo: &mut [u32],
-) -> Result<Kind, Refusal>
-    requires laid { Laid words.now ix }
-    requires memo { Memo words.now memo.old }
-    ensures result_value { verdict_of result ≡ in_group (the_table words.now) place text.now number restricted whitelisted }
-    ensures memo_2 { Memo words.now memo.new }
-{
-    if !compounds_fit(words, ix, whitelisted, number, text) {
-        return Err(Refusal::Compound(place));
-    }
-    let mut fits = whitelisted;
-    if !whitelisted {
-        fits = nsm_fits(words, ix, text);
-    }
-    judge_group(words, ix, text, fits, number, restricted, place, memo)
 }
 
 // The text alone: 12 where no group holds it, else 16, 13 and 14 in the first that does.
@@ -102,25 +82,10 @@ fn judge_text(
     ensures memo_2 { Memo words.now memo.new }
 {
     let m = text_alone(w, n);
-    let end = MOST_WORKED + m;
-    let search = group_of(words, ix, &w[MOST_WORKED..end]);
-    let found = search.found;
-    match found {
-        GroupFound::At {
-            number,
-            restricted,
-            whitelisted,
-        } => judge_in_group(
-            words,
-            ix,
-            &w[MOST_WORKED..end],
-            number,
-            restricted,
-            whitelisted,
-            place,
-            memo,
-        ),
-        GroupFound::Nothing => Err(Refusal::NoGroup(place)),
+    let text = &w[MOST_WORKED..MOST_WORKED + m];
+    match group_of(words, ix, text).found {
+        Some(group) => judge_in_group(words, ix, text, group, place, memo),
+        None => Err(Refusal::NoGroup(place)),
     }
 }
 
@@ -175,10 +140,8 @@ pub fn judge(
     if !text {
         return Ok(Kind::Emoji);
     }
-    if !emoji {
-        if all_ascii(&w[..n]) {
-            return judge_ascii(&w[..n], place);
-        }
+    if !emoji && all_ascii(&w[..n]) {
+        return judge_ascii(&w[..n], place);
     }
     judge_mixed(words, ix, w, n, place, memo)
 }

@@ -1,7 +1,8 @@
 // Refusal 14, the look-alike test: whether a text is confusable.
 #![tactic(auto)]
 
-ghost use Rattle.std.specs.Prelude.{◌≡◌, true, false, not, length, replicate};
+ghost use Rattle.std.specs.Prelude.{◌≡◌, true, false, replicate};
+ghost use Rattle.std.specs.Bool.{beq};
 ghost use Rattle.lists.specs.Lists.{any};
 ghost use Rattle.sections.specs.Laid.{Laid};
 ghost use Rattle.table.specs.Layout.{the_table, most_groups};
@@ -12,7 +13,7 @@ ghost use Rattle.lookalike.specs.Respelling.{KeptWhere, may_respell, Narrowed, R
 ghost use Rattle.memo.specs.Memo.{Memo};
 
 use confused_set::{FILTER_WORDS, make_filter, whole_by};
-use group_flags::{any_set, flag_holders, keep_apart, keep_both, keep_outside};
+use group_flags::{any_set, flag_holders, keep_outside, keep_where};
 use memo::recall;
 use sections::Sections;
 use table::WholeLists;
@@ -23,58 +24,42 @@ const LOOKED: usize = 64;
 // The most words of the wholes where it is: each character costs a walk over them.
 const FEW_WHOLES: usize = 8192;
 
-// Keeps the flags of the groups that hold c.
-fn keep_holders(words: &[u32], ix: Sections, flags: &mut [u32; 256], c: u32)
-    requires laid { Laid words.now ix }
-    requires flags_len { length flags.old ≡ most_groups }
-    ensures { KeptWhere (the_table words.now) (λ g. holds g c) flags.old flags.new }
+// Keeps the flags of the groups that hold c, or of those that do not, as `held` says.
+fn keep_holding(words: &[u32], ix: Sections, flags: &mut [bool; 256], c: u32, held: bool)
+    requires { Laid words.now ix }
+    ensures { KeptWhere (the_table words.now) (λ g. beq (holds g c) held) flags.old flags.new }
 {
-    let mut can = [0; 256];
-    flag_holders(words, ix, &mut can, c);
-    keep_both(flags, &can);
-}
-
-// Keeps the flags of the groups that do not hold c: 1 stands for those that do, 2 for the others.
-fn keep_others(words: &[u32], ix: Sections, flags: &mut [u32; 256], c: u32)
-    requires laid { Laid words.now ix }
-    requires flags_len { length flags.old ≡ most_groups }
-    ensures { KeptWhere (the_table words.now) (λ g. not (holds g c)) flags.old flags.new }
-{
-    let mut numbers = [2; 256];
-    flag_holders(words, ix, &mut numbers, c);
-    keep_apart(flags, &numbers, 1);
+    let mut holders = [false; 256];
+    flag_holders(words, ix, &mut holders, c);
+    keep_where(flags, |i| holders[i] == held);
 }
 
 // Keeps the flags of the groups that may spell c otherwise, as far as can be told without a component: a group that holds a confused character
 // never does.
-fn rule_out(words: &[u32], ix: Sections, filter: &[u32], flags: &mut [u32; 256], c: u32)
+fn rule_out(
+    words: &[u32],
+    ix: Sections,
+    filter: &[u32; FILTER_WORDS],
+    flags: &mut [bool; 256],
+    c: u32,
+)
     requires laid { Laid words.now ix }
     requires filter { Filter (the_table words.now).wholes filter.now }
-    requires flags_len { length flags.old ≡ most_groups }
     ensures { KeptWhere (the_table words.now) (λ g. may_respell (the_table words.now) g c) flags.old flags.new }
 {
-    let whole = whole_by(words, ix, filter, c);
-    match whole {
-        Some(_) => {
-            keep_others(words, ix, flags, c);
-        }
-        None => {
-            keep_holders(words, ix, flags, c);
-        }
-    }
+    let confused = is_confused(words, ix, filter, c);
+    keep_holding(words, ix, flags, c, !confused);
 }
 
 // Whether it shows without a component that no group can spell the text otherwise. Where it answers false nothing is said.
-fn ruled_out(words: &[u32], ix: Sections, filter: &[u32], text: &[u32]) -> bool
+fn ruled_out(words: &[u32], ix: Sections, filter: &[u32; FILTER_WORDS], text: &[u32]) -> bool
     requires laid { Laid words.now ix }
     requires filter { Filter (the_table words.now).wholes filter.now }
     ensures { result ≡ true → definition.confusable (the_table words.now) text.now ≡ false }
 {
-    let mut flags = [1; 256];
-    let mut i: usize = 0;
-    while i < text.len() {
-        rule_out(words, ix, filter, &mut flags, text[i]);
-        i += 1;
+    let mut flags = [true; 256];
+    for &c in text {
+        rule_out(words, ix, filter, &mut flags, c);
         if !any_set(&flags) {
             return true;
         }
@@ -83,37 +68,26 @@ fn ruled_out(words: &[u32], ix: Sections, filter: &[u32], text: &[u32]) -> bool
 }
 
 // Whether a text has a confused character.
-fn any_confused(words: &[u32], ix: Sections, filter: &[u32], text: &[u32]) -> bool
+fn any_confused(words: &[u32], ix: Sections, filter: &[u32; FILTER_WORDS], text: &[u32]) -> bool
     requires laid { Laid words.now ix }
     requires filter { Filter (the_table words.now).wholes filter.now }
     ensures { result ≡ any (definition.is_confused (the_table words.now)) text.now }
 {
-    let mut i: usize = 0;
-    while i < text.len() {
-        if is_confused(words, ix, filter, text[i]) {
-            return true;
-        }
-        i += 1;
-    }
-    false
+    text.iter().any(|&c| is_confused(words, ix, filter, c))
 }
 
 // Whether c is confused.
-fn is_confused(words: &[u32], ix: Sections, filter: &[u32], c: u32) -> bool
+fn is_confused(words: &[u32], ix: Sections, filter: &[u32; FILTER_WORDS], c: u32) -> bool
     requires laid { Laid words.now ix }
     requires filter { Filter (the_table words.now).wholes filter.now }
     ensures { result ≡ definition.is_confused (the_table words.now) c }
 {
-    let whole = whole_by(words, ix, filter, c);
-    match whole {
-        Some(_) => true,
-        None => false,
-    }
+    whole_by(words, ix, filter, c).is_some()
 }
 
 // Whether a text of few characters shows without a component that it is not confusable: none of them is confused, or every group is ruled out. Of
 // one character alone nothing is gained, nor where the wholes are many or the groups are walked.
-fn looks_plain(words: &[u32], ix: Sections, filter: &[u32], text: &[u32]) -> bool
+fn looks_plain(words: &[u32], ix: Sections, filter: &[u32; FILTER_WORDS], text: &[u32]) -> bool
     requires laid { Laid words.now ix }
     requires filter { Filter (the_table words.now).wholes filter.now }
     ensures { result ≡ true → definition.confusable (the_table words.now) text.now ≡ false }
@@ -134,15 +108,14 @@ fn looks_plain(words: &[u32], ix: Sections, filter: &[u32], text: &[u32]) -> boo
 fn narrow(
     words: &[u32],
     ix: Sections,
-    filter: &[u32],
+    filter: &[u32; FILTER_WORDS],
     memo: &mut [u32],
-    flags: &mut [u32; 256],
+    flags: &mut [bool; 256],
     c: u32,
 ) -> bool
     requires laid { Laid words.now ix }
     requires filter { Filter (the_table words.now).wholes filter.now }
     requires memo { Memo words.now memo.old }
-    requires flags_len { length flags.old ≡ most_groups }
     ensures narrowed { Narrowed (the_table words.now) c flags.old flags.new result }
     ensures memo_2 { Memo words.now memo.new }
 {
@@ -156,7 +129,7 @@ fn narrow(
             true
         }
         None => {
-            keep_holders(words, ix, flags, c);
+            keep_holding(words, ix, flags, c, true);
             false
         }
     }
@@ -167,25 +140,21 @@ fn narrow(
 fn respellings_by(
     words: &[u32],
     ix: Sections,
-    filter: &[u32],
+    filter: &[u32; FILTER_WORDS],
     text: &[u32],
     memo: &mut [u32],
-    flags: &mut [u32; 256],
+    flags: &mut [bool; 256],
 ) -> bool
     requires laid { Laid words.now ix }
     requires filter { Filter (the_table words.now).wholes filter.now }
     requires memo { Memo words.now memo.old }
-    requires flags_value { flags.old ≡ replicate most_groups 1 }
+    requires flags_value { flags.old ≡ replicate most_groups true }
     ensures respellings { Respellings (the_table words.now) text.now flags.new result }
     ensures memo_2 { Memo words.now memo.new }
 {
     let mut seen = false;
-    let mut i: usize = 0;
-    while i < text.len() {
-        if narrow(words, ix, filter, memo, flags, text[i]) {
-            seen = true;
-        }
-        i += 1;
+    for &c in text {
+        seen |= narrow(words, ix, filter, memo, flags, c);
     }
     seen
 }
@@ -196,11 +165,11 @@ pub fn respellings(
     ix: Sections,
     text: &[u32],
     memo: &mut [u32],
-    flags: &mut [u32; 256],
+    flags: &mut [bool; 256],
 ) -> bool
     requires laid { Laid words.now ix }
     requires memo { Memo words.now memo.old }
-    requires flags_value { flags.old ≡ replicate most_groups 1 }
+    requires flags_value { flags.old ≡ replicate most_groups true }
     ensures respellings { Respellings (the_table words.now) text.now flags.new result }
     ensures memo_2 { Memo words.now memo.new }
 {
@@ -221,7 +190,7 @@ pub fn confusable(words: &[u32], ix: Sections, text: &[u32], memo: &mut [u32]) -
     if looks_plain(words, ix, &filter, text) {
         return false;
     }
-    let mut flags = [1; 256];
+    let mut flags = [true; 256];
     let seen = respellings_by(words, ix, &filter, text, memo, &mut flags);
     seen && any_set(&flags)
 }

@@ -1,3 +1,4 @@
+use Rattle.std.proofs.Common.{rules}
 use Rattle.table.proofs.GroupWalks.{group_few, group-room, pairs_fit, next_more, next_inside}
 use Rattle.sections.proofs.SortedGroups.{sorted_start, sorted_pairs, sorted_on}
 use Rattle.group_flags.proofs.FlagWalks.{flag_start, flag_stop, flag_set, flag_keep}
@@ -7,7 +8,7 @@ use Rattle.group_flags.proofs.flag_in.Goals as goal
 use Rattle.group_flags.proofs.flag_in.Goals.{else-in_section, then-in_section}
 
 pub loop-at-init : goal.loop-at-init
-loop-at-init c = let p = c.requires.groups_part in (flag_start _ _ _ p.0 c.requires.flags_len, sorted_start _ _ p.0 p.1)
+loop-at-init c = let p = c.requires in (flag_start _ _ _ p.0 (search rules), sorted_start _ _ p.0 p.1)
 
 pub group_at-group-requires : goal.group_at-group-requires
 group_at-group-requires c =
@@ -20,11 +21,6 @@ in_section-requires c =
     let h = c.loop-at-test.true in
     let e = c.group_at-group.ensures in
     (pairs_fit _ p.n p.at _ p.invariant.0.groups h _ e, sorted_pairs _ _ p.n p.at p.invariant.1 h _ e)
-
-pub offset_bounds-flags-n : goal.offset_bounds-flags-n
-offset_bounds-flags-n c =
-    let p = c.loop-at in
-    omega (arith, group_few _ p.n p.at _ p.invariant.0.groups c.loop-at-test.true)
 
 pub bounds-flags-n : goal.bounds-flags-n
 bounds-flags-n c =

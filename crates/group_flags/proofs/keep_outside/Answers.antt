@@ -1,6 +1,12 @@
 -- `keep_outside` meets its contract: the section is that of the table.
+use native.Mathlib.Omega.{arith}
+use mathlib.Core.Path.{◌≡◌, ◌∙◌, sym}
+use lib.ListN.{get_or}
+use Rattle.std.proofs.Common.{rules, tests}
 use Rattle.sections.proofs.SectionLaws.{laid-fits}
 use Rattle.sections.proofs.LaidParts.{laid_part, laid_same}
+use Rattle.group_flags.specs.Flags.{is_apart}
+use Rattle.group_flags.proofs.FlagWalks.{apart-length, apart-at}
 use Rattle.group_flags.proofs.keep_outside.Goals as goal
 
 pub of-requires : goal.of-requires
@@ -13,8 +19,14 @@ own_number-own-requires c =
 
 pub returns : goal.returns
 returns c =
+    let own = c.own_number-own.result in
+    let k = c.args.k.now in
     record {
-      own = c.own_number-own.result;
+      own = own;
       number = rw (← laid_same _ _ c.requires.laid, ← c.of.ensures) c.own_number-own.ensures;
-      flags = c.keep_apart.ensures;
+      flags =
+          c.keep_where.ensures _ (apart-length own k ∙ c.requires.k_len)
+          (λ i b h e.
+          let told : b ≡ is_apart own (get_or k i 0) = search (rules, tests) in
+          told ∙ sym (apart-at own k i (omega (arith, c.requires.k_len))));
     }

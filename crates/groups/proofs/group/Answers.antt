@@ -5,15 +5,15 @@ use Rattle.groups.proofs.group.Goals as goal
 
 pub returns-then-text-gt-MOST_INPUT : goal.returns-then-text-gt-MOST_INPUT
 returns-then-text-gt-MOST_INPUT c =
-    call_long _ _ _ ((let it : Laid c.args.words.now c.in-Some.ix = c.layout-found.ensures.found _ c.in-Some.is in it)) c.if-text-gt-MOST_INPUT.true
+    call_long _ _ _ ((let it : Laid c.args.words.now c.in-Some.ix = c.layout.ensures.found _ c.in-Some.is in it)) c.if-text-gt-MOST_INPUT.true
 
 pub group_of-requires : goal.group_of-requires
 group_of-requires c =
-    record { laid = (let it : Laid c.args.words.now c.in-Some.ix = c.layout-found.ensures.found _ c.in-Some.is in it); text_len_bound = c.if-text-gt-MOST_INPUT.false }
+    record { laid = (let it : Laid c.args.words.now c.in-Some.ix = c.layout.ensures.found _ c.in-Some.is in it); text_len_bound = c.if-text-gt-MOST_INPUT.false }
 
-pub returns-in-None : goal.returns-in-None
-returns-in-None c = call_fault _ _ (c.layout-found.ensures.fault c.in-None.is)
+pub returns-in_default : goal.returns-in_default
+returns-in_default c = call_fault _ _ (c.layout.ensures.fault c.in_default.is)
 
-pub returns-else-text-gt-MOST_INPUT : goal.returns-else-text-gt-MOST_INPUT
-returns-else-text-gt-MOST_INPUT c =
-    call_searched _ _ _ ((let it : Laid c.args.words.now c.in-Some.ix = c.layout-found.ensures.found _ c.in-Some.is in it)) c.if-text-gt-MOST_INPUT.false _ c.group_of.ensures
+pub returns : goal.returns
+returns c =
+    call_searched _ _ _ ((let it : Laid c.args.words.now c.in-Some.ix = c.layout.ensures.found _ c.in-Some.is in it)) c.if-text-gt-MOST_INPUT.false _ c.group_of.ensures

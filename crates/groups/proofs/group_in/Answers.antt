@@ -1,5 +1,4 @@
 use borrow.Author.Tests.{not-true, not-false}
-use Prim.Native.Nat.{◌-◌}
 use native.Mathlib.Omega.{arith}
 use mathlib.Core.Path.{◌∙◌, sym}
 use Rattle.table.proofs.GroupWalks.{group-room, group_few, pairs_fit, next_more, next_inside}
@@ -20,13 +19,13 @@ overflow_add-next c =
     let p = c.groups in
     omega (arith, group_few _ p.next p.at _ p.invariant.0.groups c.groups-test.true)
 
-pub loop-i-init : goal.loop-i-init
-loop-i-init c = ask_start _ _ _
+pub loop-c-init : goal.loop-c-init
+loop-c-init c = ask_start _ _ _
 
 pub overflow_add-asked : goal.overflow_add-asked
 overflow_add-asked c =
     let p = c.groups in
-    let q = c.loop-i in
+    let q = c.loop-c in
     let short = c.requires.text_len_bound in
     omega (arith, q.invariant.count, p.invariant.0.few, group_few _ p.next p.at _ p.invariant.0.groups c.groups-test.true)
 
@@ -47,26 +46,26 @@ groups-smaller c =
 pub groups-preserved : goal.groups-preserved
 groups-preserved c =
     let p = c.groups in
-    let q = c.loop-i in
+    let q = c.loop-c in
     let short = c.requires.text_len_bound in
     let h = c.groups-test.true in
     let e = c.group_at-group.ensures in (
       lacking_on _ _ p.next p.at p.asked p.invariant.0 h _ e short _
-          (ask_missing _ _ _ q.asked q.i q.invariant c.loop-i-test.true (sym c.in_section.ensures ∙ not-true _ c.if-not-in_section.true-raw)),
+          (ask_missing _ _ _ q.asked q.c-index q.invariant c.loop-c-test.true (sym c.in_section.ensures ∙ not-true _ c.if-not-in_section.true-raw)),
       sorted_on _ _ p.next p.at p.invariant.1 h _ e,
     )
 
-pub loop-i-preserved : goal.loop-i-preserved
-loop-i-preserved c =
-    let q = c.loop-i in
-    ask_on _ _ _ q.asked q.i q.invariant c.loop-i-test.true (sym c.in_section.ensures ∙ not-false _ c.if-not-in_section.false-raw)
+pub loop-c-preserved : goal.loop-c-preserved
+loop-c-preserved c =
+    let q = c.loop-c in
+    ask_on _ _ _ q.asked q.c-index q.invariant c.loop-c-test.true (sym c.in_section.ensures ∙ not-false _ c.if-not-in_section.false-raw)
 
 pub returns-in-groups : goal.returns-in-groups
 returns-in-groups c =
     let p = c.groups in
-    let q = c.loop-i in
+    let q = c.loop-c in
     lacking_hit _ _ p.next p.at p.asked p.invariant.0 c.groups-test.true _ c.group_at-group.ensures _
-    (ask_stop _ _ _ q.asked q.i q.invariant c.loop-i-test.false)
+    (ask_stop _ _ _ q.asked q.c-index q.invariant c.loop-c-test.false)
 
 pub returns : goal.returns
 returns c =

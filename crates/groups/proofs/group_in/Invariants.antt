@@ -8,11 +8,8 @@ use Rattle.sections.proofs.SortedGroups.{LeftApart}
 use Rattle.groups.proofs.GroupLaws.{Asking, Searching}
 use Rattle.groups.proofs.group_in.Given as goal
 
-abbrev pub invariant-loop-i : goal.invariant-loop-i
-invariant-loop-i l = Asking (λ c. in_pairs c (within l.group.pairs l.part)) l.text l.initial.asked l.asked l.i
-
-abbrev pub decreases-loop-i : goal.decreases-loop-i
-decreases-loop-i l = length l.text - l.i
+abbrev pub invariant-loop-c : goal.invariant-loop-c
+invariant-loop-c l = Asking (λ c. in_pairs c (within l.group.pairs l.part)) l.text l.initial.asked l.asked l.c-index
 
 abbrev pub invariant-groups : goal.invariant-groups
 invariant-groups l = Searching l.part l.text l.next l.at l.asked × GroupWalk l.part l.next l.at (LeftApart l.sorted)

@@ -1,8 +1,7 @@
 -- `lookalike::confusable` meets its contract: the first look shows that the text is not, or the flags that are left say whether some group can spell it
 -- otherwise.
 use mathlib.Core.Path.{refl, sym}
-use Rattle.sections.proofs.SectionLaws.{laid_reads}
-use Rattle.lookalike.proofs.RespellingLaws.{respelt_size, respelt_seen, respelt_unseen}
+use Rattle.lookalike.proofs.RespellingLaws.{respelt_seen, respelt_unseen}
 use Rattle.lookalike.proofs.confusable.Goals as goal
 
 pub make_filter-requires : goal.make_filter-requires
@@ -18,9 +17,6 @@ pub respellings_by-seen-requires : goal.respellings_by-seen-requires
 respellings_by-seen-requires c =
     let p = c.requires in
     record { laid = p.laid; filter = c.make_filter.ensures; memo = p.memo; flags_value = refl }
-
-pub any_set-requires : goal.any_set-requires
-any_set-requires c = respelt_size _ _ _ _ c.respellings_by-seen.ensures.respellings (laid_reads _ _ c.requires.laid).few
 
 pub returns-then-seen : goal.returns-then-seen
 returns-then-seen c =

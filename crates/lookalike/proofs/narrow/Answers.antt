@@ -14,7 +14,7 @@ recall-j-requires c =
 pub keep_outside-requires : goal.keep_outside-requires
 keep_outside-requires c =
     let p = c.requires in
-    record { laid = p.laid; flags_len = p.flags_len; k_len = (recalled_components _ _ _ _ c.recall-j.result c.recall-j.ensures).size }
+    record { laid = p.laid; k_len = (recalled_components _ _ _ _ c.recall-j.result c.recall-j.ensures).size }
 
 pub returns-in-Some : goal.returns-in-Some
 returns-in-Some c =
@@ -28,4 +28,4 @@ returns-in-None c =
     let p = c.requires in
     let w = c.whole_by-whole in
     let e = whole_missing _ _ w.result w.ensures c.in-None.is in
-    record { narrowed = narrow_plain _ _ (laid_reads _ _ p.laid).few _ _ e c.keep_holders.ensures; memo_2 = p.memo }
+    record { narrowed = narrow_plain _ _ (laid_reads _ _ p.laid).few _ _ e c.keep_holding.ensures; memo_2 = p.memo }

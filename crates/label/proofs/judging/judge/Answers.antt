@@ -3,7 +3,7 @@ use mathlib.Core.Path.{◌∙◌, sym}
 use borrow.Author.Tests.{not-true, not-false}
 use Rattle.label.proofs.JudgingLaws.{codes_length, judged_now, judged_as, at-emoji, at_ascii, at-emoji_mixed, at-text_mixed}
 use Rattle.label.proofs.judging.judge.Goals as goal
-use Rattle.label.proofs.judging.judge.Goals.{else-not-emoji, then-not-emoji+else-all_ascii}
+use Rattle.label.proofs.judging.judge.Goals.{else-not-emoji-via-else-not-emoji, else-not-emoji-via-then-not-emoji+else-all_ascii}
 
 pub returns-then-not-text : goal.returns-then-not-text
 returns-then-not-text c =
@@ -23,7 +23,7 @@ pub returns : goal.returns
 returns c =
     let w = c.judge_mixed.ensures in record {
       cells_judged = judged_as _ _ _ _ _
-          ((elim c.if-not-emoji.branch [ then-not-emoji+else-all_ascii x ↦ at-text_mixed _ _ _ _ _ _ (not-false _ c.if-not-text.false-raw) (not-true _ x.if-not-emoji.true-raw) (sym x.if-all_ascii.false ∙ x.all_ascii.ensures) | else-not-emoji x ↦ at-emoji_mixed _ _ _ _ _ _ (not-false _ c.if-not-text.false-raw) (not-false _ x.if-not-emoji.false-raw) ]))
+          ((elim c.else-not-emoji.branch [ else-not-emoji-via-then-not-emoji+else-all_ascii x ↦ at-text_mixed _ _ _ _ _ _ (not-false _ c.if-not-text.false-raw) (not-true _ x.if-not-emoji.true-raw) (sym x.if-all_ascii.false ∙ x.all_ascii.ensures) | else-not-emoji-via-else-not-emoji x ↦ at-emoji_mixed _ _ _ _ _ _ (not-false _ c.if-not-text.false-raw) (not-false _ x.if-not-emoji.false-raw) ]))
           w.cells_judged;
       memo_2 = w.memo_2;
     }
