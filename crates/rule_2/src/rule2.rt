@@ -55,7 +55,7 @@ fn covered_at(valid: &[u32], groups: &[u32], set: &[u32], d: u32) -> bool
     !spelled
 }
 
-// The same for the 32 places of the word i.
+// The same for the 32 places of the word i. Rule 6 has such lines for its own test: each is one call of the library's `all`.
 fn covered_places(valid: &[u32], groups: &[u32], set: &[u32], i: u32) -> bool
     requires valid_len { length valid.now ≡ window_words }
     requires groups_len { length groups.now ≡ window_words }
@@ -116,6 +116,7 @@ fn all_covered(
         other.old }
     ensures { Passes (covered (the_table words.now)) 0x110000 result }
 {
+    // A walk like that of rule 6: a closure for the turn would hold all that is lent here, and say no less.
     for window in 0..WINDOWS {
         let base = window * WINDOW;
         reach(words, ix, part, gs, false, 4, base, rows, heads, set, other);

@@ -7,9 +7,9 @@ ghost use Rattle.sections.specs.Laid.{Laid};
 ghost use Rattle.sound_parts.specs.Parts.{is_valid};
 ghost use Rattle.soundness.specs.Valid.{rule3};
 
+use records::Heads;
 use sections::Sections;
 use sections::lookup::is_valid;
-use sound_parts::records::all_heads;
 
 // Whether the items are valid.
 pub fn valid_items(words: &[u32], ix: Sections, items: &[u32]) -> bool
@@ -24,8 +24,5 @@ pub fn keeps_rule3(words: &[u32], ix: Sections) -> bool
     requires { Laid words.now ix }
     ensures { result ≡ rule3 (the_table words.now) }
 {
-    all_heads(
-        ix.mapped.of(words),
-        |_, items| valid_items(words, ix, items),
-    )
+    Heads::of(ix.mapped.of(words)).all(|(_, items)| valid_items(words, ix, items))
 }

@@ -1,18 +1,18 @@
 -- Laws of sequences stripped of FE0F.
-use Prim.Native.Nat.{ℕ, ◌+◌, ◌-◌, ◌<◌, ◌≤◌}
+use Prim.Native.Nat.{ℕ, ◌+◌, ◌<◌, ◌≤◌}
 use native.Mathlib.Numerals.{add-one}
 use native.Mathlib.Omega.{arith}
 use mathlib.Core.Path.{◌≡◌, refl, sym, ◌∙◌, ap}
 use mathlib.Core.Bool.{Bool, true, false, not, ◌&&◌, ◌||◌}
 use mathlib.Core.List.{List, [], ◌∷◌, ◌++◌, append-nil}
-use lib.ListN.{length, get_or, take, drop, length-drop, drop_of_length-le, take-append-drop}
+use lib.ListN.{length, get_or, take, drop, drop_of_length-le, take-append-drop}
 use lib.Seq.{take-suc}
 use lib.Dec.{leb, eqb}
 use borrow.Author.Tests.{eq-eqb, ne_eqb, leb-true, leb-false}
 use Rattle.lists.specs.Lists.{all, any, same_list}
 use Rattle.lists.specs.Elements.{keep_append}
 use Rattle.lists.specs.Tests.{any-map}
-use Rattle.table.proofs.Lookups.{drop-next, drop-two, Walk, walk_on}
+use Rattle.table.proofs.Lookups.{drop-next}
 use Rattle.table.specs.Table.{Table}
 use Rattle.finder.specs.Emoji.{selector, strip}
 use Rattle.soundness.specs.Sequences.{starts_with, two_selectors, stripped_emoji, rule4}
@@ -30,30 +30,15 @@ pub strip_item : (x : ℕ) (s : List ℕ) → eqb x selector ≡ false → strip
 unfolding strip
 strip_item x s e = rw e
 
--- two FE0F together, from i on
-module _ (ws : List ℕ) (i : ℕ) (w : Walk two_selectors ws i) (h : 1 < length ws - i) where
-  pub two_hit : get_or ws i 0 ≡ selector → get_or ws (i + 1) 0 ≡ selector → true ≡ two_selectors ws
-  two_hit a b = rw (w.same, drop-two ws i h, eq-eqb _ _ a, eq-eqb selector (get_or ws (i + 1) 0) (sym b))
-
-  pub two_other : (get_or ws i 0 ≡ selector → ⊥) → Walk two_selectors ws (i + 1)
-  two_other a = walk_on _ _ i 1 w (omega arith) (rw (drop-next ws i (omega arith), ne_eqb _ _ a))
-
-  pub two-single : get_or ws i 0 ≡ selector → (get_or ws (i + 1) 0 ≡ selector → ⊥) → Walk two_selectors ws (i + 1)
-  two-single a b =
-      let n : drop (i + 1) ws ≡ get_or ws (i + 1) 0 ∷ drop (i + 1 + 1) ws = drop-next ws (i + 1) (omega arith) in
-      walk_on _ _ i 1 w (omega arith) (rw (drop-next ws i (omega arith), n, eq-eqb _ _ a, ne_eqb selector (get_or ws (i + 1) 0) (λ e. b (sym e))))
-
-pub two_done : (ws : List ℕ) (i : ℕ) → Walk two_selectors ws i → length ws - i ≤ 1 → false ≡ two_selectors ws
-two_done ws i w h = rw w.same (go (drop i ws) (simp length-drop h))
+-- fewer than two items
+pub two_done : (ws : List ℕ) → length ws < 2 → false ≡ two_selectors ws
+two_done [] h = refl
+two_done (x ∷ []) h = one (eqb x selector)
   where
     one : (b : Bool) → false ≡ b && false || false
     one true = refl
     one false = refl
-
-    go : (vs : List ℕ) → length vs ≤ 1 → false ≡ two_selectors vs
-    go [] k = refl
-    go (a ∷ []) k = one (eqb a selector)
-    go (a ∷ b ∷ vs) k = absurd (omega arith)
+two_done (x ∷ y ∷ vs) h = absurd (omega arith)
 
 -- The search for the next item that is not FE0F has come to r.
 pub record Skipped (s : List ℕ) (i r : ℕ) : Type 0 where

@@ -1,6 +1,8 @@
 -- What the check asks of emoji sequences, given by their items with FE0F among them.
 use Rattle.std.specs.Prelude.{ℕ, ◌≤◌, ◌<◌, ◌≡◌, Bool, true, false, not, ◌&&◌, List, map, length, get_or, take, drop, eqb}
 use Rattle.lists.specs.Lists.{mem, same_list, distinct_lists}
+use Rattle.firsts.specs.Firsts.{steady}
+use Rattle.records.specs.Left.{lists_left}
 use Rattle.finder.specs.Emoji.{selector, strip}
 use Rattle.soundness.specs.Sequences.{starts_with, two_selectors}
 
@@ -31,3 +33,7 @@ pub record Bounded (sorted : Bool) (s : List ℕ) : Type 0 where
   pub steady : sorted ≡ true
   pub some : 0 < length s
   pub plain : get_or s 0 0 ≡ selector → ⊥
+
+-- the first items of the sequences that the words hold do not fall, none of them FE0F, where `sorted` says so
+abbrev pub Steady : Bool → List ℕ → Type 0
+Steady sorted part = sorted ≡ true → steady 0 (lists_left part) ≡ true

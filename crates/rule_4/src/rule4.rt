@@ -1,20 +1,16 @@
 // Rule 4, on emoji sequences.
-ghost use Rattle.std.specs.Prelude.{◌≡◌, true, ◌&&◌, ◌≤◌, length, get_or, drop};
+ghost use Rattle.std.specs.Prelude.{◌≡◌, true, ◌&&◌, ◌≤◌, length, get_or};
 ghost use Rattle.lists.specs.Lists.{all, any};
-ghost use Rattle.table.specs.Layout.{sequences, the_table};
+ghost use Rattle.table.specs.Layout.{the_table};
 ghost use Rattle.sections.specs.Laid.{Laid};
-ghost use Rattle.table.specs.Spans.{Fits, within};
 ghost use Rattle.soundness.specs.Sequences.{starts_with, two_selectors, rule4};
-ghost use Rattle.table.specs.Part.{records_in};
-ghost use Rattle.sound_parts.specs.Parts.{Holds};
-ghost use Rattle.firsts.specs.Firsts.{FirstsSteady};
-ghost use Rattle.rule_4.specs.Strips.{plain_sequence, same_stripped, distinct_stripped, NextItem, Bounded};
+ghost use Rattle.records.specs.Left.{lists_left};
+ghost use Rattle.rule_4.specs.Strips.{plain_sequence, same_stripped, distinct_stripped, NextItem, Bounded, Steady};
 
 use finder::shared::shared;
+use records::Lists;
 use sections::Sections;
-use sound_parts::records::all_sequences;
-use table::Span;
-use table::lookup::{counted, mem_in};
+use table::lookup::mem_in;
 
 const SELECTOR: u32 = 0xFE0F;
 
@@ -32,12 +28,10 @@ pub fn starts_with(items: &[u32], c: u32) -> bool
 fn two_selectors(items: &[u32]) -> bool
     ensures { result ≡ two_selectors items.now }
 {
-    let mut i: usize = 0;
-    while 1 < items.len() - i {
-        if items[i] == SELECTOR && items[i + 1] == SELECTOR {
+    for &[a, b] in items.array_windows::<2>() {
+        if a == SELECTOR && b == SELECTOR {
             return true;
         }
-        i += 1;
     }
     false
 }
@@ -60,14 +54,12 @@ pub fn next_item(items: &[u32], i: usize) -> usize
     requires { i ≤ length items.now }
     ensures { NextItem items.now i result }
 {
-    let mut r = i;
-    while r < items.len() {
+    for r in i..items.len() {
         if items[r] != SELECTOR {
             return r;
         }
-        r += 1;
     }
-    r
+    items.len()
 }
 
 // Whether two sequences are equal when stripped: compared item by item behind the start that they share.
@@ -77,6 +69,7 @@ fn same_stripped(a: &[u32], b: &[u32]) -> bool
     let k = shared(a, b);
     let mut i = next_item(a, k);
     let mut j = next_item(b, k);
+    // by hand: each place goes on by the FE0F that stand there, in the one sequence and in the other
     while i < a.len() {
         if b.len() <= j {
             return false;
@@ -90,21 +83,11 @@ fn same_stripped(a: &[u32], b: &[u32]) -> bool
     b.len() <= j
 }
 
-fn same_stripped_of(items: &[u32], part: &[u32], s: Span) -> bool
-    requires { Fits part.now s }
-    ensures { result ≡ same_stripped items.now (within s part.now) }
-{
-    same_stripped(items, s.of(part))
-}
-
 // The first item, or 0.
 pub fn first_of(items: &[u32]) -> u32
     ensures { result ≡ get_or items.now 0 0 }
 {
-    if items.len() == 0 {
-        return 0;
-    }
-    items[0]
+    items.first().copied().unwrap_or(0)
 }
 
 // Whether no sequence that starts above the items, or below them, is equal to them when stripped: sequences are sorted, and the first item
@@ -124,88 +107,53 @@ pub fn is_bounded(sorted: bool, items: &[u32]) -> bool
 // Whether one of the sequences is equal to the items when stripped. Where the items start with one that is not FE0F, no sequence is that starts with
 // another, save FE0F; where the sequences are sorted, none is from one on that starts above the items.
 pub fn any_same(part: &[u32], sorted: bool, items: &[u32]) -> bool
-    requires holds { Holds sequences part.now }
-    requires firsts_steady { sorted ≡ true → FirstsSteady part.now }
-    ensures { result ≡ any (same_stripped items.now) (records_in sequences part.now) }
+    requires { Steady sorted part.now }
+    ensures { result ≡ any (same_stripped items.now) (lists_left part.now) }
 {
     let bounded = is_bounded(sorted, items);
     let certain = is_bounded(true, items);
     let first = first_of(items);
-    // by hand: a record's length is its own, and where the sequences are sorted the walk ends early
-    let mut i: usize = 0;
-    while i < part.len() {
-        let s = counted(part, i);
-        let other = part[i + 1];
-        if (certain & (other != first)) & (other != SELECTOR) {
-            if bounded & (first < other) {
+    for other in Lists::of(part) {
+        let start = first_of(other);
+        if (certain & (start != first)) & (start != SELECTOR) {
+            if bounded & (first < start) {
                 return false;
             }
         } else {
-            if same_stripped_of(items, part, s) {
+            if same_stripped(items, other) {
                 return true;
             }
         }
-        i = s.to;
     }
     false
 }
 
-// The same of the items at s and the sequences behind them.
-fn same_behind(part: &[u32], sorted: bool, s: Span) -> bool
-    requires fits { Fits part.now s }
-    requires holds { Holds sequences (drop s.to part.now) }
-    requires firsts_steady { sorted ≡ true → FirstsSteady (drop s.to part.now) }
-    ensures { result ≡ any (same_stripped (within s part.now)) (records_in sequences (drop s.to part.now)) }
-{
-    let from = s.from;
-    let to = s.to;
-    any_same(&part[to..], sorted, &part[from..to])
-}
-
 // Whether no two of the sequences are equal when stripped.
 fn distinct_stripped(part: &[u32], sorted: bool) -> bool
-    requires holds { Holds sequences part.now }
-    requires firsts_steady { sorted ≡ true → FirstsSteady part.now }
-    ensures { result ≡ distinct_stripped (records_in sequences part.now) }
+    requires { Steady sorted part.now }
+    ensures { result ≡ distinct_stripped (lists_left part.now) }
 {
-    // by hand: each record is asked with those behind it, and its length is its own
-    let mut i: usize = 0;
-    while i < part.len() {
-        let s = counted(part, i);
-        if same_behind(part, sorted, s) {
+    let mut left = Lists::of(part);
+    while let Some(items) = left.next() {
+        if any_same(left.part, sorted, items) {
             return false;
         }
-        i = s.to;
     }
     true
 }
 
 // Whether all of the sequences are plain.
 fn plain_sequences(part: &[u32]) -> bool
-    requires { Holds sequences part.now }
-    ensures { result ≡ all plain_sequence (records_in sequences part.now) }
+    ensures { result ≡ all plain_sequence (lists_left part.now) }
 {
-    all_sequences(part, plain_sequence)
+    Lists::of(part).all(plain_sequence)
 }
 
 fn sequences_fit(part: &[u32], sorted: bool) -> bool
-    requires holds { Holds sequences part.now }
-    requires firsts_steady { sorted ≡ true → FirstsSteady part.now }
-    ensures { result ≡ (all plain_sequence (records_in sequences part.now) && distinct_stripped (records_in sequences part.now)) }
+    requires { Steady sorted part.now }
+    ensures { result ≡ (all plain_sequence (lists_left part.now) && distinct_stripped (lists_left part.now)) }
 {
-    if !plain_sequences(part) {
-        return false;
-    }
-    distinct_stripped(part, sorted)
-}
-
-fn sequences_fit_of(words: &[u32], sorted: bool, s: Span) -> bool
-    requires fits { Fits words.now s }
-    requires holds { Holds sequences (within s words.now) }
-    requires firsts_steady { sorted ≡ true → FirstsSteady (within s words.now) }
-    ensures { result ≡ (all plain_sequence (records_in sequences (within s words.now)) && distinct_stripped (records_in sequences (within s words.now))) }
-{
-    sequences_fit(s.of(words), sorted)
+    plain_sequences(part) && distinct_stripped(part, sorted)
 }
 
 // Rule 4: no sequence holds 2E, starts with FE0F or has two FE0F together; stripped, no two are equal.
@@ -213,5 +161,5 @@ pub fn keeps_rule4(words: &[u32], ix: Sections) -> bool
     requires { Laid words.now ix }
     ensures { result ≡ rule4 (the_table words.now) }
 {
-    sequences_fit_of(words, ix.sorted.emoji, ix.emoji)
+    sequences_fit(ix.emoji.of(words), ix.sorted.emoji)
 }

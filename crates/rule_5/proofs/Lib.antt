@@ -1,2 +1,1 @@
 pub mod ApartLaws
-pub mod SoughtLaws

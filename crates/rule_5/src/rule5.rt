@@ -1,24 +1,23 @@
 // Rule 5: a scan of an answer finds the emoji sequences that are meant, and no others.
-ghost use Rattle.std.specs.Prelude.{◌≡◌, true, ◌&&◌, ◌<◌, length, get_or, take};
+ghost use Rattle.std.specs.Prelude.{◌≡◌, ◌&&◌, ◌<◌, length, get_or, take};
 ghost use Rattle.lists.specs.Lists.{all, any};
 ghost use Rattle.table.specs.Layout.{sequences, the_table};
 ghost use Rattle.sections.specs.Laid.{Laid};
-ghost use Rattle.table.specs.Spans.{Fits, within};
 ghost use Rattle.finder.specs.Emoji.{strip};
 ghost use Rattle.soundness.specs.Sequences.{starts_with, one_valid, can_start, apart, rule5};
 ghost use Rattle.table.specs.Part.{records_in};
 ghost use Rattle.sound_parts.specs.Parts.{Holds};
-ghost use Rattle.firsts.specs.Firsts.{FirstsSteady, FirstsKnown};
-ghost use Rattle.rule_4.specs.Strips.{same_stripped};
+ghost use Rattle.firsts.specs.Firsts.{FirstsKnown};
+ghost use Rattle.records.specs.Left.{lists_left};
+ghost use Rattle.rule_4.specs.Strips.{same_stripped, Steady};
 ghost use Rattle.rule_5.specs.Apart.{keeps_apart, stands_alone};
 ghost use Rattle.rule_5.specs.Sought.{EmojiKnown};
 
 use firsts::seek;
-use rule_4::rule4::{any_same, first_of, is_bounded, next_item};
+use records::Lists;
+use rule_4::rule4::{any_same, first_of, is_bounded, next_item, starts_with};
 use sections::Sections;
 use sections::lookup::is_valid;
-use table::Span;
-use table::lookup::counted;
 
 // Whether the stripped items are one valid codepoint.
 fn one_valid(words: &[u32], ix: Sections, items: &[u32]) -> bool
@@ -38,22 +37,16 @@ fn one_valid(words: &[u32], ix: Sections, items: &[u32]) -> bool
 
 // Whether c is first of one of the sequences. Where they are sorted, it is first of none from one on that starts above it.
 fn first_in(part: &[u32], sorted: bool, c: u32) -> bool
-    requires holds { Holds sequences part.now }
-    requires firsts_steady { sorted ≡ true → FirstsSteady part.now }
-    ensures { result ≡ any (starts_with c) (records_in sequences part.now) }
+    requires { Steady sorted part.now }
+    ensures { result ≡ any (starts_with c) (lists_left part.now) }
 {
-    // by hand: a record's length is its own, and the place goes on by it
-    let mut i: usize = 0;
-    while i < part.len() {
-        let first = part[i + 1];
-        if first == c {
+    for items in Lists::of(part) {
+        if starts_with(items, c) {
             return true;
         }
-        if sorted & (c < first) {
+        if sorted & (c < first_of(items)) {
             return false;
         }
-        let s = counted(part, i);
-        i = s.to;
     }
     false
 }
@@ -159,18 +152,9 @@ fn sequence_apart(words: &[u32], ix: Sections, emoji: &[u32], items: &[u32]) -> 
 fn sequences_apart(words: &[u32], ix: Sections, emoji: &[u32]) -> bool
     requires laid { Laid words.now ix }
     requires emoji_known { EmojiKnown (the_table words.now) ix emoji.now }
-    ensures { result ≡ all (keeps_apart (the_table words.now)) (records_in sequences emoji.now) }
+    ensures { result ≡ all (keeps_apart (the_table words.now)) (lists_left emoji.now) }
 {
-    // by hand: a record's length is its own, and the place goes on by it
-    let mut i: usize = 0;
-    while i < emoji.len() {
-        let s = counted(emoji, i);
-        if !sequence_apart(words, ix, emoji, s.of(emoji)) {
-            return false;
-        }
-        i = s.to;
-    }
-    true
+    Lists::of(emoji).all(|items| sequence_apart(words, ix, emoji, items))
 }
 
 // Rule 5: no valid codepoint is alone a stripped sequence, and no sequence goes on where a shorter one or a valid codepoint ends and another can start.

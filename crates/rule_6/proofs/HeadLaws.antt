@@ -1,37 +1,30 @@
 -- Laws of rule 6, head by head.
 use Prim.Native.Nat.{ℕ, zero, suc, ◌+◌, ◌-◌, ◌≤◌, ◌/◌, ◌%◌}
 use native.Mathlib.Omega.{arith}
-use mathlib.Core.Path.{◌≡◌, refl, sym, ◌∙◌, ap}
-use mathlib.Core.Bool.{Bool, true, false, not, ◌&&◌, cond}
+use mathlib.Core.Path.{◌≡◌, refl, ap}
+use mathlib.Core.Bool.{Bool, true, false, not, ◌&&◌, ◌||◌, cond}
 use mathlib.Core.List.{List, [], ◌∷◌}
 use mathlib.Core.Option.{Option, none, some, map, get_or}
 use lib.ListN.{length, take, drop, length-take}
 use lib.Dec.{leb, eqb}
 use borrow.Author.Tests.{le-leb, leb-true}
-use Rattle.lists.specs.Lists.{all, mem, first_with, joined_map, is_some, same_list, distinct}
+use Rattle.lists.specs.Lists.{all, any, mem, first_with, joined_map, same_list, distinct}
 use Rattle.lists.specs.Laws.{Every, every_imp, every_all, all_every, every_member, found_member, same-list, joined_self, joined_fixed, both}
 use Rattle.lists.specs.Elements.{list_same}
 use Rattle.lists.specs.Tests.{agree}
-use Rattle.table.specs.declared.Span.{Span}
 use Rattle.sections.specs.declared.Sections.{Sections}
-use Rattle.std.specs.declared.option.Option as rust
-use Rattle.std.specs.declared.option.Option.TheVariants.{Some, None}
 use Rattle.table.specs.Table.{Headed, Table}
-use Rattle.table.specs.Layout.{most_items, most_parts, in_front, count_fits, headed, the_table}
+use Rattle.table.specs.Layout.{most_parts, in_front, count_fits, headed, the_table}
 use Rattle.table.specs.Lookup.{items_of}
 use Rattle.sections.specs.Laid.{Laid}
-use Rattle.table.specs.Part.{ItemsFound, heads_in}
 use Rattle.sections.proofs.SectionLaws.{laid_reads}
 use Rattle.table.proofs.Lookups.{only_if-some, in_front-some}
 use Rattle.table.proofs.Records.{count_fits_lem}
-use Rattle.table.proofs.Searches.{items_there, items_missing}
 use Rattle.text.specs.Hangul.{first_syllable, is_syllable, jamo_of}
 use Rattle.text.specs.Decomposition.{single, round, four_rounds}
 use Rattle.soundness.specs.Pairs.{decomposes_fully, heads, plain_head, spares_hangul, rule6}
-use Rattle.table.specs.Part.{records_in}
-use Rattle.sound_parts.specs.Parts.{record_of, as_headed}
+use Rattle.sound_parts.specs.Parts.{record_of}
 use Rattle.sound_choices.specs.Rounds.{heads_of}
-use Rattle.sound_choices.proofs.RoundLaws.{found_head}
 use Rattle.rule_6.specs.Heads.{is_stable, head_fits, heads_fit}
 
 -- a record has at least one item
@@ -94,15 +87,10 @@ module _ (t : Table) (filled : (c : ℕ) → 1 ≤ length (single t c)) where
   unfolding decomposes_fully round
   fully_is c = let s = four_rounds t (c ∷ []) in agree _ _ (stable_fixed s) (fixed_stable s)
 
-module _ (part : List ℕ) (c : ℕ) (r : rust.Option Span) (i : ItemsFound part most_items (items_of (heads_in part) c) r) where
-  head_is : is_some (items_of (heads_in part) c) ≡ mem c (heads_of (records_in as_headed part))
-  head_is = found_head (heads_in part) c
-
-  pub head_there : (s : Span) → r ≡ Some s → true ≡ mem c (heads_of (records_in as_headed part))
-  head_there s e = ap is_some (sym (items_there part most_items _ r i s e).same) ∙ head_is
-
-  pub head_missing : r ≡ None → false ≡ mem c (heads_of (records_in as_headed part))
-  head_missing e = ap is_some (sym (items_missing part most_items _ r i e)) ∙ head_is
+-- a head is one of the heads where a record has it
+pub head_among : (rs : List Headed) (c : ℕ) → any (λ (r : Headed). eqb c r.head) rs ≡ mem c (heads_of rs)
+head_among [] c = refl
+head_among (r ∷ rs) c = ap (λ b. eqb c r.head || b) (head_among rs c)
 
 -- the first head, and the later ones
 module _ (h : ℕ) (s : List ℕ) (later : List Headed) where

@@ -1,14 +1,12 @@
 // Rule 6, on the heads of decompositions and on classes.
-ghost use Rattle.std.specs.Prelude.{◌≡◌, true, ◌||◌, ◌+◌, ◌<◌, length, drop};
+ghost use Rattle.std.specs.Prelude.{◌≡◌, true, ◌||◌, ◌+◌, ◌<◌, length};
 ghost use Rattle.lists.specs.Lists.{all, mem};
 ghost use Rattle.sections.specs.Laid.{Laid};
-ghost use Rattle.table.specs.Spans.{Fits, within};
 ghost use Rattle.table.specs.Layout.{the_table};
 ghost use Rattle.text.specs.Hangul.{is_syllable};
 ghost use Rattle.soundness.specs.Scalars.{rule1};
 ghost use Rattle.soundness.specs.Pairs.{decomposes_fully, heads, rule6};
-ghost use Rattle.table.specs.Part.{records_in};
-ghost use Rattle.sound_parts.specs.Parts.{Holds, as_headed};
+ghost use Rattle.records.specs.Left.{heads_left};
 ghost use Rattle.bit_sets.specs.Sets.{has, window_words};
 ghost use Rattle.sound_choices.specs.Rounds.{heads_of, start_of, Holding};
 ghost use Rattle.sound_rounds.specs.Reached.{PartsOf, RoundsChosen};
@@ -17,12 +15,11 @@ ghost use Rattle.rule_6.specs.Heads.{is_stable, stable_at, settled, head_fits, h
 
 use bit_sets::has;
 use decomposition::{is_alone, replaced};
+use records::Heads;
 use sections::Sections;
 use sound_choices::choices::find_first;
 use sound_parts::spared::{classes_spare_of, plain_head};
 use sound_rounds::rounds::{choose_rounds, no_syllables, reach};
-use table::Span;
-use table::lookup::{counted, head_in};
 use text::hangul::is_syllable;
 
 const WINDOW: u32 = 0x10000;
@@ -44,39 +41,27 @@ fn is_stable(words: &[u32], ix: Sections, c: u32) -> bool
 
 // Whether c is the head of one of the records.
 fn has_head(part: &[u32], c: u32) -> bool
-    requires { Holds as_headed part.now }
-    ensures { result ≡ mem c (heads_of (records_in as_headed part.now)) }
+    ensures { result ≡ mem c (heads_of (heads_left part.now)) }
 {
-    match head_in(part, c) {
-        Some(_) => true,
-        None => false,
-    }
+    Heads::of(part).any(|(head, _)| c == head)
 }
 
 // Whether a head is plain and none of those behind it.
 fn head_fits(head: u32, behind: &[u32]) -> bool
-    requires { Holds as_headed behind.now }
-    ensures { result ≡ head_fits head (records_in as_headed behind.now) }
+    ensures { result ≡ head_fits head (heads_left behind.now) }
 {
-    if !plain_head(head) {
-        return false;
-    }
-    !has_head(behind, head)
+    plain_head(head) && !has_head(behind, head)
 }
 
 // Whether the heads of the records are plain and distinct.
 fn heads_fit(part: &[u32]) -> bool
-    requires { Holds as_headed part.now }
-    ensures { result ≡ heads_fit (records_in as_headed part.now) }
+    ensures { result ≡ heads_fit (heads_left part.now) }
 {
-    // by hand: a record's length is its own, and the place goes on by it
-    let mut i: usize = 0;
-    while i < part.len() {
-        let s = counted(part, i + 1);
-        if !head_fits(part[i], &part[s.to..]) {
+    let mut left = Heads::of(part);
+    while let Some((head, _)) = left.next() {
+        if !head_fits(head, left.part) {
             return false;
         }
-        i = s.to;
     }
     true
 }
@@ -109,7 +94,7 @@ fn stable_at(words: &[u32], ix: Sections, heads: &[u32], set: &[u32], base: u32,
     is_stable(words, ix, base + d)
 }
 
-// The same for the 32 places of the word i.
+// The same for the 32 places of the word i. Rule 2 has such lines for its own test: each is one call of the library's `all`.
 fn stable_places(words: &[u32], ix: Sections, heads: &[u32], set: &[u32], base: u32, i: u32) -> bool
     requires laid { Laid words.now ix }
     requires holding { Holding base heads.now (heads_of (the_table words.now).decompositions) }
@@ -170,6 +155,7 @@ fn all_stable(
         other.old }
     ensures { Passes (settled (the_table words.now)) 0x110000 result }
 {
+    // A walk like that of rule 2: a closure for the turn would hold all that is lent here, and say no less.
     for window in 0..WINDOWS {
         let base = window * WINDOW;
         reach(words, ix, part, gs, true, 4, base, rows, heads, set, other);

@@ -56,12 +56,7 @@ module _ (t : Table) (h : ℕ) (s : List ℕ) where
       unfolding pair_of
       pair-first k f g = rw (are_two s two, e, eq-eqb (class_of t h) 0 f, first_is s two, g)
 
--- Two lists of one length compared word by word have come to i.
-pub record SameSoFar (a b : List ℕ) (i : ℕ) : Type 0 where
-  pub inside : i ≤ length a
-  pub long : length a ≡ length b
-  pub same : same_list a b ≡ same_list (drop i a) (drop i b)
-
+-- lists of different lengths
 pub differ_length : (a b : List ℕ) → (length a ≡ length b → ⊥) → false ≡ same_list a b
 differ_length [] [] h = absurd (h refl)
 differ_length [] (y ∷ b) h = refl
@@ -71,27 +66,6 @@ differ_length (x ∷ a) (y ∷ b) h = go (eqb x y) (differ_length a b (λ e. h (
     go : (t : Bool) → false ≡ same_list a b → false ≡ t && same_list a b
     go true e = e
     go false e = refl
-
-module _ (a b : List ℕ) where
-  pub same_start : length a ≡ length b → SameSoFar a b 0
-  same_start e = record { inside = omega arith; long = e; same = refl }
-
-  module _ (i : ℕ) (w : SameSoFar a b i) where
-    pub same_differ : i < length a → (get_or a i 0 ≡ get_or b i 0 → ⊥) → false ≡ same_list a b
-    same_differ h e = rw (w.same, drop-next a i h, drop-next b i (omega arith), ne_eqb (get_or a i 0) (get_or b i 0) e)
-
-    pub same_on : i < length a → get_or a i 0 ≡ get_or b i 0 → SameSoFar a b (i + 1)
-    same_on h e =
-        let k : same_list (drop i a) (drop i b) ≡ same_list (drop (i + 1) a) (drop (i + 1) b)
-        = rw (drop-next a i h, drop-next b i (omega arith), eq-eqb (get_or a i 0) (get_or b i 0) e) in
-        record { inside = omega arith; long = w.long; same = w.same ∙ k }
-
-    pub same_done : length a ≤ i → true ≡ same_list a b
-    same_done h =
-        let k : length b ≤ i = omega arith in
-        let p : drop i a ≡ [] = drop_of_length-le a h in
-        let q : drop i b ≡ [] = drop_of_length-le b k in
-        rw (w.same, p, q)
 
 -- a Hangul pair, by its first two items
 pub hangul_short : (s : List ℕ) → length s < 2 → false ≡ is_hangul_pair s

@@ -8,20 +8,20 @@ ghost use Rattle.table.specs.Spans.{Fits, within};
 ghost use Rattle.scalar.specs.Scalar.{is_scalar};
 ghost use Rattle.soundness.specs.Scalars.{scalar_headed, scalar_group};
 ghost use Rattle.table.specs.Part.{records_in};
-ghost use Rattle.sound_parts.specs.Parts.{Holds, as_headed, scalar_whole};
+ghost use Rattle.sound_parts.specs.Parts.{Holds, as_headed, scalar_whole, list_records, ListHolds};
 
+use records::{Heads, Lists, Wholes};
 use scalar::is_scalar;
 use scalar_runs::{scalar_items, scalar_pairs};
-use sound_parts::records::{all_heads, all_sequences};
 use table::Span;
-use table::lookup::{counted, group_at};
+use table::lookup::group_at;
 
 // Whether the heads and items of records head, count, items are scalar values.
 fn scalar_heads(part: &[u32]) -> bool
     requires { Holds as_headed part.now }
     ensures { result ≡ scalar_headed (records_in as_headed part.now) }
 {
-    all_heads(part, |head, items| is_scalar(head) && scalar_items(items))
+    Heads::of(part).all(|(head, items)| is_scalar(head) && scalar_items(items))
 }
 
 // Whether the items of records count, items are scalar values.
@@ -29,7 +29,18 @@ fn scalar_sequences(part: &[u32]) -> bool
     requires { Holds sequences part.now }
     ensures { result ≡ all (all is_scalar) (records_in sequences part.now) }
 {
-    all_sequences(part, scalar_items)
+    Lists::of(part).all(scalar_items)
+}
+
+// Whether the items of the records of a list are scalar values, if there is one.
+fn scalar_list(part: &[u32], list: Option<Span>) -> bool
+    requires { ListHolds part.now list }
+    ensures { result ≡ all (all is_scalar) (list_records part.now list) }
+{
+    match list {
+        Some(s) => scalar_sequences(s.of(part)),
+        None => true,
+    }
 }
 
 // Whether the pairs of groups and the items of their lists are scalar values.
@@ -44,7 +55,7 @@ fn scalar_groups(part: &[u32]) -> bool
         if !scalar_pairs(group.pairs.of(part)) {
             return false;
         }
-        if !scalar_sequences(group.list.of(part)) {
+        if !scalar_list(part, group.list) {
             return false;
         }
         i = group.next;
@@ -57,20 +68,7 @@ fn scalar_wholes(part: &[u32]) -> bool
     requires { Holds wholes part.now }
     ensures { result ≡ all scalar_whole (records_in wholes part.now) }
 {
-    // by hand: a record's length is its own, and the place goes on by it
-    let mut i: usize = 0;
-    while i < part.len() {
-        let valid = counted(part, i);
-        let confused = counted(part, valid.to);
-        if !scalar_items(valid.of(part)) {
-            return false;
-        }
-        if !scalar_items(confused.of(part)) {
-            return false;
-        }
-        i = confused.to;
-    }
-    true
+    Wholes::of(part).all(|(valid, confused)| scalar_items(valid) && scalar_items(confused))
 }
 
 // The same of the records of a part.

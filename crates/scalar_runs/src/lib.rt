@@ -9,7 +9,6 @@ ghost use Rattle.soundness.specs.Scalars.{scalars_between};
 ghost use Rattle.sound_parts.specs.Parts.{all_pairs, all_triples, scalar_triple, behind_count, ExcludedFits};
 
 use scalar::is_scalar;
-use sound_parts::records::{all_pairs, all_triples};
 use table::Span;
 
 // Whether every codepoint from first to last is a scalar value.
@@ -23,14 +22,20 @@ fn scalars_between(first: u32, last: u32) -> bool
 pub fn scalar_pairs(part: &[u32]) -> bool
     ensures { result ≡ all_pairs scalars_between part.now }
 {
-    all_pairs(part, scalars_between)
+    let (pairs, _) = part.as_chunks::<2>();
+    pairs
+        .iter()
+        .all(|&[first, last]| scalars_between(first, last))
 }
 
 // Whether the triples first, last, class are of scalar values.
 fn scalar_triples(part: &[u32]) -> bool
     ensures { result ≡ all_triples scalar_triple part.now }
 {
-    all_triples(part, |first, last, _| scalars_between(first, last))
+    let (triples, _) = part.as_chunks::<3>();
+    triples
+        .iter()
+        .all(|&[first, last, _]| scalars_between(first, last))
 }
 
 // Whether the items are scalar values.

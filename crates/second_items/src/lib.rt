@@ -11,10 +11,10 @@ ghost use Rattle.text.specs.QuickCheck.{is_second};
 ghost use Rattle.sound_parts.specs.Parts.{Holds, as_headed};
 ghost use Rattle.second_items.specs.Seconds.{second_is, second_held, second_held_in, SecondsHeld};
 
+use records::Heads;
 use rule_7::rule7::is_pair;
 use sections::Sections;
 use sections::lookup::in_quick_check;
-use sound_parts::records::{all_heads, any_heads};
 use table::Span;
 use text::hangul::{is_trailing, is_vowel};
 
@@ -50,10 +50,7 @@ pub fn is_second(words: &[u32], ix: Sections, held: bool, x: u32) -> bool
             return false;
         }
     }
-    any_heads(
-        ix.decompositions.of(words),
-        |head, items| second_is(words, ix, head, items, x),
-    )
+    Heads::of(ix.decompositions.of(words)).any(|(head, items)| second_is(words, ix, head, items, x))
 }
 
 // Whether a decomposition is no composition pair, or its second item is in the set.
@@ -77,8 +74,5 @@ pub fn seconds_held_of(words: &[u32], ix: Sections, s: Span) -> bool
     requires holds { Holds as_headed (within s words.now) }
     ensures { result ≡ all (second_held_in (the_table words.now)) (records_in as_headed (within s words.now)) }
 {
-    all_heads(
-        s.of(words),
-        |head, items| second_held(words, ix, head, items),
-    )
+    Heads::of(s.of(words)).all(|(head, items)| second_held(words, ix, head, items))
 }

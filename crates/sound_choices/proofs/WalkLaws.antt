@@ -101,36 +101,22 @@ module _ (part : List ℕ) (at i : ℕ) (w : Numbered part at i) where
   pub numbered_end : length part ≤ at → length (records_in as_headed part) ≤ i
   numbered_end h = drop_all (records_in as_headed part) i (sym w.is ∙ headed_end most_items part at w.walk.left w.walk.walk h)
 
--- A walk puts the heads of the records into the set of a window.
-pub record HeadsPut (part : List ℕ) (base : ℕ) (old cur : List ℕ) (at : ℕ) : Type 0 where
-  pub walk : Through {A = ℕ} (λ (rs : List Headed). 0) as_headed part at
-  pub put : Putting (λ d. mem (base + d) (heads_of (records_in as_headed part))) (λ d. mem (base + d) (heads_of walk.left)) old cur
+-- A walk puts the heads of the records into the set of a window; those of the records that are left are yet to be put.
+module _ (all : List Headed) (base : ℕ) (old : List ℕ) where
+  abbrev pub HeadsPut : List ℕ → List Headed → Type 0
+  HeadsPut cur left = Putting (λ d. mem (base + d) (heads_of all)) (λ d. mem (base + d) (heads_of left)) old cur
 
-module _ (part : List ℕ) (base : ℕ) (old : List ℕ) where
-  pub heads_put_start : Holds as_headed part → HeadsPut part base old old 0
-  heads_put_start h =
-      let w = through_start (λ (rs : List Headed). rs) as_headed part h in
-      record {
-        walk = record { left = w.left; walk = w.walk; same = refl };
-        put = rw (← w.same) (putting_start (λ d. mem (base + d) (heads_of (records_in as_headed part))) old);
-      }
+  pub heads_put_start : (left : List Headed) → left ≡ all → HeadsPut old left
+  heads_put_start left e = rw e (putting_start (λ d. mem (base + d) (heads_of all)) old)
 
-  module _ (cur : List ℕ) (at : ℕ) (w : HeadsPut part base old cur at) where
-    pub heads_put_on : (h : at < length part) (s : Span) → s ≡ counted_at part (at + 1) → (new : List ℕ)
-        → Put cur new (λ d. eqb (base + d) (get_or part at 0))
-        → HeadsPut part base old new s.to
-    heads_put_on h s e new p =
-        let x = head_here _ part at w.walk h in
-        record {
-          walk = record { left = x.rest; walk = head_next _ part at w.walk h s e; same = refl };
-          put = putting_on _ old _ cur w.put (λ d. eqb (base + d) (get_or part at 0)) (λ d. mem (base + d) (heads_of x.rest)) new
-              (λ d k. ap (λ (l : List Headed). mem (base + d) (heads_of l)) x.split ∙ rw x.head) p;
-        }
+  module _ (cur : List ℕ) (left : List Headed) (w : HeadsPut cur left) where
+    pub heads_put_on : (r : Headed) (later : List Headed) → left ≡ r ∷ later → (new : List ℕ) → Put cur new (λ d. eqb (base + d) r.head) → HeadsPut new later
+    heads_put_on r later e new p =
+        putting_on _ old _ cur w (λ d. eqb (base + d) r.head) (λ d. mem (base + d) (heads_of later)) new
+        (λ d k. ap (λ (l : List Headed). mem (base + d) (heads_of l)) e) p
 
-    pub heads_put_done : length part ≤ at → Put old cur (λ d. mem (base + d) (heads_of (records_in as_headed part)))
-    heads_put_done h =
-        let e = headed_end most_items part at w.walk.left w.walk.walk h in
-        putting_done _ old _ cur w.put (λ d k. ap (λ (l : List Headed). mem (base + d) (heads_of l)) e)
+    pub heads_put_done : left ≡ [] → Put old cur (λ d. mem (base + d) (heads_of all))
+    heads_put_done e = putting_done _ old _ cur w (λ d k. ap (λ (l : List Headed). mem (base + d) (heads_of l)) e)
 
 -- A walk puts the characters of the groups into the set of a window.
 pub record GroupsPut (gs : List ℕ) (base : ℕ) (old cur : List ℕ) (at : ℕ) : Type 0 where

@@ -1,8 +1,10 @@
 -- What the check asks of the words of one section, and how those words hold the records of a table.
-use Rattle.std.specs.Prelude.{ℕ, ◌+◌, ◌<◌, ◌≤◌, ◌≡◌, Bool, true, ◌&&◌, List, [], ◌∷◌, ◌++◌, length}
+use Rattle.std.specs.Prelude.{ℕ, ◌+◌, ◌<◌, ◌≤◌, ◌≡◌, Bool, true, ◌&&◌, List, [], ◌∷◌, ◌++◌, length, Some, None, MatchOption, ⊤}
+use Rattle.std.specs.declared.option.Option as std
 use Rattle.std.proofs.Math.Option.{Option}
 use Rattle.lists.specs.Lists.{all, is_some}
 use Rattle.table.specs.declared.Span.{Span}
+use Rattle.table.specs.Spans.{within, Fits}
 use Rattle.table.specs.Table.{Headed, ClassRange, Whole, Table}
 use Rattle.table.specs.Layout.{most_items, headed, sequences}
 use Rattle.table.specs.Part.{records_in}
@@ -27,6 +29,15 @@ all_triples p (a ∷ b ∷ k ∷ ws) = p a b k && all_triples p ws
 -- whether a part holds records, as `reader` reads them
 abbrev pub Holds : {X : Type 0} → (ℕ → List ℕ → Option (List X)) → List ℕ → Type 0
 Holds reader part = is_some (reader (length part) part) ≡ true
+
+-- the records of a group's list, by its place; without a list there are none
+abbrev pub list_records : List ℕ → std.Option Span → List (List ℕ)
+list_records part (Some s) = records_in sequences (within s part)
+list_records part None = []
+
+-- a group's list, if it has one, lies within the words and holds records
+abbrev pub ListHolds : List ℕ → std.Option Span → Type 0
+ListHolds part r = MatchOption r ⊤ (λ s. Fits part s × Holds sequences (within s part))
 
 -- the words are those of the table's sequences
 pub record EmojiPart (t : Table) (part : List ℕ) : Type 0 where

@@ -4,7 +4,6 @@ ghost use Rattle.table.specs.Spans.{Fits, within};
 ghost use Rattle.soundness.specs.Pairs.{plain_head};
 ghost use Rattle.sound_parts.specs.Parts.{all_triples, spares_triple};
 
-use crate::records::all_triples;
 use table::Span;
 use text::hangul::{is_jamo, is_syllable};
 
@@ -38,5 +37,8 @@ pub fn classes_spare_of(words: &[u32], s: Span) -> bool
     requires { Fits words.now s }
     ensures { result ≡ all_triples spares_triple (within s words.now) }
 {
-    all_triples(s.of(words), spares_hangul)
+    let (triples, _) = s.of(words).as_chunks::<3>();
+    triples
+        .iter()
+        .all(|&[first, last, class]| spares_hangul(first, last, class))
 }

@@ -12,8 +12,8 @@ ghost use Rattle.sound_choices.specs.Rounds.{heads_of, in_groups, starting, Wind
 use bit_sets::put_point;
 use bit_sets::ranges::put_pairs;
 use buffers::clear;
-use table::Span;
-use table::lookup::{counted, group_at};
+use records::Heads;
+use table::lookup::group_at;
 
 // Puts the heads of the records into the set that are in the window.
 pub fn put_heads(part: &[u32], base: u32, set: &mut [u32])
@@ -21,12 +21,8 @@ pub fn put_heads(part: &[u32], base: u32, set: &mut [u32])
     requires set_len { length set.old ≡ window_words }
     ensures { Put set.old set.new (λ d. mem (base + d) (heads_of (records_in as_headed part.now))) }
 {
-    // by hand: a record's length is its own, and the place goes on by it
-    let mut i: usize = 0;
-    while i < part.len() {
-        let s = counted(part, i + 1);
-        put_point(set, base, part[i]);
-        i = s.to;
+    for (head, _) in Heads::of(part) {
+        put_point(set, base, head);
     }
 }
 

@@ -5,10 +5,8 @@ use borrow.Author.Tests.{not-true, not-false}
 use Rattle.lists.specs.Lists.{all}
 use Rattle.scalar.specs.Scalar.{is_scalar}
 use Rattle.soundness.specs.Scalars.{scalars_between, scalar_group}
-use Rattle.table.specs.Layout.{sequences}
-use Rattle.table.specs.Part.{records_in}
 use Rattle.sound_parts.specs.Parts.{all_pairs}
-use Rattle.sound_parts.proofs.Walks.{pairs-all, through_start, group-room, group_in, group-listed, group_less, groups_broken, groups_on, groups_done}
+use Rattle.sound_parts.proofs.Walks.{pairs-all, through_start, group-room, group_in, group-holds, group_less, groups_broken, groups_on, groups_done}
 use native.Mathlib.Omega.{arith}
 use Rattle.scalar_parts.proofs.scalar_groups.Goals as goal
 
@@ -30,18 +28,14 @@ returns-then-not-scalar_pairs c =
     groups_broken scalar_group _ c.loop-i.i c.loop-i.invariant c.loop-i-test.true _ c.group_at-group.ensures
     (λ rs list e k. rw (sym (pairs-all scalars_between _ rs e) ∙ ap (all_pairs scalars_between) (sym c.of.ensures) ∙ sym c.scalar_pairs.ensures ∙ not-true _ c.if-not-scalar_pairs.true-raw))
 
-pub of-requires-in-loop-i : goal.of-requires-in-loop-i
-of-requires-in-loop-i c = (group-listed _ _ c.loop-i.i c.loop-i.invariant c.loop-i-test.true _ c.group_at-group.ensures).fits
+pub scalar_list-requires : goal.scalar_list-requires
+scalar_list-requires c = group-holds _ _ c.loop-i.i c.loop-i.invariant c.loop-i-test.true _ c.group_at-group.ensures
 
-pub scalar_sequences-requires : goal.scalar_sequences-requires
-scalar_sequences-requires c =
-    rw (c.of-in-loop-i.ensures) (group-listed _ _ c.loop-i.i c.loop-i.invariant c.loop-i-test.true _ c.group_at-group.ensures).holds
-
-pub returns-then-not-scalar_sequences : goal.returns-then-not-scalar_sequences
-returns-then-not-scalar_sequences c =
+pub returns-then-not-scalar_list : goal.returns-then-not-scalar_list
+returns-then-not-scalar_list c =
     groups_broken scalar_group _ c.loop-i.i c.loop-i.invariant c.loop-i-test.true _ c.group_at-group.ensures
     (λ rs list e k. rw (sym (pairs-all scalars_between _ rs e) ∙ ap (all_pairs scalars_between) (sym c.of.ensures) ∙ sym c.scalar_pairs.ensures ∙ not-false _ c.if-not-scalar_pairs.false-raw)
-    (lists_same _ _ (k ∙ ap (records_in sequences) (sym c.of-in-loop-i.ensures)) ∙ sym c.scalar_sequences.ensures ∙ not-true _ c.if-not-scalar_sequences.true-raw))
+    (lists_same _ _ k ∙ sym c.scalar_list.ensures ∙ not-true _ c.if-not-scalar_list.true-raw))
 
 pub loop-i-smaller : goal.loop-i-smaller
 loop-i-smaller c = omega (arith, group_less _ _ c.loop-i.i c.loop-i.invariant c.loop-i-test.true _ c.group_at-group.ensures)
@@ -50,7 +44,7 @@ pub loop-i-preserved : goal.loop-i-preserved
 loop-i-preserved c =
     groups_on scalar_group _ c.loop-i.i c.loop-i.invariant c.loop-i-test.true _ c.group_at-group.ensures
     (λ rs list e k. rw (sym (pairs-all scalars_between _ rs e) ∙ ap (all_pairs scalars_between) (sym c.of.ensures) ∙ sym c.scalar_pairs.ensures ∙ not-false _ c.if-not-scalar_pairs.false-raw)
-    (lists_same _ _ (k ∙ ap (records_in sequences) (sym c.of-in-loop-i.ensures)) ∙ sym c.scalar_sequences.ensures ∙ not-false _ c.if-not-scalar_sequences.false-raw))
+    (lists_same _ _ k ∙ sym c.scalar_list.ensures ∙ not-false _ c.if-not-scalar_list.false-raw))
 
 pub returns : goal.returns
 returns c = groups_done scalar_group _ c.loop-i.i c.loop-i.invariant c.loop-i-test.false

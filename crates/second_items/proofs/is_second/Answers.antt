@@ -1,16 +1,12 @@
 -- `rule8::is_second` meets its contract.
-use Rattle.std.proofs.Common.{rules}
-use Prim.Native.Nat.{ℕ}
-use mathlib.Core.Path.{sym, ◌∙◌, ap}
-use mathlib.Core.List.{List}
-use Rattle.lists.specs.Lists.{any}
+use Rattle.std.proofs.Common.{rules, tests}
+use mathlib.Core.Path.{refl, sym, ◌∙◌}
 use Rattle.table.specs.Layout.{the_table}
-use Rattle.table.specs.Part.{records_in}
-use Rattle.sound_parts.specs.Parts.{as_headed}
-use Rattle.second_items.specs.Seconds.{second_is, second_is_in}
+use Rattle.second_items.specs.Seconds.{second_is_in}
 use Rattle.sections.proofs.SectionLaws.{laid-fits}
-use Rattle.sound_parts.proofs.SectionsHold.{decompositions_hold, decompositions_are}
+use Rattle.sound_parts.proofs.SectionsHold.{decompositions_left}
 use borrow.Author.Tests.{not-true}
+use Rattle.records.proofs.WalkLaws.{any_head}
 use Rattle.second_items.proofs.ItemLaws.{vowel_second, trailing_second, walk_second, outside-second}
 use Rattle.second_items.proofs.is_second.Goals as goal
 
@@ -27,13 +23,9 @@ returns-then-not-in_quick_check c =
 pub of-requires : goal.of-requires
 of-requires c = (laid-fits _ _ c.requires.laid).decompositions
 
-pub any_heads-requires : goal.any_heads-requires
-any_heads-requires c = record { holds = rw (c.of.ensures) (decompositions_hold _ _ c.requires.laid); callable = search rules }
-
 pub returns : goal.returns
 returns c =
     let t = the_table c.args.words.now in
-    let x = c.args.x in
-    walk_second _ _ (sym c.is_vowel.ensures ∙ c.if-is_vowel.false) (sym c.is_trailing.ensures ∙ c.if-is_trailing.false) _ _ (decompositions_are _ _ c.requires.laid)
-    (c.any_heads.ensures (second_is t x) (λ head items passes h e. search rules)
-    ∙ ap (λ (s : List ℕ). any (second_is_in t x) (records_in as_headed s)) c.of.ensures)
+    let left = (rw (c.of.ensures) at c.of-2.ensures.left) ∙ decompositions_left _ _ c.requires.laid in
+    walk_second _ _ (sym c.is_vowel.ensures ∙ c.if-is_vowel.false) (sym c.is_trailing.ensures ∙ c.if-is_trailing.false) _ t.decompositions refl
+    (any_head (second_is_in t c.args.x) c.of-2.result _ c.any.new.self _ left c.any.ensures.ran (λ x b q k. search (rules, tests)))

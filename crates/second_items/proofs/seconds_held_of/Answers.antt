@@ -1,20 +1,13 @@
 -- `second_items::seconds_held_of` meets its contract.
-use Rattle.std.proofs.Common.{rules}
-use Prim.Native.Nat.{ℕ}
-use mathlib.Core.Path.{◌∙◌, ap}
-use mathlib.Core.List.{List}
-use Rattle.lists.specs.Lists.{all}
-use Rattle.table.specs.Layout.{the_table}
-use Rattle.table.specs.Part.{records_in}
-use Rattle.sound_parts.specs.Parts.{as_headed}
-use Rattle.second_items.specs.Seconds.{second_held, second_held_in}
+use Rattle.std.proofs.Common.{rules, tests}
+use mathlib.Core.Path.{◌∙◌}
+use Rattle.table.specs.Layout.{most_items, the_table}
+use Rattle.records.proofs.LeftLaws.{heads_are}
+use Rattle.records.proofs.WalkLaws.{all_heads}
+use Rattle.second_items.specs.Seconds.{second_held_in}
 use Rattle.second_items.proofs.seconds_held_of.Goals as goal
-
-pub all_heads-requires : goal.all_heads-requires
-all_heads-requires c = record { holds = rw (c.of.ensures) c.requires.holds; callable = search rules }
 
 pub returns : goal.returns
 returns c =
-    let t = the_table c.args.words.now in
-    c.all_heads.ensures (second_held t) (λ head items passes h e. search rules)
-    ∙ ap (λ (s : List ℕ). all (second_held_in t) (records_in as_headed s)) c.of.ensures
+    let left = (rw (c.of.ensures) at c.of-2.ensures.left) ∙ heads_are most_items _ c.requires.holds in
+    all_heads (second_held_in (the_table c.args.words.now)) c.of-2.result _ c.all.new.self _ left c.all.ensures.ran (λ x b q k. search (rules, tests))

@@ -1,4 +1,6 @@
-use Prim.Native.Nat.{◌-◌}
+use native.Mathlib.Omega.{arith}
+use mathlib.Core.Path.{◌≡◌}
+use lib.ListN.{length}
 use Rattle.rule_4.proofs.StripLaws.{skip_start, skip_on, skip_found, skip_end}
 use Rattle.rule_4.proofs.rule4.next_item.Goals as goal
 
@@ -12,4 +14,6 @@ pub loop-r-preserved : goal.loop-r-preserved
 loop-r-preserved c = skip_on _ _ c.loop-r.r c.loop-r.invariant c.loop-r-test.true c.if-items-r-ne-SELECTOR.false
 
 pub returns : goal.returns
-returns c = skip_end _ _ c.loop-r.r c.loop-r.invariant c.loop-r-test.false
+returns c =
+    let end : length c.args.items.now ≡ c.loop-r.r = omega (arith, c.loop-r-test.false, c.loop-r.invariant.inside) in
+    rw end (skip_end _ _ c.loop-r.r c.loop-r.invariant c.loop-r-test.false)

@@ -1,4 +1,3 @@
-use Prim.Native.Nat.{◌-◌}
 use Rattle.rule_4.proofs.StripLaws.{align_start, align_short, align_differ, align_on, align_done}
 use native.Mathlib.Omega.{arith}
 use Rattle.rule_4.proofs.rule4.same_stripped.Goals as goal

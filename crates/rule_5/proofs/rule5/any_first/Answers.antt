@@ -2,14 +2,13 @@
 use mathlib.Core.Path.{◌∙◌}
 use Rattle.soundness.specs.Sequences.{starts_with}
 use Rattle.sound_parts.proofs.Walks.{tail_is}
-use Rattle.rule_4.proofs.SortedLaws.{avoided_first, sought_hold, sought_steady, sought_any}
+use Rattle.rule_4.proofs.SortedLaws.{avoided_first, sought_steady, sought_any}
 use Rattle.rule_5.proofs.rule5.any_first.Goals as goal
 
 pub first_in-requires : goal.first_in-requires
 first_in-requires c =
-    let entry = c in
-    let x = entry.args.c in
-    let seek' = c.seek-start in record { holds = rw (tail_is _ _) (sought_hold (starts_with x) x (avoided_first x) _ _ seek'.ensures); firsts_steady = λ g. rw (tail_is _ _) (sought_steady (starts_with x) x (avoided_first x) _ _ seek'.ensures (entry.requires.firsts_known.firsts g)) }
+    let x = c.args.c in
+    rw (tail_is _ _) (sought_steady (starts_with x) x (avoided_first x) _ _ c.seek-start.ensures c.args.ix.sorted.emoji c.requires.firsts_known.firsts)
 
 pub returns : goal.returns
 returns c =

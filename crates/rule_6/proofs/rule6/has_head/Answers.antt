@@ -1,12 +1,11 @@
 -- `rule_6::rule6::has_head` meets its contract.
-use Rattle.rule_6.proofs.HeadLaws.{head_there, head_missing}
+use Rattle.std.proofs.Common.{rules, tests, ◌∙◌}
+use lib.Dec.{eqb}
+use Rattle.table.specs.Table.{Headed}
+use Rattle.records.proofs.WalkLaws.{any_head}
+use Rattle.rule_6.proofs.HeadLaws.{head_among}
 use Rattle.rule_6.proofs.rule6.has_head.Goals as goal
 
-pub head_in-requires : goal.head_in-requires
-head_in-requires c = c.requires
-
-pub returns-in-Some : goal.returns-in-Some
-returns-in-Some c = head_there _ _ c.head_in.result c.head_in.ensures c.in-Some.field-0 c.in-Some.is
-
-pub returns-in-None : goal.returns-in-None
-returns-in-None c = head_missing _ _ c.head_in.result c.head_in.ensures c.in-None.is
+pub returns : goal.returns
+returns c =
+    any_head (λ (r : Headed). eqb c.args.c r.head) c.of.result _ c.any.new.self _ c.of.ensures.left c.any.ensures.ran (λ x b q k. search (rules, tests)) ∙ head_among _ c.args.c

@@ -1,13 +1,8 @@
--- `rule_6::rule6::heads_fit` meets its contract, by the laws of a walk over records.
-use Prim.Native.Nat.{◌-◌}
-use lib.ListN.{length}
-use Rattle.sound_parts.specs.Parts.{as_headed}
+-- `rule_6::rule6::heads_fit` meets its contract: what is left to be asked says whether all fit.
+use mathlib.Core.Path.{◌≡◌}
+use Rattle.records.specs.Left.{heads_left}
 use Rattle.rule_6.specs.Heads.{heads_fit}
-use Rattle.sound_parts.proofs.Walks.{Through}
 use Rattle.rule_6.proofs.rule6.heads_fit.Given as goal
 
-abbrev pub invariant-loop-i : goal.invariant-loop-i
-invariant-loop-i l = Through heads_fit as_headed l.part l.i
-
-abbrev pub decreases-loop-i : goal.decreases-loop-i
-decreases-loop-i l = length l.part - l.i
+abbrev pub invariant-loop-head : goal.invariant-loop-head
+invariant-loop-head l = heads_fit (heads_left l.part) ≡ heads_fit (heads_left l.left.part.now)

@@ -3,7 +3,7 @@ use Rattle.table.specs.Layout.{the_table}
 use mathlib.Core.Path.{sym, ◌∙◌}
 use borrow.Author.Tests.{not-true, not-false}
 use Rattle.sections.proofs.SectionLaws.{laid-fits, laid_reads}
-use Rattle.sound_parts.proofs.SectionsHold.{decompositions_hold, decompositions_are}
+use Rattle.sound_parts.proofs.SectionsHold.{decompositions_left}
 use Rattle.sound_parts.specs.Parts.{spares_triple}
 use Rattle.sound_parts.proofs.Walks.{triples_all}
 use Rattle.rule_2.proofs.PointLaws.{parts_of}
@@ -13,14 +13,11 @@ use Rattle.rule_6.proofs.rule6.keeps_rule6.Goals as goal
 pub of-part-requires : goal.of-part-requires
 of-part-requires c = (laid-fits _ _ c.requires.laid).decompositions
 
-pub heads_fit-requires : goal.heads_fit-requires
-heads_fit-requires c = rw c.of-part.ensures (decompositions_hold _ _ c.requires.laid)
-
 pub returns-then-not-heads_fit : goal.returns-then-not-heads_fit
 returns-then-not-heads_fit c =
     rw (
       rule6_is (the_table c.args.words.now) _
-          (decompositions_are _ _ c.requires.laid),
+          (decompositions_left _ _ c.requires.laid),
       sym (rw c.of-part.ensures at c.heads_fit.ensures) ∙ not-true _ c.if-not-heads_fit.true-raw,
     )
 
@@ -36,7 +33,7 @@ pub returns-then-not-decompose_fully : goal.returns-then-not-decompose_fully
 returns-then-not-decompose_fully c =
     rw (
       rule6_is (the_table c.args.words.now) _
-          (decompositions_are _ _ c.requires.laid),
+          (decompositions_left _ _ c.requires.laid),
       sym
           (rw c.of-part.ensures at c.heads_fit.ensures) ∙ not-false _ c.if-not-heads_fit.false-raw,
       sym
@@ -50,7 +47,7 @@ pub returns : goal.returns
 returns c =
     rw (
       rule6_is (the_table c.args.words.now) _
-          (decompositions_are _ _ c.requires.laid),
+          (decompositions_left _ _ c.requires.laid),
       sym
           (rw c.of-part.ensures at c.heads_fit.ensures) ∙ not-false _ c.if-not-heads_fit.false-raw,
       sym

@@ -6,7 +6,7 @@ use Rattle.rule_7.specs.Pairs.{pair_fits}
 use Rattle.rule_7.proofs.rule7.pair_fits.Goals as goal
 
 pub is_pair-requires : goal.is_pair-requires
-is_pair-requires c = c.requires.laid
+is_pair-requires c = c.requires
 
 pub returns-then-not-is_pair : goal.returns-then-not-is_pair
 unfolding pair_fits
@@ -16,9 +16,6 @@ pub returns-then-is_hangul_pair : goal.returns-then-is_hangul_pair
 unfolding pair_fits
 returns-then-is_hangul_pair c =
     rw (sym c.is_pair.ensures ∙ not-false _ c.if-not-is_pair.false-raw, sym c.is_hangul_pair.ensures ∙ c.if-is_hangul_pair.true)
-
-pub any_pair-requires : goal.any_pair-requires
-any_pair-requires c = record { laid = c.requires.laid; holds = c.requires.holds }
 
 pub returns : goal.returns
 unfolding pair_fits
