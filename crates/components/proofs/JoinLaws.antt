@@ -4,9 +4,9 @@ use native.Mathlib.Omega.{arith}
 use mathlib.Core.Path.{◌≡◌, refl, sym, ◌∙◌, ap}
 use mathlib.Core.Bool.{Bool, true, false, ◌||◌, false≢true}
 use mathlib.Core.List.{List, [], ◌∷◌, ◌++◌}
-use mathlib.Core.Logic.{◌⊎◌, ⊎_elim, inl, inr}
-use lib.ListN.{length, get_or, take, drop, replicate, length-append, length-take, length-drop, length-replicate}
-use lib.Seq.{take_all, take-add, take_at}
+use mathlib.Core.Logic.{⊎_elim}
+use lib.ListN.{length, get_or, take, drop, take-append-drop, replicate, length-append, length-replicate}
+use lib.Seq.{take_at}
 use lib.Dec.{eqb}
 use borrow.Rule.Slice.PartMut.{put_mid}
 use Rattle.lists.specs.Lists.{any, mem}
@@ -18,7 +18,8 @@ use Rattle.table.specs.Layout.{most_groups}
 use Rattle.table.specs.Lookup.{holds}
 use Rattle.sorting.specs.Order.{in_order, Gathered}
 use Rattle.group_numbers.specs.Components.{nth, Linked, Components}
-use Rattle.group_numbers.specs.Batch.{batch, Numbers, Founded, Claims, Held, Shared, claimed, Takes, Swept, JoinsMore, Least}
+use Rattle.group_numbers.specs.declared.Claims.{Claims as ClaimsOf}
+use Rattle.group_numbers.specs.Batch.{batch, Numbers, Founded, Claims, Held, Shared, claimed, Takes, Swept, JoinsMore}
 use Rattle.group_numbers.proofs.NumberLaws.{kept_same, founded_same, kept_on, founded_on, founded_by}
 
 -- no claims at first
@@ -45,9 +46,10 @@ held_none holding xs =
     }
 
 -- claims were set for the groups, and the sweep joined their owners
-pub sorted_joins : (gs : List Group) (xs k e o l m : List ℕ) → Takes (λ i x. holds (nth gs i) x) xs (claimed (replicate batch 0) (replicate batch 0) k) (claimed e o l)
-    → Swept xs e o l m → JoinsMore gs (λ x. mem x xs) k m
-sorted_joins gs xs k e o l m t s = record { joins = record { numbers = s.numbers; kept = kept_on k l m t.kept s.kept; founded = founded }; joined = joined }
+pub sorted_joins : (gs : List Group) (xs k : List ℕ) (c : ClaimsOf) (l m : List ℕ)
+    → Takes (λ i x. holds (nth gs i) x) xs (claimed (record { ends = replicate batch 0; owners = replicate batch 0 }) k) (claimed c l)
+    → Swept xs c.ends c.owners l m → JoinsMore gs (λ x. mem x xs) k m
+sorted_joins gs xs k c l m t s = record { joins = record { numbers = s.numbers; kept = kept_on k l m t.kept s.kept; founded = founded }; joined = joined }
   where
     holding : ℕ → ℕ → Bool
     holding i x = holds (nth gs i) x
@@ -126,73 +128,79 @@ few_joins gs a b xs k l g w = joins_same gs (λ x. mem x xs) (λ x. mem x a || m
     same : (x : ℕ) → mem x xs ≡ (mem x a || mem x b)
     same x = rw (← any-mem x xs, ← any-mem x a, ← any-mem x b) (g.same (eqb x))
 
--- the members before places i and j of two lists
-pub record JoinWalk (gs : List Group) (a b k : List ℕ) (i j : ℕ) : Type 0 where
-  pub first : i ≤ length a
-  pub second : j ≤ length b
-  pub so : JoinsMore gs (λ x. mem x (take i a) || mem x (take j b)) (replicate most_groups 0) k
+-- the members of two lists that come before what is left of them
+pub record JoinWalk (gs : List Group) (a b k a' b' : List ℕ) : Type 0 where
+  pub done : ℕ → Bool
+  pub so : JoinsMore gs done (replicate most_groups 0) k
+  pub rest : (m : ℕ) → (mem m a || mem m b) ≡ (done m || (mem m a' || mem m b'))
 
 module _ (gs : List Group) (a b : List ℕ) where
   numbers-none : Numbers (replicate most_groups 0)
   numbers-none =
       record { size = length-replicate {A = ℕ} most_groups 0; own = λ i n e. absurd (let z : 0 ≡ suc n = sym (zero-at most_groups i) ∙ e in omega arith) }
 
-  pub join_start : (n : ℕ) (k : List ℕ) → n ≡ most_groups → k ≡ replicate n 0 → JoinWalk gs a b k 0 0
+  pub join_start : (n : ℕ) (k : List ℕ) → n ≡ most_groups → k ≡ replicate n 0 → JoinWalk gs a b k a b
   join_start n k f e =
       rw (e, f)
       (record {
-        first = omega arith;
-        second = omega arith;
+        done = λ m. false;
         so =
             record {
               joins =
                   record {
                     numbers = numbers-none;
                     kept = kept_same (replicate most_groups 0);
-                    founded = founded_same (Linked gs (λ x. false || false)) (replicate most_groups 0);
+                    founded = founded_same (Linked gs (λ x. false)) (replicate most_groups 0);
                   };
               joined = λ i j g. absurd (false≢true g.listed);
             };
+        rest = λ m. refl;
       })
 
-  module _ (k : List ℕ) (i j : ℕ) (w : JoinWalk gs a b k i j) where
-    pub join_on : (x y : ℕ) → i ≤ x → x ≤ length a → j ≤ y → y ≤ length b → (l : List ℕ)
-        → JoinsMore gs (λ m. mem m (take (x - i) (drop i a)) || mem m (take (y - j) (drop j b))) k l → JoinWalk gs a b l x y
-    join_on x y h l m n new t =
+  module _ (k a' b' : List ℕ) (w : JoinWalk gs a b k a' b') where
+    pub join_on : (x y : ℕ) (l : List ℕ) → JoinsMore gs (λ m. mem m (take x a') || mem m (take y b')) k l → JoinWalk gs a b l (drop x a') (drop y b')
+    join_on x y l t =
         record {
-          first = l;
-          second = n;
+          done = λ z. w.done z || (mem z (take x a') || mem z (take y b'));
           so =
-              joins_on gs (λ z. mem z (take i a) || mem z (take j b)) (λ z. mem z (take (x - i) (drop i a)) || mem z (take (y - j) (drop j b)))
-              (λ z. mem z (take x a) || mem z (take y b)) (replicate most_groups 0) k new w.so t both;
+              joins_on gs w.done (λ z. mem z (take x a') || mem z (take y b')) (λ z. w.done z || (mem z (take x a') || mem z (take y b')))
+              (replicate most_groups 0) k l w.so t (λ z. refl);
+          rest = λ z.
+              w.rest z
+              ∙ rw (parts x z a', parts y z b')
+              (turn (w.done z) (mem z (take x a')) (mem z (drop x a')) (mem z (take y b')) (mem z (drop y b')));
         }
       where
-        more : (n m z : ℕ) (s : List ℕ) → n ≤ m → mem z (take m s) ≡ (mem z (take n s) || mem z (take (m - n) (drop n s)))
-        more n m z s h =
-            let sum : m ≡ n + (m - n) = omega arith in
-            ap (λ (y : ℕ). mem z (take y s)) sum ∙ ap (mem z) (take-add n (m - n) s) ∙ mem_both z (take n s) (take (m - n) (drop n s))
+        parts : (n z : ℕ) (s : List ℕ) → mem z s ≡ (mem z (take n s) || mem z (drop n s))
+        parts n z s = ap (mem z) (sym (take-append-drop n s)) ∙ mem_both z (take n s) (drop n s)
 
-        turn : (p q r s : Bool) → ((p || q) || (r || s)) ≡ ((p || r) || (q || s))
-        turn true q r s = refl
-        turn false true true s = refl
-        turn false true false s = refl
-        turn false false r s = refl
+        turn : (d p q r s : Bool) → (d || ((p || q) || (r || s))) ≡ ((d || (p || r)) || (q || s))
+        turn true p q r s = refl
+        turn false true q r s = refl
+        turn false false true true s = refl
+        turn false false true false s = refl
+        turn false false false r s = refl
 
-        both : (z : ℕ) → (mem z (take x a) || mem z (take y b))
-            ≡ ((mem z (take i a) || mem z (take j b)) || (mem z (take (x - i) (drop i a)) || mem z (take (y - j) (drop j b))))
-        both z =
-            rw (more i x z a h, more j y z b m)
-            (turn (mem z (take i a)) (mem z (take (x - i) (drop i a))) (mem z (take j b)) (mem z (take (y - j) (drop j b))))
-
-    pub join_stop : length a ≤ i → length b ≤ j → Components gs (λ x. mem x a || mem x b) k
+    pub join_stop : length a' ≤ 0 → length b' ≤ 0 → Components gs (λ x. mem x a || mem x b) k
     join_stop h l =
-        let s : JoinsMore gs (λ x. mem x a || mem x b) (replicate most_groups 0) k = rw (take_all i a h, take_all j b l) at w.so in
+        let s : JoinsMore gs (λ x. mem x a || mem x b) (replicate most_groups 0) k = joins_same gs w.done (λ x. mem x a || mem x b) (replicate most_groups 0) k same w.so in
         record {
           size = s.joins.numbers.size;
           holding = λ n g. ⊎_elim (λ z. absurd (omega (arith, z, zero-at most_groups n))) (λ z. z) (s.joins.founded.only n g);
           joined = s.joined;
           apart = λ p f. s.joins.founded.apart p f (λ n m g e. absurd (omega (arith, g, zero-at most_groups n)));
         }
+      where
+        none : (z : ℕ) (s : List ℕ) → length s ≤ 0 → mem z s ≡ false
+        none z [] h = refl
+        none z (x ∷ s) h = absurd (omega arith)
+
+        none-left : (d : Bool) → d ≡ (d || false)
+        none-left true = refl
+        none-left false = refl
+
+        same : (z : ℕ) → w.done z ≡ (mem z a || mem z b)
+        same z = sym (w.rest z ∙ rw (none z a' h, none z b' l) (sym (none-left (w.done z))))
 
 -- the front of a list is lent, and comes back
 pub back_front : (n : ℕ) (xs ys : List ℕ) → length ys ≡ n → take (n - 0) (put_mid 0 (n - 0) xs ys) ≡ ys
@@ -213,45 +221,3 @@ module _ (a b xs front : List ℕ) (g : Gathered a b xs) (e : front ≡ xs) wher
 
   pub front_joins : (gs : List Group) (k l : List ℕ) → JoinsMore gs (λ x. mem x front) k l → JoinsMore gs (λ x. mem x a || mem x b) k l
   front_joins gs k l w = few_joins gs a b xs k l g (rw e at w)
-
--- less is left where something is taken
-shrink : (s t u v : ℕ) → u ≤ s → v ≤ t → 0 < u + v → (s - u) + (t - v) < s + t
-shrink s t u v h l o = omega arith
-
--- How many members are taken next: some, and at most a batch of both lists together.
-module _ (a b i j x y : ℕ) (h : i ≤ a) (l : j ≤ b) (p : Least (a - i) batch x) (q : Least (b - j) (batch - (i + x - i)) y) where
-  pub next-first : i + x ≤ a
-  next-first = omega (arith, p.first)
-
-  pub next-second : j + y ≤ b
-  next-second = omega (arith, q.first)
-
-  few : x + y ≤ batch
-  few = let z : i + x - i ≡ x = omega arith in omega (arith, p.second, rw z at q.second)
-
-  -- a member of the first list is taken, or where none is left one of the second
-  some_first : i < a → 0 < x
-  some_first f = p.some (omega arith) (omega arith)
-
-  some-second : a ≤ i → j < b → 0 < y
-  some-second f g =
-      let none : x ≡ 0 = omega (arith, p.first) in
-      let z : i + x - i ≡ 0 = omega arith in
-      q.some (omega arith) (rw z (omega arith))
-
-  falls : 0 < x + y → (a - (i + x)) + (b - (j + y)) < (a - i) + (b - j)
-  falls o =
-      let c : a - (i + x) ≡ a - i - x = omega arith in
-      let d : b - (j + y) ≡ b - j - y = omega arith in
-      rw (c, d) (shrink (a - i) (b - j) x y p.first q.first o)
-
-  pub next_less : (i < a) ⊎ (a ≤ i) × (j < b) → (a - (i + x)) + (b - (j + y)) < (a - i) + (b - j)
-  next_less (inl f) = falls (omega (arith, some_first f))
-  next_less (inr f) = falls (omega (arith, some-second f.0 f.1))
-
-pub next_few : (s t : List ℕ) (i j x y : ℕ) → i ≤ length s → j ≤ length t → Least (length s - i) batch x → Least (length t - j) (batch - (i + x - i)) y
-    → length (take (i + x - i) (drop i s)) + length (take (j + y - j) (drop j t)) ≤ batch
-next_few s t i j x y h l p q =
-    let u : i + x - i ≡ x = omega arith in
-    let v : j + y - j ≡ y = omega arith in
-    rw (u, v) (simp (length-take, length-drop) (omega (arith, few (length s) (length t) i j x y h l p q)))

@@ -9,12 +9,12 @@ ghost use Rattle.table.specs.Layout.{most_groups};
 ghost use Rattle.table.specs.GroupPart.{GroupsPart, groups_in};
 ghost use Rattle.sorting.specs.Order.{in_order};
 ghost use Rattle.group_numbers.specs.Components.{Components};
-ghost use Rattle.group_numbers.specs.Batch.{batch, Numbers, JoinsMore, Least};
+ghost use Rattle.group_numbers.specs.Batch.{batch, Numbers, JoinsMore};
 
 use buffers::clear;
 use claim_sweep::sweep;
 use group_claims::take_groups;
-use group_numbers::BATCH;
+use group_numbers::{BATCH, Claims};
 use sorting::gather;
 
 // Joins the groups that hold one of the members, which are in order, at most BATCH.
@@ -24,10 +24,12 @@ fn join_sorted(part: &[u32], k: &mut [u32], xs: &[u32])
     requires xs_value { (in_order xs.now ≡ true) × (length xs.now ≤ batch) }
     ensures { JoinsMore (groups_in part.now) (λ m. mem m xs.now) k.old k.new }
 {
-    let mut ends = [0u64; BATCH];
-    let mut owners = [0u8; BATCH];
-    take_groups(part, xs, &mut ends, &mut owners, k);
-    sweep(xs, &ends, &owners, k);
+    let mut claims = Claims {
+        ends: [0; BATCH],
+        owners: [0; BATCH],
+    };
+    take_groups(part, xs, &mut claims, k);
+    sweep(xs, &claims, k);
 }
 
 // The same for members of two lists, at most BATCH together, in any order.
@@ -43,13 +45,6 @@ fn join_few(part: &[u32], k: &mut [u32], a: &[u32], b: &[u32])
     join_sorted(part, k, &xs[0..n]);
 }
 
-// The smaller of two numbers.
-fn least(a: usize, b: usize) -> usize
-    ensures { Least a b result }
-{
-    if a < b { a } else { b }
-}
-
 // Finds the components that the members of two lists make of the groups of a section: BATCH of them at a time.
 pub fn components(part: &[u32], k: &mut [u32], a: &[u32], b: &[u32])
     requires groups_part { GroupsPart part.now }
@@ -57,13 +52,14 @@ pub fn components(part: &[u32], k: &mut [u32], a: &[u32], b: &[u32])
     ensures { Components (groups_in part.now) (λ m. mem m a.now || mem m b.now) k.new }
 {
     clear(k);
-    let mut i: usize = 0;
-    let mut j: usize = 0;
-    while i < a.len() || j < b.len() {
-        let x = i + least(a.len() - i, BATCH);
-        let y = j + least(b.len() - j, BATCH - (x - i));
-        join_few(part, k, &a[i..x], &b[j..y]);
-        i = x;
-        j = y;
+    // two lists share a batch: each batch walks the pairs of all groups
+    let mut a = a;
+    let mut b = b;
+    while !a.is_empty() || !b.is_empty() {
+        let (x, more_a) = a.split_at(a.len().min(BATCH));
+        let (y, more_b) = b.split_at(b.len().min(BATCH - x.len()));
+        join_few(part, k, x, y);
+        a = more_a;
+        b = more_b;
     }
 }

@@ -3,7 +3,7 @@ use Prim.Native.Nat.{ℕ, ◌+◌, ◌<◌, ◌≤◌}
 use native.Mathlib.Omega.{arith}
 use mathlib.Core.Path.{◌≡◌, refl, sym, ◌∙◌, ap}
 use mathlib.Core.Bool.{Bool, true, false, ◌&&◌, ◌||◌, cond}
-use mathlib.Core.List.{List}
+use mathlib.Core.List.{List, [], ◌∷◌}
 use mathlib.Core.Logic.{◌⊎◌, inl, inr, ⊎_elim}
 use lib.ListN.{length, get_or, length-set}
 use lib.Seq.{get_or-set_same, get_or-set_other}
@@ -15,7 +15,11 @@ use Rattle.sorting.specs.Order.{in_order, CountBelow, if_below}
 use Rattle.sorting.proofs.OrderLaws.{order-at}
 use Rattle.group_numbers.specs.Batch.{batch, Founded, Claims, Held, Shared, Reached, Claimed, ClaimSet, Takes}
 use Rattle.group_numbers.proofs.NumberLaws.{same_or_not, kept_same, founded_same, kept_on, founded_on, founded_by}
-use Rattle.group_claims.specs.Gaps.{Between}
+use Rattle.std.specs.Prelude.{Some, None}
+use Rattle.std.specs.Option.{unwrap_or}
+use Rattle.std.specs.List.{slice_get}
+use Rattle.std.specs.declared.option.Option as rust
+use Rattle.group_claims.specs.Gaps.{Between, Next}
 
 -- nothing is taken
 pub takes_none : (xs : List ℕ) (m : Claimed) → Claims m.ends m.owners m.numbers → (taken : ℕ → ℕ → Bool)
@@ -69,6 +73,16 @@ gap_told low a b high u v e f n = go (ltb low a) (ltb b high) refl refl e f
     go true false g h i j = absurd (n j)
     go false true g h i j = absurd (n (j ∙ i))
     go false false g h i j = absurd (n j)
+
+-- nor between 0 and the first number
+pub first-between : (xs : List ℕ) → in_order xs ≡ true → Between xs 0 (unwrap_or (slice_get xs 0) 0)
+first-between [] o = record { none = λ q h a b. absurd (omega (arith, h)) }
+first-between (x ∷ xs) o = record { none = λ q h a b. omega (arith, a, b, order-at (x ∷ xs) o 0 q (omega arith) h) }
+
+-- nor below one that no codepoint has, where none is at a or above it
+pub next-between : (xs : List ℕ) (a top : ℕ) (r : rust.Option ℕ) → Next xs a r → Between xs a (unwrap_or r top)
+next-between xs a top (Some high) w = w
+next-between xs a top None w = record { none = λ q h a b. w q h a }
 
 -- a pair between them claims nothing
 pub take-between : (xs : List ℕ) (m : Claimed) (n a b low high : ℕ) → Claims m.ends m.owners m.numbers → Between xs low high → (low < a) × (b < high)

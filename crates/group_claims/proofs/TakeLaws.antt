@@ -3,9 +3,10 @@ use Prim.Native.Nat.{ℕ, ◌+◌, ◌-◌, ◌<◌, ◌≤◌}
 use native.Mathlib.Omega.{arith}
 use mathlib.Core.Path.{◌≡◌, refl, ◌∙◌}
 use mathlib.Core.Bool.{Bool, true, false, ◌&&◌, ◌||◌, false≢true}
-use mathlib.Core.List.{List, [], ◌∷◌}
-use lib.ListN.{length, get_or, drop, length-drop}
+use mathlib.Core.List.{List, [], ◌∷◌, ◌++◌}
+use lib.ListN.{length, get_or}
 use lib.Dec.{eqb, leb}
+use Rattle.std.specs.declared.slice.ChunksExact.{ChunksExact}
 use borrow.Author.Tests.{le-leb}
 use Rattle.lists.specs.Laws.{both_right}
 use Rattle.table.specs.declared.GroupRecord.{GroupRecord}
@@ -14,7 +15,6 @@ use Rattle.table.specs.Spans.{within}
 use Rattle.table.specs.Lookup.{holds}
 use Rattle.table.specs.Part.{in_pairs}
 use Rattle.table.specs.GroupPart.{groups_in, GroupsPart, group_at}
-use Rattle.table.proofs.Lookups.{drop-two}
 use Rattle.table.proofs.GroupWalks.{GroupWalk, group_start, group-stop, group_here, pairs_hold, group_on}
 use Rattle.group_numbers.specs.Components.{no_group, nth}
 use Rattle.group_numbers.specs.Batch.{Claims, Claimed, Takes}
@@ -39,43 +39,51 @@ and_or : (a b d : Bool) → (a && (b || d)) ≡ ((a && b) || (a && d))
 and_or true b d = refl
 and_or false b d = refl
 
--- claims are set for the pairs before place i
-pub record PairWalk (pairs xs : List ℕ) (n : ℕ) (m₀ m : Claimed) (i : ℕ) : Type 0 where
-  pub inside : i ≤ length pairs
+-- the first pair, and the rest
+pairs_first : (c : ℕ) (x ws : List ℕ) → length x ≡ 2
+    → in_pairs c (x ++ ws) ≡ ((leb (get_or x 0 0) c && leb c (get_or x 1 0)) || in_pairs c ws)
+unfolding in_pairs
+pairs_first c [] ws l = absurd (omega arith)
+pairs_first c (a ∷ []) ws l = absurd (omega arith)
+pairs_first c (a ∷ b ∷ []) ws l = refl
+pairs_first c (a ∷ b ∷ d ∷ x) ws l = absurd (omega arith)
+
+-- claims are set for the pairs that came already
+pub record PairWalk (pairs xs : List ℕ) (n : ℕ) (m₀ m : Claimed) (it : ChunksExact ℕ) : Type 0 where
+  pub size : it.size ≡ 2
   pub done : ℕ → Bool
   pub takes : Takes (λ g x. eqb g n && done x) xs m₀ m
-  pub rest : (x : ℕ) → in_pairs x pairs ≡ (done x || in_pairs x (drop i pairs))
+  pub rest : (x : ℕ) → in_pairs x pairs ≡ (done x || in_pairs x it.rest.now)
 
 module _ (pairs xs : List ℕ) (n : ℕ) (m₀ : Claimed) where
-  pub pair_start : Claims m₀.ends m₀.owners m₀.numbers → PairWalk pairs xs n m₀ m₀ 0
-  pair_start w =
+  pub pair_start : Claims m₀.ends m₀.owners m₀.numbers → (it : ChunksExact ℕ) → it.size ≡ 2 → it.rest.now ≡ pairs → PairWalk pairs xs n m₀ m₀ it
+  pair_start w it s e =
       record {
-        inside = omega arith;
+        size = s;
         done = λ x. false;
         takes = takes_none xs m₀ w (λ g x. eqb g n && false) (λ g q h e. none-taken (eqb g n) e);
-        rest = λ x. refl;
+        rest = λ x. rw e;
       }
 
-  module _ (m : Claimed) (i : ℕ) (w : PairWalk pairs xs n m₀ m i) where
-    pub pair_on : 1 < length pairs - i → (m' : Claimed) → Takes (λ g x. eqb g n && (leb (get_or pairs i 0) x && leb x (get_or pairs (i + 1) 0))) xs m m'
-        → PairWalk pairs xs n m₀ m' (i + 2)
-    unfolding in_pairs
-    pair_on h m' t =
-        let here : ℕ → Bool = λ x. leb (get_or pairs i 0) x && leb x (get_or pairs (i + 1) 0) in
+  module _ (m : Claimed) (it : ChunksExact ℕ) (w : PairWalk pairs xs n m₀ m it) where
+    pub pair_on : (next : ChunksExact ℕ) (p : List ℕ) → it.rest.now ≡ p ++ next.rest.now → length p ≡ it.size → next.size ≡ it.size → (m' : Claimed)
+        → Takes (λ g x. eqb g n && (leb (get_or p 0 0) x && leb x (get_or p 1 0))) xs m m' → PairWalk pairs xs n m₀ m' next
+    pair_on next p e l s m' t =
+        let here : ℕ → Bool = λ x. leb (get_or p 0 0) x && leb x (get_or p 1 0) in
         record {
-          inside = omega arith;
+          size = s ∙ w.size;
           done = λ x. w.done x || here x;
           takes =
               takes_on xs m₀ m m' (λ g x. eqb g n && w.done x) (λ g x. eqb g n && here x) (λ g x. eqb g n && (w.done x || here x)) w.takes t
               (λ g x. and_or (eqb g n) (w.done x) (here x));
-          rest = λ x. (rw (drop-two pairs i h) at (w.rest x)) ∙ or_assoc (w.done x) (here x) (in_pairs x (drop (i + 2) pairs));
+          rest = λ x. w.rest x ∙ rw (e, pairs_first x p next.rest.now (l ∙ w.size)) (or_assoc (w.done x) (here x) (in_pairs x next.rest.now));
         }
 
-    pub pair-stop : length pairs - i ≤ 1 → Takes (λ g x. eqb g n && in_pairs x pairs) xs m₀ m
+    pub pair-stop : length it.rest.now < it.size → Takes (λ g x. eqb g n && in_pairs x pairs) xs m₀ m
     pair-stop h =
         takes_on xs m₀ m m (λ g x. eqb g n && w.done x) (λ g x. eqb g n && false) (λ g x. eqb g n && in_pairs x pairs) w.takes
         (takes_none xs m w.takes.claims (λ g x. eqb g n && false) (λ g q k e. none-taken (eqb g n) e))
-        (λ g x. rw (w.rest x, no_pair x (drop i pairs) (simp length-drop h)) (and_or (eqb g n) (w.done x) false))
+        (λ g x. rw (w.rest x, no_pair x it.rest.now (omega (arith, h, w.size))) (and_or (eqb g n) (w.done x) false))
 
 -- Claims are set for the groups before number n; those from there on are `left`.
 pub record Taking (part xs : List ℕ) (m₀ m : Claimed) (n : ℕ) (left : List Group) : Type 0 where

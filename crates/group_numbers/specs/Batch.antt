@@ -3,6 +3,7 @@ use Rattle.std.specs.Prelude.{ℕ, suc, ◌≤◌, ◌<◌, ◌≡◌, Bool, tru
 use Rattle.table.specs.Table.{Group}
 use Rattle.table.specs.Layout.{most_groups}
 use Rattle.group_numbers.specs.Components.{Linked, Agree}
+use Rattle.group_numbers.specs.declared.Claims as declared
 
 -- so many members are put in order at a time
 abbrev pub batch : ℕ
@@ -62,6 +63,9 @@ pub record Claims (ends owners k : List ℕ) : Type 0 where
   pub few : (s : ℕ) → get_or owners s 0 < most_groups
   pub owned : (s : ℕ) → 0 < get_or ends s 0 → 0 < get_or k (get_or owners s 0) 0
 
+abbrev pub ClaimsHeld : declared.Claims → List ℕ → Type 0
+ClaimsHeld c k = Claims c.ends c.owners k
+
 -- the owners hold these numbers, by a test that says which group holds what
 pub record Held (holding : ℕ → ℕ → Bool) (xs ends owners : List ℕ) : Type 0 where
   pub here : (s : ℕ) → 0 < get_or ends s 0 → get_or xs s 0 < get_or ends s 0
@@ -88,8 +92,8 @@ pub record Claimed : Type 0 where
   pub owners : List ℕ
   pub numbers : List ℕ
 
-abbrev pub claimed : List ℕ → List ℕ → List ℕ → Claimed
-claimed e o k = record { ends = e; owners = o; numbers = k }
+abbrev pub claimed : declared.Claims → List ℕ → Claimed
+claimed c k = record { ends = c.ends; owners = c.owners; numbers = k }
 
 -- The claim at a place is set for group n where its end is raised by that; a group that has claimed the place before has one number with n.
 pub record ClaimSet (at n end : ℕ) (m m' : Claimed) : Type 0 where
@@ -118,9 +122,3 @@ pub record Swept (xs ends owners k k' : List ℕ) : Type 0 where
 pub record JoinsMore (gs : List Group) (is_member : ℕ → Bool) (k k' : List ℕ) : Type 0 where
   pub joins : Joins (Linked gs is_member) k k'
   pub joined : (i j : ℕ) → Linked gs is_member i j → (0 < get_or k' i 0) × (get_or k' i 0 ≡ get_or k' j 0)
-
--- the smaller of two numbers
-pub record Least (a b r : ℕ) : Type 0 where
-  pub first : r ≤ a
-  pub second : r ≤ b
-  pub some : 0 < a → 0 < b → 0 < r

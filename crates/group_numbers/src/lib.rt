@@ -8,6 +8,14 @@ ghost use Rattle.group_numbers.specs.Batch.{relabelled, Numbers, Numbered, Unite
 // So many members are put in order at a time.
 pub const BATCH: usize = 1024;
 
+// Claims at the places of a batch: where an end, not included, is above 0, a group, the owner, holds the numbers of the batch from that place to
+// that end. Two arrays and not one of pairs: a pair of u64 and u8 would take 16 bytes where these take 9.
+#[derive(Drop)]
+pub struct Claims {
+    pub ends: [u64; BATCH],
+    pub owners: [u8; BATCH],
+}
+
 // The number a becomes b.
 fn relabel(k: &mut [u32], a: u32, b: u32)
     ensures { k.new ≡ relabelled a b k.old }

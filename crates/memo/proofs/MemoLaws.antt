@@ -13,10 +13,11 @@ use borrow.Rule.Slice.PartMut.{put_mid, post_of, mid_len, same_len_mid, take_put
 use Rattle.lists.specs.Laws.{both_left, both_right, decided}
 use Rattle.table.specs.declared.Span.{Span}
 use Rattle.table.specs.Table.{Group}
-use Rattle.table.specs.Layout.{most_groups, the_table}
+use Rattle.table.specs.Spans.{Fits}
+use Rattle.table.specs.Layout.{most_groups, most_words, the_table}
 use Rattle.group_numbers.specs.Components.{Components}
 use Rattle.group_numbers.proofs.NumberLaws.{same_or_not, strict}
-use Rattle.memo.specs.Memo.{slot_count, keyed, slot_size, memo_size, slot_at, valid_in, confused_in, same_spans, is_member, ComponentsOf, Slot, Keyed, SlotFor, Memo, Sought, Recalled}
+use Rattle.memo.specs.Memo.{slot_count, keyed, slot_size, memo_size, slot_at, valid_in, confused_in, key_of, Small, is_member, ComponentsOf, Slot, Keyed, SlotFor, Memo, Sought, Recalled}
 
 -- a slot has as many words as it should
 pub slot_length : (memo : List ℕ) (j : ℕ) → length memo ≡ memo_size → j < slot_count → length (slot_at memo j) ≡ slot_size
@@ -111,58 +112,39 @@ module _ (ws memo : List ℕ) (w : Memo ws memo) (v : ℕ) where
 pub recalled_old : (ws memo : List ℕ) (valid confused : Span) (r : ℕ) → Memo ws memo → Sought ws valid confused memo r → Recalled ws valid confused memo r
 recalled_old ws memo valid confused r w s = record { kept = w; few = s.few; found = s.found }
 
--- spans whose numbers are the same are the same
-pub spans_same : (a b : Span) → same_spans a b ≡ true → a ≡ b
-spans_same a b e =
-    let f : a.from ≡ b.from = eqb-true a.from b.from (both_left (eqb a.from b.from) (eqb a.to b.to) e) in
-    let t : a.to ≡ b.to = eqb-true a.to b.to (both_right (eqb a.from b.from) (eqb a.to b.to) e) in
-    let both : ◌≡◌ {A = Span} (record { from = a.from; to = a.to }) (record { from = b.from; to = b.to }) = rw (f, t) in
-    both
+-- a place by its two ends
+both : (a b : ℕ) (s : Span) → a ≡ s.from → b ≡ s.to → ◌≡◌ {A = Span} (record { from = a; to = b }) s
+both a b s e f = rw (e, f) refl
 
--- a slot that is for the whole
-pub sought_here : (ws memo : List ℕ) (valid confused : Span) (j : ℕ) → Memo ws memo → j < slot_count
-    → (same_spans (valid_in (slot_at memo j)) valid && same_spans (confused_in (slot_at memo j)) confused) ≡ true → Sought ws valid confused memo j
-sought_here ws memo valid confused j w h e =
-    record {
-      few = h;
-      found =
-          record {
-            slot = w.each j h;
-            key =
-                record {
-                  size = (w.each j h).size;
-                  valid_there = spans_same (valid_in (slot_at memo j)) valid (both_left (same_spans (valid_in (slot_at memo j)) valid) (same_spans (confused_in (slot_at memo j)) confused) e);
-                  confused_there = spans_same (confused_in (slot_at memo j)) confused (both_right (same_spans (valid_in (slot_at memo j)) valid) (same_spans (confused_in (slot_at memo j)) confused) e);
-                };
-          };
-    }
+-- the key of a whole is in front
+pub keyed_as : (s : List ℕ) (valid confused : Span) → length s ≡ slot_size → take keyed s ≡ key_of valid confused → Keyed valid confused s
+keyed_as [] valid confused size e = absurd (omega (arith, size))
+keyed_as (a ∷ []) valid confused size e = absurd (omega (arith, size))
+keyed_as (a ∷ b ∷ []) valid confused size e = absurd (omega (arith, size))
+keyed_as (a ∷ b ∷ c ∷ []) valid confused size e = absurd (omega (arith, size))
+keyed_as (a ∷ b ∷ c ∷ d ∷ s) valid confused size e =
+    let word : (i : ℕ) → get_or (a ∷ b ∷ c ∷ d ∷ []) i 0 ≡ get_or (key_of valid confused) i 0 = λ i. ap (λ (l : List ℕ). get_or l i 0) e in
+    record { size = size; valid_there = both a b valid (word 0) (word 1); confused_there = both c d confused (word 2) (word 3) }
 
--- two tests, the second of which is asked where the first passes
-pub second-asked : (a b r : Bool) → a ≡ true → r ≡ b → r ≡ (a && b)
-second-asked true b r e f = f
-second-asked false b r e f = absurd (false≢true e)
-
-pub first_fails : (a b r : Bool) → a ≡ false → r ≡ a → r ≡ (a && b)
-first_fails true b r e f = absurd (false≢true (sym e))
-first_fails false b r e f = f
-
--- the same of the words that were lent for it
-pub sought_part : (ws memo : List ℕ) (valid confused : Span) (j : ℕ) → Memo ws memo → j < slot_count → (part : List ℕ) → part ≡ slot_at memo j → (r : Bool)
-    → r ≡ (same_spans (valid_in part) valid && same_spans (confused_in part) confused) → r ≡ true → Sought ws valid confused memo j
-sought_part ws memo valid confused j w h part e r f g =
-    sought_here ws memo valid confused j w h (sym (ap (λ (s : List ℕ). same_spans (valid_in s) valid && same_spans (confused_in s) confused) e) ∙ sym f ∙ g)
+-- the slot that has the key of a whole
+pub sought_part : (ws memo : List ℕ) (valid confused : Span) (j : ℕ) → Memo ws memo → j < slot_count → (n : ℕ) → n ≡ keyed
+    → take n (drop (slot_size * j) memo) ≡ key_of valid confused → Sought ws valid confused memo j
+sought_part ws memo valid confused j w h n z e =
+    let front : take keyed (slot_at memo j) ≡ key_of valid confused =
+    take-take keyed slot_size (drop (slot_size * j) memo) (omega arith) ∙ (rw z at e) in
+    record { few = h; found = record { slot = w.each j h; key = keyed_as (slot_at memo j) valid confused (w.each j h).size front } }
 
 pub part_length : (memo part : List ℕ) (j : ℕ) → length memo ≡ memo_size → j < slot_count → part ≡ slot_at memo j → length part ≡ slot_size
 part_length memo part j e h f = ap length f ∙ slot_length memo j e h
 
--- four words are written in front
-pub keyed_by : (s : List ℕ) (valid confused : Span) → length s ≡ slot_size
-    → Keyed valid confused (set (set (set (set s 0 valid.from) 1 valid.to) 2 confused.from) 3 confused.to)
-keyed_by [] valid confused e = absurd (omega arith)
-keyed_by (a ∷ []) valid confused e = absurd (omega arith)
-keyed_by (a ∷ b ∷ []) valid confused e = absurd (omega arith)
-keyed_by (a ∷ b ∷ c ∷ []) valid confused e = absurd (omega arith)
-keyed_by (a ∷ b ∷ c ∷ d ∷ s) valid confused e = record { size = e; valid_there = refl; confused_there = refl }
+-- the key is written in front
+pub keyed_by : (s key : List ℕ) (n : ℕ) (valid confused : Span) → length s ≡ slot_size → n ≡ keyed → key ≡ key_of valid confused
+    → Keyed valid confused (put_mid 0 n s key)
+keyed_by [] key n valid confused size z e = absurd (omega (arith, size))
+keyed_by (a ∷ []) key n valid confused size z e = absurd (omega (arith, size))
+keyed_by (a ∷ b ∷ []) key n valid confused size z e = absurd (omega (arith, size))
+keyed_by (a ∷ b ∷ c ∷ []) key n valid confused size z e = absurd (omega (arith, size))
+keyed_by (a ∷ b ∷ c ∷ d ∷ s) key n valid confused size z e = rw (z, e) (record { size = size; valid_there = refl; confused_there = refl })
 
 -- behind the key the components are written
 filled : (ws s ys : List ℕ) (valid confused : Span) → Keyed valid confused s → ComponentsOf ws valid confused ys
@@ -180,6 +162,10 @@ filled ws (a ∷ b ∷ c ∷ d ∷ s) ys valid confused k n =
       slot = record { size = omega (arith, n.size); so = of-key };
       key = record { size = omega (arith, n.size); valid_there = k.valid_there; confused_there = k.confused_there };
     })
+
+-- the places of a part of a table's words
+pub small_fits : (ws : List ℕ) (s : Span) → length ws ≤ most_words → Fits ws s → Small s
+small_fits ws s h f = record { from = omega (arith, h, f.ordered, f.inside); to = omega (arith, h, f.inside) }
 
 -- the slot that is written lies within the memo
 pub next_fits : (memo : List ℕ) (v j : ℕ) → length memo ≡ memo_size → j < slot_count → slot_size * j + slot_size ≤ length (set memo (slot_count * slot_size) v)

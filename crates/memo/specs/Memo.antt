@@ -1,9 +1,9 @@
 -- What the look-alike test remembers: the components of the wholes that it met last, each in a slot of its own.
-use Rattle.std.specs.Prelude.{ℕ, ◌+◌, ◌*◌, ◌<◌, ◌≡◌, Bool, ◌&&◌, ◌||◌, List, length, get_or, take, drop, eqb}
+use Rattle.std.specs.Prelude.{ℕ, ◌+◌, ◌*◌, ◌<◌, ◌≡◌, ◌≤◌, Bool, ◌||◌, List, [], ◌∷◌, length, get_or, take, drop}
 use Rattle.lists.specs.Lists.{mem}
 use Rattle.table.specs.declared.Span.{Span}
 use Rattle.table.specs.Spans.{within}
-use Rattle.table.specs.Layout.{the_table}
+use Rattle.table.specs.Layout.{the_table, most_words}
 use Rattle.group_numbers.specs.Components.{Components}
 
 -- so many slots
@@ -30,8 +30,14 @@ valid_in s = record { from = get_or s 0 0; to = get_or s 1 0 }
 abbrev pub confused_in : List ℕ → Span
 confused_in s = record { from = get_or s 2 0; to = get_or s 3 0 }
 
-abbrev pub same_spans : Span → Span → Bool
-same_spans a b = eqb a.from b.from && eqb a.to b.to
+-- the words in front of the slot for a whole
+abbrev pub key_of : Span → Span → List ℕ
+key_of valid confused = valid.from ∷ valid.to ∷ confused.from ∷ confused.to ∷ []
+
+-- the places of a list are those of words of a table
+pub record Small (s : Span) : Type 0 where
+  pub from : s.from ≤ most_words
+  pub to : s.to ≤ most_words
 
 -- x is a member of the whole whose lists stand there
 abbrev pub is_member : List ℕ → Span → Span → ℕ → Bool

@@ -3,11 +3,10 @@
 // next. A slot of zeros is for a whole without members, so that zeros are a memo.
 #![tactic(auto)]
 
-ghost use Rattle.std.specs.Prelude.{◌≡◌, ◌&&◌, ◌≤◌, length, eqb, IfSome};
+ghost use Rattle.std.specs.Prelude.{◌≡◌, length, IfSome};
 ghost use Rattle.sections.specs.Laid.{Laid};
 ghost use Rattle.table.specs.Spans.{Fits};
-ghost use Rattle.table.specs.Layout.{most_words};
-ghost use Rattle.memo.specs.Memo.{slot_size, valid_in, confused_in, same_spans, Keyed, SlotFor, Memo, Sought, Recalled};
+ghost use Rattle.memo.specs.Memo.{slot_size, Small, key_of, Keyed, SlotFor, Memo, Sought, Recalled};
 
 use components::components;
 use sections::Sections;
@@ -15,7 +14,10 @@ use table::Span;
 
 const SLOTS: usize = 8;
 
+// Words of a slot, and of the places in front of it.
 const SLOT: usize = 260;
+
+const KEY: usize = 4;
 
 // Where the slot that is written next stands.
 const NEXT: usize = SLOTS * SLOT;
@@ -23,30 +25,29 @@ const NEXT: usize = SLOTS * SLOT;
 // Words of a memo.
 pub const MEMO: usize = NEXT + 1;
 
-// Whether a slot is for the whole whose lists stand there.
-fn is_for(slot: &[u32], valid: Span, confused: Span) -> bool
-    requires { length slot.now ≡ slot_size }
-    ensures { result ≡ (same_spans (valid_in slot.now) valid && same_spans (confused_in slot.now) confused) }
+// What stands in front of the slot for a whole: the places of its lists.
+fn key_of(valid: Span, confused: Span) -> [u32; KEY]
+    requires { Small valid × Small confused }
+    ensures { result ≡ key_of valid confused }
 {
-    same_span(slot[0], slot[1], valid) && same_span(slot[2], slot[3], confused)
-}
-
-// Whether a place from one number to another is this one.
-fn same_span(from: u32, to: u32, s: Span) -> bool
-    ensures { result ≡ (eqb from s.from && eqb to s.to) }
-{
-    from as usize == s.from && to as usize == s.to
+    [
+        valid.from as u32,
+        valid.to as u32,
+        confused.from as u32,
+        confused.to as u32,
+    ]
 }
 
 // The slot for a whole, if there is one.
 fn find(words: &[u32], memo: &[u32], valid: Span, confused: Span) -> Option<usize>
-    requires { Memo words.now memo.now }
+    requires memo { Memo words.now memo.now }
+    requires small { Small valid × Small confused }
     ensures { IfSome result (Sought words.now valid confused memo.now) }
 {
+    let key = key_of(valid, confused);
     for j in 0..SLOTS {
         let from = SLOT * j;
-        let to = from + SLOT;
-        if is_for(&memo[from..to], valid, confused) {
+        if memo[from..from + KEY] == key[..] {
             return Some(j);
         }
     }
@@ -56,13 +57,10 @@ fn find(words: &[u32], memo: &[u32], valid: Span, confused: Span) -> Option<usiz
 // Writes the places of a whole's lists in front of a slot.
 fn put_key(slot: &mut [u32], valid: Span, confused: Span)
     requires slot_len { length slot.old ≡ slot_size }
-    requires from_le_most_words { (valid.from ≤ most_words) × (valid.to ≤ most_words) × (confused.from ≤ most_words) × (confused.to ≤ most_words) }
+    requires small { Small valid × Small confused }
     ensures { Keyed valid confused slot.new }
 {
-    slot[0] = valid.from as u32;
-    slot[1] = valid.to as u32;
-    slot[2] = confused.from as u32;
-    slot[3] = confused.to as u32;
+    slot[..KEY].copy_from_slice(&key_of(valid, confused));
 }
 
 // Writes a slot for a whole.
@@ -75,7 +73,7 @@ fn fill(words: &[u32], ix: Sections, slot: &mut [u32], valid: Span, confused: Sp
     put_key(slot, valid, confused);
     components(
         ix.groups.of(words),
-        &mut slot[4..],
+        &mut slot[KEY..],
         valid.of(words),
         confused.of(words),
     );

@@ -41,26 +41,6 @@ fn record_passes(
     passes(words, ix, unpaired, held, second)
 }
 
-fn record_passes_of(
-    words: &[u32],
-    ix: Sections,
-    unpaired: &mut [u32],
-    held: bool,
-    head: u32,
-    part: &[u32],
-    s: Span,
-) -> bool
-    requires laid { Laid words.now ix }
-    requires unpaired { Unpaired (the_table words.now) unpaired.old }
-    requires seconds_held { SecondsHeld (the_table words.now) held }
-    requires fits { Fits part.now s }
-    ensures { Asked (the_table words.now) unpaired.new (record_passes (the_table words.now) head (within s part.now)) result }
-{
-    let from = s.from;
-    let to = s.to;
-    record_passes(words, ix, unpaired, held, head, &part[from..to])
-}
-
 // Whether the heads of the records and the second items of their composition pairs pass.
 fn records_pass(words: &[u32], ix: Sections, unpaired: &mut [u32], held: bool, part: &[u32]) -> bool
     requires laid { Laid words.now ix }
@@ -69,10 +49,11 @@ fn records_pass(words: &[u32], ix: Sections, unpaired: &mut [u32], held: bool, p
     requires holds { Holds as_headed part.now }
     ensures { Asked (the_table words.now) unpaired.new (all (record_passes_in (the_table words.now)) (records_in as_headed part.now)) result }
 {
+    // by hand: a record's length is its own, and the place goes on by it
     let mut i: usize = 0;
     while i < part.len() {
         let s = counted(part, i + 1);
-        if !record_passes_of(words, ix, unpaired, held, part[i], part, s) {
+        if !record_passes(words, ix, unpaired, held, part[i], s.of(part)) {
             return false;
         }
         i = s.to;
@@ -94,7 +75,5 @@ pub fn records_pass_of(
     requires holds { Holds as_headed (within s words.now) }
     ensures { Asked (the_table words.now) unpaired.new (all (record_passes_in (the_table words.now)) (records_in as_headed (within s words.now))) result }
 {
-    let from = s.from;
-    let to = s.to;
-    records_pass(words, ix, unpaired, held, &words[from..to])
+    records_pass(words, ix, unpaired, held, s.of(words))
 }

@@ -10,7 +10,7 @@ use lib.Seq.{get_or-set_same, get_or-set_other}
 use lib.Dec.{ltb, eqb}
 use borrow.Author.Tests.{eqb-true, eqb-false, ltb-true, ltb-false}
 use Rattle.lists.specs.Tests.{never}
-use Rattle.quick_filters.specs.Slot.{slot_count, hash_of, asked, Words, SlotsIn, Kept, Asked, Came, Compared, Fresh, Stored}
+use Rattle.quick_filters.specs.Slot.{slot_count, hash_of, asked, Words, SlotsIn, Kept, Asked, Came, Fresh, Stored}
 
 module _ (part slots : List ℕ) (x y : ℕ) where
   pub asked_start : Asked part slots x y 0
@@ -121,14 +121,6 @@ stored_new part slots n s r w two h small e c =
         → (get_or (set slots r (s + 1)) i 0 ≡ get_or slots i 0) ⊎ (n ≡ 2) × (get_or (set slots r (s + 1)) i 0 ≡ s + 1)
     go i (inl q) = inl q
     go i (inr q) = inr (two, q)
-
--- a comparison of two words
-module _ (part : List ℕ) (v x y : ℕ) where
-  pub compared_not : (get_or part (v - 1) 0 ≡ x → ⊥) → Compared part v x y false
-  compared_not h = record { same = λ e. never true refl (sym e); other = λ e w. h w.first }
-
-  pub compared : get_or part (v - 1) 0 ≡ x → Compared part v x y (eqb (get_or part v 0) y)
-  compared h = record { same = λ e. record { first = h; second = eqb-true (get_or part v 0) y e }; other = λ e w. eqb-false (get_or part v 0) y e w.second }
 
 pub positive : (n : ℕ) → (n ≡ 0 → ⊥) → 1 ≤ n
 positive n h = go (eqb n 0) refl

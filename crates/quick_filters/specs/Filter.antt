@@ -11,11 +11,14 @@ filter_words = 1024
 abbrev pub place_of : ℕ → ℕ
 place_of c = (c % 32768 + c / 32768 * 12345) % 32768
 
+abbrev pub scattered : ℕ → ℕ → ℕ → ℕ
+scattered low high c = (c % 65536 * low + c / 65536 * high) % 65536 / 2
+
 abbrev pub strewn_of : ℕ → ℕ
-strewn_of c = (c % 65536 * 40503 + c / 65536 * 10007) % 65536 / 2
+strewn_of = scattered 40503 10007
 
 abbrev pub last_of : ℕ → ℕ
-last_of c = (c % 65536 * 25717 + c / 65536 * 18211) % 65536 / 2
+last_of = scattered 25717 18211
 
 -- c may be a member
 unfoldable pub holds : List ℕ → ℕ → Bool

@@ -46,6 +46,11 @@ pub record Came (part slots : List ℕ) (x y r : ℕ) : Type 0 where
   pub past : Asked part slots x y after
   pub stops : (get_or slots r 0 ≡ 0 → ⊥) → Words part (get_or slots r 0) x y
 
+-- what a search answers, if it comes to such a slot
+pub record Reached (part slots : List ℕ) (x y r : ℕ) : Type 0 where
+  pub few : r < slot_count
+  pub came : Came part slots x y r
+
 -- what a comparison answers
 pub record Compared (part : List ℕ) (v x y : ℕ) (r : Bool) : Type 0 where
   pub same : r ≡ true → Words part v x y

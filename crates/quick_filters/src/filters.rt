@@ -1,26 +1,22 @@
 // Filters: sets of 32,768 bits, three for each member. Where one of its bits is clear, a codepoint is no member.
-ghost use Rattle.std.specs.Prelude.{◌≡◌, ◌<◌, length};
-ghost use Rattle.quick_filters.specs.Filter.{filter_words, place_of, strewn_of, last_of, holds, Noted, RunNoted, RunsNoted};
+ghost use Rattle.std.specs.Prelude.{◌≡◌, ◌+◌, ◌<◌, length};
+ghost use Rattle.quick_filters.specs.Filter.{filter_words, place_of, scattered, holds, Noted, RunNoted, RunsNoted};
 
 use bit_sets::{has, put};
 
-// The bits of c.
+// One bit of c.
 fn place(c: u32) -> u32
     ensures { (result ≡ place_of c) × (result < 32768) }
 {
     (c % 32768 + c / 32768 * 12345) % 32768
 }
 
-fn strewn_place(c: u32) -> u32
-    ensures { (result ≡ strewn_of c) × (result < 32768) }
+// The other bits: half of what the sum of two multiples leaves, of the low sixteen bits and of those above them.
+fn strewn_place(c: u32, low: u32, high: u32) -> u32
+    requires { low + high < 65536 }
+    ensures { (result ≡ scattered low high c) × (result < 32768) }
 {
-    (c % 65536 * 40503 + c / 65536 * 10007) % 65536 / 2
-}
-
-fn last_place(c: u32) -> u32
-    ensures { (result ≡ last_of c) × (result < 32768) }
-{
-    (c % 65536 * 25717 + c / 65536 * 18211) % 65536 / 2
+    (c % 65536 * low + c / 65536 * high) % 65536 / 2
 }
 
 // Whether c may be a member.
@@ -31,10 +27,10 @@ pub fn may_hold(set: &[u32], c: u32) -> bool
     if !has(set, place(c)) {
         return false;
     }
-    if !has(set, strewn_place(c)) {
+    if !has(set, strewn_place(c, 40503, 10007)) {
         return false;
     }
-    has(set, last_place(c))
+    has(set, strewn_place(c, 25717, 18211))
 }
 
 // Makes c a member.
@@ -43,8 +39,8 @@ pub fn note(set: &mut [u32], c: u32)
     ensures { Noted set.old set.new c }
 {
     put(set, place(c));
-    put(set, strewn_place(c));
-    put(set, last_place(c));
+    put(set, strewn_place(c, 40503, 10007));
+    put(set, strewn_place(c, 25717, 18211));
 }
 
 // Makes the codepoints from `from` to `to` members.

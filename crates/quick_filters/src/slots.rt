@@ -1,10 +1,8 @@
-// An index of places in a part by the two words that stand there.
-ghost use Rattle.std.specs.Prelude.{◌≡◌, ◌+◌, ◌<◌, ◌≤◌, length};
-ghost use Rattle.quick_filters.specs.Slot.{most_looked, slot_count, hash_of, SlotsIn, Came, Compared, Stored};
+// An index of places in a part by the two words that stand there, 0 for none: fixed memory, so no map.
+ghost use Rattle.std.specs.Prelude.{◌≡◌, ◌+◌, ◌<◌, ◌≤◌, length, IfSome};
+ghost use Rattle.quick_filters.specs.Slot.{most_looked, hash_of, SlotsIn, Reached, Compared, Stored};
 
-// The number of slots, and of those that a search asks at most.
-pub const SLOTS: usize = 2048;
-
+// So many slots a search asks at most.
 const TRIES: u32 = 64;
 
 // The slot where a search for x, y starts.
@@ -19,29 +17,26 @@ fn same_words(part: &[u32], v: usize, x: u32, y: u32) -> bool
     requires { (1 ≤ v) × (v < length part.now) }
     ensures { Compared part.now v x y result }
 {
-    if part[v - 1] != x {
-        return false;
-    }
-    part[v] == y
+    part[v - 1] == x && part[v] == y
 }
 
-// The slot of x, y, or an empty one where they would be; the number of slots where neither was found.
-pub fn find_slot(part: &[u32], slots: &[u32], x: u32, y: u32) -> usize
+// The slot of x, y, or an empty one where they would be, if one of them is found.
+pub fn find_slot(part: &[u32], slots: &[u32], x: u32, y: u32) -> Option<usize>
     requires { SlotsIn part.now slots.now }
-    ensures { result < slot_count → Came part.now slots.now x y result }
+    ensures { IfSome result (Reached part.now slots.now x y) }
 {
     let start = hash(x, y);
     for j in 0..TRIES {
         let at = ((start + j) % 2048) as usize;
         let v = slots[at] as usize;
         if v == 0 {
-            return at;
+            return Some(at);
         }
         if same_words(part, v, x, y) {
-            return at;
+            return Some(at);
         }
     }
-    SLOTS
+    None
 }
 
 // Puts the words at s into the index where the record has two items, unless they are there or find no slot.
@@ -53,10 +48,9 @@ pub fn keep(part: &[u32], slots: &mut [u32], n: usize, s: usize) -> bool
     if n != 2 {
         return true;
     }
-    let at = find_slot(part, slots, part[s], part[s + 1]);
-    if SLOTS <= at {
+    let Some(at) = find_slot(part, slots, part[s], part[s + 1]) else {
         return false;
-    }
+    };
     if slots[at] != 0 {
         return false;
     }

@@ -88,9 +88,5 @@ pub fn finds(words: &[u32], ix: Sections) -> bool
     if !classes_spare_of(words, ix.classes) {
         return false;
     }
-    let a = ix.decompositions.from;
-    let b = ix.decompositions.to;
-    let c = ix.quick.from;
-    let d = ix.quick.to;
-    sections_fit(words, ix, &words[a..b], &words[c..d])
+    sections_fit(words, ix, ix.decompositions.of(words), ix.quick.of(words))
 }

@@ -8,7 +8,7 @@ use lib.ListN.{length, get_or, replicate, length-take, length-drop, length-repli
 use lib.Dec.{eqb}
 use borrow.Author.Tests.{eq-eqb, eqb-true}
 use Rattle.lists.specs.Lists.{mem}
-use Rattle.lists.specs.Tests.{never, not_so}
+use Rattle.lists.specs.Tests.{never}
 use Rattle.table.specs.Table.{Table, Headed}
 use Rattle.table.specs.Layout.{most_items, the_table}
 use Rattle.table.specs.Lookup.{in_quick_check, table_class}
@@ -101,25 +101,34 @@ module _ (t : Table) (part good : List ℕ) (inside : Bool) (i n : ℕ) (h : i +
       let two : items_at part i n ≡ get_or part (i + 2) 0 ∷ get_or part (i + 3) 0 ∷ [] = rw (e, drop-two part (i + 2) (omega arith), three) in
       rw two k
 
+-- a record was judged, with its head in the set or outside
+pub record Judged (t : Table) (good : List ℕ) (x : Headed) (r : Bool) : Type 0 where
+  pub kept : Good t good
+  pub fits : r ≡ true → Fitting t x
+
+pub judged_inside : (t : Table) (good set : List ℕ) (x : Headed) (r : Bool) → SetOf t set → ((c : ℕ) → x.head ≤ c → c ≤ x.head → in_pairs c set ≡ true)
+    → RecordAsked t good true x r → Judged t good x r
+judged_inside t good set x r s c a =
+    record {
+      kept = a.kept;
+      fits = λ e. record { second = (a.fits e).second; outer = λ o. never (in_quick_check t x.head) (sym (s x.head) ∙ c x.head (omega arith) (omega arith)) o };
+    }
+
+pub judged_outside : (t : Table) (good : List ℕ) (x : Headed) (r : Bool) → RecordAsked t good false x r → Judged t good x r
+judged_outside t good x r a = record { kept = a.kept; fits = λ e. record { second = (a.fits e).second; outer = λ o. (a.fits e).outer refl } }
+
 -- the walk
-pub fits_more : (t : Table) (part set good : List ℕ) (i : ℕ) (w : Passed (Fitting t) part i) (h : i < length part) (inside r : Bool) → SetOf t set
-    → (inside ≡ true → (c : ℕ) → get_or part i 0 ≤ c → c ≤ get_or part i 0 → in_pairs c set ≡ true)
-    → RecordAsked t good inside (record_of (get_or part i 0) (items_at part i (get_or part (i + 1) 0))) r → r ≡ true
+pub fits_more : (t : Table) (part good : List ℕ) (i : ℕ) (w : Passed (Fitting t) part i) (h : i < length part) (r : Bool)
+    → Judged t good (record_of (get_or part i 0) (items_at part i (get_or part (i + 1) 0))) r → r ≡ true
     → (next : ℕ) → next ≡ i + 2 + get_or part (i + 1) 0 → Passed (Fitting t) part next
-fits_more t part set good i w h inside r s c a ok next e =
+fits_more t part good i w h r a ok next e =
     passed_more (Fitting t) part i w (Fitting t) (λ y k. k) h (fitting x.first x.head x.items) next e
   where
     x : HeadedHere most_items part i w.left
     x = passed_here (Fitting t) part i w h
 
-    outside : in_quick_check t (get_or part i 0) ≡ false → inside ≡ false
-    outside o = not_so inside (λ k. never (in_quick_check t (get_or part i 0)) (sym (s (get_or part i 0)) ∙ c k (get_or part i 0) (omega arith) (omega arith)) o)
-
-    one : Fitting t (record_of (get_or part i 0) (items_at part i (get_or part (i + 1) 0)))
-    one = record { second = (a.fits ok).second; outer = λ o. (a.fits ok).outer (outside o) }
-
     fitting : (y : Headed) → y.head ≡ get_or part i 0 → y.items ≡ items_at part i (get_or part (i + 1) 0) → Fitting t y
-    fitting y p q = let k : Fitting t (record_of y.head y.items) = rw (p, q) one in k
+    fitting y p q = let k : Fitting t (record_of y.head y.items) = rw (p, q) (a.fits ok) in k
 
 -- what the other sections say nothing of
 pub set_of : (ws : List ℕ) (ix : Sections) → Laid ws ix → SetOf (the_table ws) (within ix.quick ws)

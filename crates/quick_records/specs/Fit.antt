@@ -18,7 +18,8 @@ use Rattle.quick_local.specs.Local.{is_head, Levels, SecondFits, OuterFits}
 use Rattle.quick_filters.specs.Filter.{filter_words, holds}
 use Rattle.quick_filters.specs.Slot.{most_looked}
 use Rattle.quick_levels.specs.Walk.{Each, Few, Apart, Indexed}
-use Rattle.quick_seconds.specs.Seconds.{Good}
+use Rattle.quick_seconds.specs.Seconds.{Good, HeadsHeld}
+use Rattle.quick_records.specs.declared.Lent.{Lent}
 
 -- the words of the decompositions, and of the quick-check set
 pub record PartOf (t : Table) (part : List ℕ) : Type 0 where
@@ -50,6 +51,12 @@ pub record ByHead (t : Table) (part slots : List ℕ) : Type 0 where
   pub rises : rising 0 t.decompositions ≡ true
   pub few : Each Few t.decompositions
   pub zero : class_of t 0 ≡ 0
+
+-- what the walk over the decompositions is lent is theirs
+pub record Lending (t : Table) (lent : Lent) : Type 0 where
+  pub by_head : ByHead t lent.part.now lent.index.now
+  pub heads : HeadsHeld t lent.heads.now
+  pub cleared : Cleared t lent.said.now
 
 -- the head and the first item of a composition pair, of which the first item is outside the set
 pub record Composing (t : Table) (head a : ℕ) : Type 0 where

@@ -2,7 +2,7 @@
 #![tactic(auto)]
 
 use quick_filters::filters::{may_hold, note_runs};
-use quick_filters::slots::{SLOTS, find_slot};
+use quick_filters::slots::find_slot;
 use quick_levels::index_records;
 use quick_seconds::second_fits;
 use sections::Sections;
@@ -13,7 +13,17 @@ use unpaired::may_compose;
 // So many codepoints of a section are put into the filter.
 const MOST_SAID: u32 = 4096;
 
-ghost use Rattle.std.specs.Prelude.{◌≡◌, true, false, [], ◌∷◌, ℕ, ◌+◌, ◌≤◌, ◌%◌, length, get_or};
+// What a walk over the decompositions is lent: their words, an index of them by their heads, and filters of the heads and of what the other
+// sections speak of.
+#[derive(Clone, Copy)]
+struct Lent<'a> {
+    part: &'a [u32],
+    index: &'a [u32],
+    heads: &'a [u32],
+    said: &'a [u32],
+}
+
+ghost use Rattle.std.specs.Prelude.{◌≡◌, true, false, ℕ, ◌+◌, ◌≤◌, ◌%◌, length, get_or};
 ghost use Rattle.sections.specs.Laid.{Laid};
 ghost use Rattle.table.specs.Layout.{the_table};
 ghost use Rattle.table.specs.Part.{in_pairs};
@@ -22,7 +32,7 @@ ghost use Rattle.sound_parts.specs.Parts.{record_of};
 ghost use Rattle.heads.specs.Heads.{rising};
 ghost use Rattle.quick_filters.specs.Filter.{filter_words};
 ghost use Rattle.quick_levels.specs.Walk.{Each, Few, items_at};
-ghost use Rattle.quick_records.specs.Fit.{PartOf, SetOf, Cleared, Behind, ByHead, Composing, RecordAsked, Fitting};
+ghost use Rattle.quick_records.specs.Fit.{PartOf, SetOf, Cleared, Behind, Lending, Composing, RecordAsked, Fitting};
 ghost use Rattle.quick_seconds.specs.Seconds.{HeadsHeld, Good};
 
 // The place of the first entry that ends at c or above it, from an entry on. No answer hangs on its being the first: `covers` asks it.
@@ -30,6 +40,7 @@ fn advance(set: &[u32], from: usize, c: u32) -> usize
     requires { (from % 2 ≡ 0) × (from ≤ length set.now) }
     ensures { (result % 2 ≡ 0) × (result ≤ length set.now) }
 {
+    // by hand: the place itself is the answer, also where one word is left over
     let mut k = from;
     while k + 1 < set.len() {
         if c <= set[k + 1] {
@@ -75,48 +86,38 @@ fn in_order(words: &[u32], ix: Sections, x: u32, y: u32) -> bool
 }
 
 // Whether b is in order behind what a decomposes to.
-fn behind_fits(words: &[u32], ix: Sections, part: &[u32], index: &[u32], a: u32, b: u32) -> bool
-    requires { Laid words.now ix × ByHead (the_table words.now) part.now index.now }
+fn behind_fits(words: &[u32], ix: Sections, lent: &Lent<'_>, a: u32, b: u32) -> bool
+    requires { Laid words.now ix × Lending (the_table words.now) lent.now }
     ensures { result ≡ true → Behind (the_table words.now) a b }
 {
-    let at = find_slot(part, index, a, 2);
-    if SLOTS <= at {
+    let Some(at) = find_slot(lent.part, lent.index, a, 2) else {
         return false;
-    }
-    let v = index[at] as usize;
+    };
+    let v = lent.index[at] as usize;
     if v == 0 {
         return true;
     }
-    in_order(words, ix, part[v + 2], b)
+    in_order(words, ix, lent.part[v + 2], b)
 }
 
 // The same, where a may be a head.
-fn stands_behind(
-    words: &[u32],
-    ix: Sections,
-    part: &[u32],
-    index: &[u32],
-    heads: &[u32],
-    a: u32,
-    b: u32,
-) -> bool
-    requires laid { Laid words.now ix × ByHead (the_table words.now) part.now index.now }
-    requires heads_held { HeadsHeld (the_table words.now) heads.now }
+fn stands_behind(words: &[u32], ix: Sections, lent: &Lent<'_>, a: u32, b: u32) -> bool
+    requires { Laid words.now ix × Lending (the_table words.now) lent.now }
     ensures { result ≡ true → Behind (the_table words.now) a b }
 {
-    if !may_hold(heads, a) {
+    if !may_hold(lent.heads, a) {
         return true;
     }
-    behind_fits(words, ix, part, index, a, b)
+    behind_fits(words, ix, lent, a, b)
 }
 
 // Whether a head with the first item a is that of a composition pair, and a is outside the set.
-fn composes(words: &[u32], ix: Sections, said: &[u32], head: u32, a: u32) -> bool
-    requires { Laid words.now ix × Cleared (the_table words.now) said.now }
+fn composes(words: &[u32], ix: Sections, lent: &Lent<'_>, head: u32, a: u32) -> bool
+    requires { Laid words.now ix × Lending (the_table words.now) lent.now }
     ensures { result ≡ true → Composing (the_table words.now) head a }
 {
-    let first = may_hold(said, head);
-    let second = may_hold(said, a);
+    let first = may_hold(lent.said, head);
+    let second = may_hold(lent.said, a);
     if !(first | second) {
         return true;
     }
@@ -126,101 +127,77 @@ fn composes(words: &[u32], ix: Sections, said: &[u32], head: u32, a: u32) -> boo
     may_compose(head, words, ix, a)
 }
 
-// Whether the decomposition of head to a, b fits, where the head is known to be in the set, or is not.
-fn record_fits(
+// Whether the record of n items at i fits, where its head is in the set: one item is no composition pair.
+fn fits_inside(
     words: &[u32],
     ix: Sections,
-    part: &[u32],
-    index: &[u32],
-    heads: &[u32],
-    said: &[u32],
+    lent: &Lent<'_>,
     good: &mut [u32],
-    inside: bool,
-    head: u32,
-    a: u32,
-    b: u32,
-) -> bool
-    requires laid { Laid words.now ix × ByHead (the_table words.now) part.now index.now }
-    requires heads_held { HeadsHeld (the_table words.now) heads.now × Cleared (the_table words.now) said.now }
-    requires good { Good (the_table words.now) good.old }
-    ensures { RecordAsked (the_table words.now) good.new inside (record_of head (a ∷ b ∷ [])) result }
-{
-    if !second_fits(words, ix, heads, good, b) {
-        if inside {
-            return !may_compose(head, words, ix, a);
-        }
-        return false;
-    }
-    if inside {
-        return true;
-    }
-    if !composes(words, ix, said, head, a) {
-        return false;
-    }
-    stands_behind(words, ix, part, index, heads, a, b)
-}
-
-// The same of the record of n items at i: one item is no composition pair.
-fn fits_at(
-    words: &[u32],
-    ix: Sections,
-    part: &[u32],
-    index: &[u32],
-    heads: &[u32],
-    said: &[u32],
-    good: &mut [u32],
-    inside: bool,
     i: usize,
     n: usize,
 ) -> bool
-    requires laid { Laid words.now ix × ByHead (the_table words.now) part.now index.now }
-    requires heads_held { HeadsHeld (the_table words.now) heads.now × Cleared (the_table words.now) said.now }
-    requires good { Good (the_table words.now) good.old × (i + 2 + n ≤ length part.now) }
-    ensures { RecordAsked (the_table words.now) good.new inside
-        (record_of (get_or part.now i 0) (items_at part.now i n)) result }
+    requires lent { Laid words.now ix × Lending (the_table words.now) lent.now }
+    requires good { Good (the_table words.now) good.old × (i + 2 + n ≤ length lent.now.part.now) }
+    ensures { RecordAsked (the_table words.now) good.new true
+        (record_of (get_or lent.now.part.now i 0) (items_at lent.now.part.now i n)) result }
 {
     if n != 2 {
-        return inside;
+        return true;
     }
-    record_fits(
-        words,
-        ix,
-        part,
-        index,
-        heads,
-        said,
-        good,
-        inside,
-        part[i],
-        part[i + 2],
-        part[i + 3],
-    )
+    if second_fits(words, ix, lent.heads, good, lent.part[i + 3]) {
+        return true;
+    }
+    !may_compose(lent.part[i], words, ix, lent.part[i + 2])
+}
+
+// The same, where its head may be outside the set.
+fn fits_outside(
+    words: &[u32],
+    ix: Sections,
+    lent: &Lent<'_>,
+    good: &mut [u32],
+    i: usize,
+    n: usize,
+) -> bool
+    requires lent { Laid words.now ix × Lending (the_table words.now) lent.now }
+    requires good { Good (the_table words.now) good.old × (i + 2 + n ≤ length lent.now.part.now) }
+    ensures { RecordAsked (the_table words.now) good.new false
+        (record_of (get_or lent.now.part.now i 0) (items_at lent.now.part.now i n)) result }
+{
+    if n != 2 {
+        return false;
+    }
+    let a = lent.part[i + 2];
+    let b = lent.part[i + 3];
+    if !second_fits(words, ix, lent.heads, good, b) {
+        return false;
+    }
+    if !composes(words, ix, lent, lent.part[i], a) {
+        return false;
+    }
+    stands_behind(words, ix, lent, a, b)
 }
 
 // Whether every decomposition fits.
-fn all_fit(
-    words: &[u32],
-    ix: Sections,
-    part: &[u32],
-    set: &[u32],
-    index: &[u32],
-    heads: &[u32],
-    said: &[u32],
-    good: &mut [u32],
-) -> bool
-    requires laid { Laid words.now ix × ByHead (the_table words.now) part.now index.now }
-    requires heads_held { HeadsHeld (the_table words.now) heads.now × Cleared (the_table words.now) said.now }
+fn all_fit(words: &[u32], ix: Sections, lent: &Lent<'_>, set: &[u32], good: &mut [u32]) -> bool
+    requires lent { Laid words.now ix × Lending (the_table words.now) lent.now }
     requires good { Good (the_table words.now) good.old × SetOf (the_table words.now) set.now }
     ensures { result ≡ true → Each (Fitting (the_table words.now)) (the_table words.now).decompositions }
 {
+    let part = lent.part;
     let mut k: usize = 0;
+    // by hand: a record's length is its own, and the place goes on by it
     let mut i: usize = 0;
     while i < part.len() {
         let head = part[i];
         let n = part[i + 1] as usize;
         k = advance(set, k, head);
-        let inside = covers(set, k, head, head);
-        if !fits_at(words, ix, part, index, heads, said, good, inside, i, n) {
+        let fits = if covers(set, k, head, head) {
+            fits_inside(words, ix, lent, good, i, n)
+        } else {
+            fits_outside(words, ix, lent, good, i, n)
+        };
+        if !fits {
             return false;
         }
         i += n + 2;
@@ -233,14 +210,10 @@ fn note_said(words: &[u32], ix: Sections, said: &mut [u32]) -> bool
     requires { Laid words.now ix × (length said.old ≡ filter_words) }
     ensures { result ≡ true → Cleared (the_table words.now) said.new }
 {
-    let a = ix.quick.from;
-    let b = ix.quick.to;
-    if !note_runs(&words[a..b], 2, 1, said, MOST_SAID) {
+    if !note_runs(ix.quick.of(words), 2, 1, said, MOST_SAID) {
         return false;
     }
-    let c = ix.classes.from;
-    let d = ix.classes.to;
-    if !note_runs(&words[c..d], 3, 1, said, MOST_SAID) {
+    if !note_runs(ix.classes.of(words), 3, 1, said, MOST_SAID) {
         return false;
     }
     let e = ix.exclusions.from + 1;
@@ -268,5 +241,11 @@ pub fn records_fit(words: &[u32], ix: Sections, part: &[u32], set: &[u32], heads
     if !index_records(part, 0, &mut index) {
         return false;
     }
-    all_fit(words, ix, part, set, &index, heads, &said, &mut good)
+    let lent = Lent {
+        part,
+        index: &index,
+        heads,
+        said: &said,
+    };
+    all_fit(words, ix, &lent, set, &mut good)
 }

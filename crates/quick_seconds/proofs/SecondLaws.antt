@@ -1,8 +1,8 @@
 -- Laws of second items.
 use Prim.Native.Nat.{ℕ, ◌<◌}
 use native.Mathlib.Omega.{arith}
-use mathlib.Core.Path.{◌≡◌, refl, sym, ◌∙◌}
-use mathlib.Core.Bool.{Bool, true, false}
+use mathlib.Core.Path.{◌≡◌, refl, sym, ◌∙◌, ap}
+use mathlib.Core.Bool.{Bool, true, false, not}
 use mathlib.Core.List.Memᴰ
 use mathlib.Core.List.{List, Memᴰ}
 use mathlib.Core.Option.{Option, none, some, map, none-ne-some}
@@ -18,7 +18,8 @@ use Rattle.table.specs.Layout.{most_parts}
 use Rattle.table.specs.Lookup.{in_quick_check, items_of}
 use Rattle.table.specs.Part.{ItemsFound}
 use Rattle.std.specs.declared.option.Option as rust
-use Rattle.std.specs.declared.option.Option.TheVariants.{None}
+use Rattle.std.specs.declared.option.Option.TheVariants.{Some, None}
+use Rattle.std.specs.Option.{is_some}
 use Rattle.table.specs.declared.Span.{Span}
 use Rattle.table.proofs.Searches.{items_missing}
 use Rattle.text.specs.Hangul.{is_syllable, is_jamo}
@@ -31,6 +32,10 @@ use Rattle.quick_seconds.specs.Seconds.{HeadsHeld, Good, HeadAsked, SecondAsked}
 -- no record has the head c, by the filter or by the section
 pub held_none : (t : Table) (heads : List ℕ) (c : ℕ) → HeadsHeld t heads → holds heads c ≡ false → is_head t c ≡ false
 held_none t heads c h e = not_so (is_head t c) (λ k. never (holds heads c) (h.each c k) e)
+
+pub none_is : (r : rust.Option Span) (b : Bool) → is_some r ≡ not b → b ≡ true → r ≡ None
+none_is None b e f = refl
+none_is (Some s) b e f = absurd (never true refl (e ∙ ap not f))
 
 pub no_record : (t : Table) (ws : List ℕ) (c : ℕ) (r : rust.Option Span) → ItemsFound ws most_parts (items_of t.decompositions c) r → r ≡ None → is_head t c ≡ false
 unfolding items_of

@@ -20,10 +20,7 @@ fn has_no_record(words: &[u32], ix: Sections, c: u32) -> bool
     requires { Laid words.now ix }
     ensures { result ≡ true → is_head (the_table words.now) c ≡ false }
 {
-    match decomposition_items(words, ix, c) {
-        Some(_) => false,
-        None => true,
-    }
+    decomposition_items(words, ix, c).is_none()
 }
 
 // Whether b is found to be no head. Where the filter cannot tell, the section is asked, so often in all as the last word of `good` allows.

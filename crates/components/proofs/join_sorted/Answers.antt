@@ -8,4 +8,4 @@ take_groups-requires c =
     record { groups_part = p.groups_part; xs_value = p.xs_value.0; xs_len_bound = p.xs_value.1; claims = claims_none _ p.numbers }
 
 pub returns : goal.returns
-returns c = sorted_joins _ _ _ _ _ _ _ c.take_groups.ensures c.sweep.ensures
+returns c = sorted_joins _ _ _ _ _ _ c.take_groups.ensures c.sweep.ensures

@@ -6,7 +6,7 @@ use Rattle.group_claims.proofs.TakeLaws.{TakeWalk}
 use Rattle.group_claims.proofs.take_groups.Given as goal
 
 abbrev pub invariant-loop-at : goal.invariant-loop-at
-invariant-loop-at l = TakeWalk l.part l.xs (claimed l.initial.ends l.initial.owners l.initial.k) (claimed l.ends l.owners l.k) l.n l.at
+invariant-loop-at l = TakeWalk l.part l.xs (claimed l.initial.claims l.initial.k) (claimed l.claims l.k) l.n l.at
 
 abbrev pub decreases-loop-at : goal.decreases-loop-at
 decreases-loop-at l = length l.part - l.at

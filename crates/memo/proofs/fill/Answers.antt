@@ -3,16 +3,14 @@ use native.Mathlib.Omega.{arith}
 use lib.ListN.{length-take, length-drop}
 use Rattle.sections.proofs.SectionLaws.{laid-fits, laid_small}
 use Rattle.sections.proofs.LaidParts.{laid_part, laid_same}
-use Rattle.memo.proofs.MemoLaws.{filled_from}
+use Rattle.memo.proofs.MemoLaws.{filled_from, small_fits}
 use Rattle.memo.proofs.fill.Goals as goal
 
 pub put_key-requires : goal.put_key-requires
 put_key-requires c =
     let p = c.requires in
     let s = laid_small _ _ p.laid in
-    let v = p.fits.0 in
-    let x = p.fits.1 in
-    record { slot_len = p.slot_len; from_le_most_words = (omega (arith, s, v.ordered, v.inside), omega (arith, s, v.inside), omega (arith, s, x.ordered, x.inside), omega (arith, s, x.inside)) }
+    record { slot_len = p.slot_len; small = (small_fits _ _ s p.fits.0, small_fits _ _ s p.fits.1) }
 
 pub of-requires : goal.of-requires
 of-requires c = (laid-fits _ _ c.requires.laid).groups

@@ -2,9 +2,15 @@
 use Prim.Native.Nat.{◌%◌, ◌+◌, ◌*◌}
 use native.Mathlib.Omega.{arith}
 use lib.ListN.{get_or}
+use Rattle.sections.proofs.SectionLaws.{laid_small}
 use Rattle.memo.specs.Memo.{slot_count, slot_size}
-use Rattle.memo.proofs.MemoLaws.{recalled_new}
+use Rattle.memo.proofs.MemoLaws.{recalled_new, small_fits}
 use Rattle.memo.proofs.recall.Goals as goal
+
+pub find-requires-clause-small : goal.find-requires-clause-small
+find-requires-clause-small c =
+    let s = laid_small _ _ c.requires.laid in
+    (small_fits _ _ s c.requires.fits.0, small_fits _ _ s c.requires.fits.1)
 
 pub returns : goal.returns
 returns c =

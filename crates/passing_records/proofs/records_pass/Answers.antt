@@ -13,23 +13,25 @@ loop-i-init c = (through_start _ _ _ c.requires.holds, c.requires.unpaired)
 pub counted-s-requires : goal.counted-s-requires
 counted-s-requires c = head_room _ _ c.loop-i.i c.loop-i.invariant.0 c.loop-i-test.true
 
-pub record_passes_of-requires : goal.record_passes_of-requires
-record_passes_of-requires c =
-    record { laid = c.requires.laid; unpaired = c.loop-i.invariant.1; seconds_held = c.requires.seconds_held; fits = head_fits _ _ c.loop-i.i c.loop-i.invariant.0 c.loop-i-test.true c.counted-s.result c.counted-s.ensures }
+pub of-requires : goal.of-requires
+of-requires c = head_fits _ _ c.loop-i.i c.loop-i.invariant.0 c.loop-i-test.true c.counted-s.result c.counted-s.ensures
 
-pub shape_of-unpaired-then-not-record_passes_of : goal.shape_of-unpaired-then-not-record_passes_of
-shape_of-unpaired-then-not-record_passes_of c = c.record_passes_of.ensures.unpaired.size ∙ sym c.requires.unpaired.size
+pub record_passes-requires : goal.record_passes-requires
+record_passes-requires c = record { laid = c.requires.laid; unpaired = c.loop-i.invariant.1; seconds_held = c.requires.seconds_held }
 
-pub returns-then-not-record_passes_of : goal.returns-then-not-record_passes_of
-returns-then-not-record_passes_of c =
-    record { is = heads_broken (record_passes (the_table c.args.words.now)) _ c.loop-i.i c.loop-i.invariant.0 c.loop-i-test.true c.counted-s.result c.counted-s.ensures (sym c.record_passes_of.ensures.is ∙ not-true _ c.if-not-record_passes_of.true-raw); unpaired = c.record_passes_of.ensures.unpaired }
+pub shape_of-unpaired-then-not-record_passes : goal.shape_of-unpaired-then-not-record_passes
+shape_of-unpaired-then-not-record_passes c = c.record_passes.ensures.unpaired.size ∙ sym c.requires.unpaired.size
+
+pub returns-then-not-record_passes : goal.returns-then-not-record_passes
+returns-then-not-record_passes c =
+    record { is = heads_broken (record_passes (the_table c.args.words.now)) _ c.loop-i.i c.loop-i.invariant.0 c.loop-i-test.true c.counted-s.result c.counted-s.ensures (sym (rw c.of.ensures at c.record_passes.ensures.is) ∙ not-true _ c.if-not-record_passes.true-raw); unpaired = c.record_passes.ensures.unpaired }
 
 pub loop-i-smaller : goal.loop-i-smaller
 loop-i-smaller c = omega (arith, head_less _ _ c.loop-i.i c.loop-i.invariant.0 c.loop-i-test.true c.counted-s.result c.counted-s.ensures)
 
 pub loop-i-preserved : goal.loop-i-preserved
 loop-i-preserved c =
-    (heads_on (record_passes (the_table c.args.words.now)) _ c.loop-i.i c.loop-i.invariant.0 c.loop-i-test.true c.counted-s.result c.counted-s.ensures (sym c.record_passes_of.ensures.is ∙ not-false _ c.if-not-record_passes_of.false-raw), c.record_passes_of.ensures.unpaired)
+    (heads_on (record_passes (the_table c.args.words.now)) _ c.loop-i.i c.loop-i.invariant.0 c.loop-i-test.true c.counted-s.result c.counted-s.ensures (sym (rw c.of.ensures at c.record_passes.ensures.is) ∙ not-false _ c.if-not-record_passes.false-raw), c.record_passes.ensures.unpaired)
 
 pub shape_of-unpaired : goal.shape_of-unpaired
 shape_of-unpaired c = c.loop-i.invariant.1.size ∙ sym c.requires.unpaired.size

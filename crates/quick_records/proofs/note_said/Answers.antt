@@ -9,48 +9,14 @@ use Rattle.quick_records.proofs.FitLaws.{said_clear}
 use native.Mathlib.Omega.{arith}
 use Rattle.quick_records.proofs.note_said.Goals as goal
 
-pub offset_bounds-words-a : goal.offset_bounds-words-a
-offset_bounds-words-a c =
-    let fit = (laid-fits _ _ c.requires.0).quick in
-    omega (arith, fit.ordered, fit.inside)
-
-pub slice_bounds-note_runs-count : goal.slice_bounds-note_runs-count
-slice_bounds-note_runs-count c =
-    let fit = (laid-fits _ _ c.requires.0).quick in
-    omega (arith, fit.ordered, fit.inside)
-
-pub slice_bounds-note_runs-start : goal.slice_bounds-note_runs-start
-slice_bounds-note_runs-start c =
-    let fit = (laid-fits _ _ c.requires.0).quick in
-    omega (arith, fit.ordered, fit.inside)
-
-pub slice_bounds-note_runs-end : goal.slice_bounds-note_runs-end
-slice_bounds-note_runs-end c =
-    let fit = (laid-fits _ _ c.requires.0).quick in
-    omega (arith, fit.ordered, fit.inside)
+pub of-requires : goal.of-requires
+of-requires c = (laid-fits _ _ c.requires.0).quick
 
 pub returns-then-not-note_runs : goal.returns-then-not-note_runs
 returns-then-not-note_runs c = λ e. never true refl (sym e)
 
-pub offset_bounds-words-c : goal.offset_bounds-words-c
-offset_bounds-words-c c =
-    let fit = (laid-fits _ _ c.requires.0).classes in
-    omega (arith, fit.ordered, fit.inside)
-
-pub slice_bounds-note_runs-count-2 : goal.slice_bounds-note_runs-count-2
-slice_bounds-note_runs-count-2 c =
-    let fit = (laid-fits _ _ c.requires.0).classes in
-    omega (arith, fit.ordered, fit.inside)
-
-pub slice_bounds-note_runs-start-2 : goal.slice_bounds-note_runs-start-2
-slice_bounds-note_runs-start-2 c =
-    let fit = (laid-fits _ _ c.requires.0).classes in
-    omega (arith, fit.ordered, fit.inside)
-
-pub slice_bounds-note_runs-end-2 : goal.slice_bounds-note_runs-end-2
-slice_bounds-note_runs-end-2 c =
-    let fit = (laid-fits _ _ c.requires.0).classes in
-    omega (arith, fit.ordered, fit.inside)
+pub of-requires-2 : goal.of-requires-2
+of-requires-2 c = (laid-fits _ _ c.requires.0).classes
 
 pub returns-then-not-note_runs-2 : goal.returns-then-not-note_runs-2
 returns-then-not-note_runs-2 c = λ e. never true refl (sym e)
@@ -65,18 +31,18 @@ offset_bounds-words-e c =
     let x = laid-excluded _ _ c.requires.0 in
     omega (arith, x.some_left, x.fits.inside, laid_small _ _ c.requires.0)
 
-pub slice_bounds-note_runs-count-3 : goal.slice_bounds-note_runs-count-3
-slice_bounds-note_runs-count-3 c =
+pub slice_bounds-note_runs-count : goal.slice_bounds-note_runs-count
+slice_bounds-note_runs-count c =
     let x = laid-excluded _ _ c.requires.0 in
     omega (arith, x.some_left, x.fits.inside, laid_small _ _ c.requires.0)
 
-pub slice_bounds-note_runs-start-3 : goal.slice_bounds-note_runs-start-3
-slice_bounds-note_runs-start-3 c =
+pub slice_bounds-note_runs-start : goal.slice_bounds-note_runs-start
+slice_bounds-note_runs-start c =
     let x = laid-excluded _ _ c.requires.0 in
     omega (arith, x.some_left, x.fits.inside, laid_small _ _ c.requires.0)
 
-pub slice_bounds-note_runs-end-3 : goal.slice_bounds-note_runs-end-3
-slice_bounds-note_runs-end-3 c =
+pub slice_bounds-note_runs-end : goal.slice_bounds-note_runs-end
+slice_bounds-note_runs-end c =
     let x = laid-excluded _ _ c.requires.0 in
     omega (arith, x.some_left, x.fits.inside, laid_small _ _ c.requires.0)
 
@@ -85,4 +51,4 @@ note_runs-requires-3 c = (omega arith, c.note_runs-2.ensures.grown.room ∙ c.no
 
 pub returns : goal.returns
 returns c =
-    λ e. said_clear _ _ c.requires.0 _ _ _ _ _ _ _ c.requires.1 c.note_runs.ensures (not-false _ c.if-not-note_runs.false-raw) c.note_runs-2.ensures (not-false _ c.if-not-note_runs-2.false-raw) c.note_runs-3.ensures e
+    λ e. said_clear _ _ c.requires.0 _ _ _ _ _ _ _ c.requires.1 (rw c.of.ensures at c.note_runs.ensures) (not-false _ c.if-not-note_runs.false-raw) (rw c.of-2.ensures at c.note_runs-2.ensures) (not-false _ c.if-not-note_runs-2.false-raw) c.note_runs-3.ensures e

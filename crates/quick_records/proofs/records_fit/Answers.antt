@@ -17,4 +17,14 @@ returns-then-not-index_records c = λ e. never true refl (sym e)
 
 pub all_fit-requires : goal.all_fit-requires
 all_fit-requires c =
-    record { laid = (c.requires.laid.0, by_head _ _ _ c.requires.laid.1 c.requires.words_value c.requires.each (sym c.class_of.ensures.is ∙ c.if-class_of-ne0.false) (c.index_records.ensures (not-false _ c.if-not-index_records.false-raw))); heads_held = (c.requires.heads_held.0, c.note_said.ensures (not-false _ c.if-not-note_said.false-raw)); good = (good_none _, c.requires.heads_held.1) }
+    record {
+      lent = (
+        c.requires.laid.0,
+        record {
+          by_head = by_head _ _ _ c.requires.laid.1 c.requires.words_value c.requires.each (sym c.class_of.ensures.is ∙ c.if-class_of-ne0.false) (c.index_records.ensures (not-false _ c.if-not-index_records.false-raw));
+          heads = c.requires.heads_held.0;
+          cleared = c.note_said.ensures (not-false _ c.if-not-note_said.false-raw);
+        },
+      );
+      good = (good_none _, c.requires.heads_held.1);
+    }

@@ -12,4 +12,4 @@ returns-then-not-has-2 c =
 
 pub returns : goal.returns
 returns c =
-    held_last _ _ _ (rw c.place.ensures.0 at c.has.ensures) _ (rw c.strewn_place.ensures.0 at c.has-2.ensures) (not-false _ c.if-not-has.false-raw) _ (not-false _ c.if-not-has-2.false-raw) (rw c.last_place.ensures.0 at c.has-3.ensures)
+    held_last _ _ _ (rw c.place.ensures.0 at c.has.ensures) _ (rw c.strewn_place.ensures.0 at c.has-2.ensures) (not-false _ c.if-not-has.false-raw) _ (not-false _ c.if-not-has-2.false-raw) (rw c.strewn_place-2.ensures.0 at c.has-3.ensures)
