@@ -15,23 +15,20 @@ ghost use Rattle.kept_scan.specs.Keeping.{follows, MayKeep, TextKept, ItemsKept,
 
 use decomposition::append_decomposed;
 use finder::emoji::find;
-use laying::{Run, put_emoji};
+use laying::{Run, Tally, put_emoji};
 use limits::MOST_WORKED;
-use scanning::Tally;
 use sections::Sections;
 use sections::lookup::in_quick_check;
 use table::Span;
 use text::class::class_of;
 use tokens::single::{Single, alone};
 
-// What is laid down so far, its worked length, and the class of the last codepoint of the running text, 0 where there is none; once `fine` is
-// false, the scan is given up.
+// What is laid down so far, its worked length, and the class of the last codepoint of the running text, 0 where there is none.
 #[derive(Clone, Copy)]
 pub struct Held {
     pub run: Run,
     pub worked: usize,
     pub class: u32,
-    pub fine: bool,
 }
 
 // What one step gave, and how much of the label it took.
@@ -41,11 +38,11 @@ pub struct Took {
     pub held: Held,
 }
 
-// What the scan gives: nothing, or the number of codepoints that stand in the work area, and the tally of the tokens.
+// What the scan gives where it comes to the end: the number of codepoints that stand in the work area, and the tally of the tokens.
 #[derive(Clone, Copy)]
-pub enum Kept {
-    No,
-    Tokens { count: usize, tally: Tally },
+pub struct Kept {
+    pub count: usize,
+    pub tally: Tally,
 }
 
 // Whether a codepoint of class k stands in order behind one of class j.
@@ -63,10 +60,7 @@ fn may_keep(words: &[u32], ix: Sections, held: Held, class: u32, c: u32) -> bool
     requires { Laid words.now ix }
     ensures { result ≡ true → MayKeep (the_table words.now) held class c }
 {
-    if !held.fine {
-        return false;
-    }
-    if held.run.worked >= MOST_WORKED {
+    if held.run.tally.worked >= MOST_WORKED {
         return false;
     }
     if held.worked > MOST_WORKED {
@@ -78,85 +72,70 @@ fn may_keep(words: &[u32], ix: Sections, held: Held, class: u32, c: u32) -> bool
     !in_quick_check(words, ix, c)
 }
 
-// Lays one codepoint of text down as it is.
-fn keep_text(words: &[u32], ix: Sections, w: &mut [u32], held: Held, c: u32) -> Held
+// Lays one codepoint of text down as it is, or gives the scan up.
+fn keep_text(words: &[u32], ix: Sections, w: &mut [u32], held: Held, c: u32) -> Option<Held>
     requires laid { Laid words.now ix }
     requires least_work_in_bounds { least_work ≤ length w.old }
     ensures { TextKept (the_table words.now) w.old w.new c held result }
 {
     let run = held.run;
-    let n = run.worked;
+    let n = run.tally.worked;
     let class = class_of(words, ix, c);
     if !may_keep(words, ix, held, class, c) {
-        return Held {
-            run,
-            worked: held.worked,
-            class,
-            fine: false,
-        };
+        return None;
     }
     let worked = append_decomposed(words, ix, &mut w[..0], held.worked, c);
     w[n] = c;
     w[MOST_WORKED + n] = run.tag;
-    Held {
+    Some(Held {
         run: Run {
-            worked: n + 1,
-            emoji: run.emoji,
-            text: true,
+            tally: Tally {
+                worked: n + 1,
+                text: true,
+                ..run.tally
+            },
             tag: 2,
         },
         worked,
         class,
-        fine: true,
-    }
+    })
 }
 
 // Lays the items of a mapping down as they are.
-fn keep_items(words: &[u32], ix: Sections, w: &mut [u32], held: Held, items: Span) -> Held
+fn keep_items(words: &[u32], ix: Sections, w: &mut [u32], held: Held, items: Span) -> Option<Held>
     requires laid { Laid words.now ix }
     requires least_work_in_bounds { (least_work ≤ length w.old) × ItemsThere words.now items }
     ensures { ItemsKept (the_table words.now) w.old w.new (within items words.now) held result }
 {
     let mut r = held;
     for &c in items.of(words) {
-        r = keep_text(words, ix, w, r, c);
+        r = keep_text(words, ix, w, r, c)?;
     }
-    r
+    Some(r)
 }
 
 // Lays an emoji down, "stripped of FE0F".
-fn keep_emoji(words: &[u32], w: &mut [u32], held: Held, sequence: Span) -> Held
+fn keep_emoji(words: &[u32], w: &mut [u32], held: Held, sequence: Span) -> Option<Held>
     requires { (least_work ≤ length w.old) × SequenceFits words.now sequence }
     ensures { EmojiKept words.now w.old w.new sequence held result }
 {
     let run = held.run;
     if held.worked > MOST_WORKED {
-        return Held {
-            run,
-            worked: held.worked,
-            class: 0,
-            fine: false,
-        };
+        return None;
     }
     let next = put_emoji(words, w, run, sequence);
-    if next.worked > MOST_WORKED {
-        return Held {
-            run: next,
-            worked: held.worked,
-            class: 0,
-            fine: false,
-        };
+    if next.tally.worked > MOST_WORKED {
+        return None;
     }
-    Held {
+    Some(Held {
         run: next,
-        worked: held.worked + (next.worked - run.worked),
+        worked: held.worked + (next.tally.worked - run.tally.worked),
         class: 0,
-        fine: held.fine,
-    }
+    })
 }
 
 // Takes one codepoint that no emoji sequence takes.
-fn keep_one(words: &[u32], ix: Sections, w: &mut [u32], held: Held, c: u32) -> Held
+fn keep_one(words: &[u32], ix: Sections, w: &mut [u32], held: Held, c: u32) -> Option<Held>
     requires laid { Laid words.now ix }
     requires least_work_in_bounds { least_work ≤ length w.old }
     ensures { StepKept (the_table words.now) (codepoint_step (the_table words.now) c) w.old w.new held result }
@@ -165,72 +144,70 @@ fn keep_one(words: &[u32], ix: Sections, w: &mut [u32], held: Held, c: u32) -> H
     match found {
         Single::Valid => keep_text(words, ix, w, held, c),
         Single::Mapped(s) => keep_items(words, ix, w, held, s),
-        Single::Ignored => held,
-        Single::Disallowed => Held {
-            fine: false,
-            ..held
-        },
+        Single::Ignored => Some(held),
+        Single::Disallowed => None,
     }
 }
 
 // Takes one step at the start of the rest of a label: an emoji sequence, or else one codepoint.
-fn keep_step(words: &[u32], ix: Sections, rest: &[u32], w: &mut [u32], held: Held) -> Took
+fn keep_step(words: &[u32], ix: Sections, rest: &[u32], w: &mut [u32], held: Held) -> Option<Took>
     requires laid { Laid words.now ix }
     requires least_work_in_bounds { (least_work ≤ length w.old) × (1 ≤ length rest.now) }
     ensures { StepTook (the_table words.now) (first_step (the_table words.now) rest.now) w.old w.new held result }
 {
     let found = find(words, ix, rest);
     match found {
-        Some(m) => Took {
-            taken: m.taken,
-            held: keep_emoji(words, w, held, m.sequence),
-        },
-        None => Took {
-            taken: 1,
-            held: keep_one(words, ix, w, held, rest[0]),
-        },
+        Some(m) => {
+            let next = keep_emoji(words, w, held, m.sequence)?;
+            Some(Took {
+                taken: m.taken,
+                held: next,
+            })
+        }
+        None => {
+            let next = keep_one(words, ix, w, held, rest[0])?;
+            Some(Took {
+                taken: 1,
+                held: next,
+            })
+        }
     }
 }
 
 // Scans a label, as long as its text passes. Where it does to the end, the tokens stand in the work area in normal form: they are as they were.
-pub fn scan_kept(words: &[u32], ix: Sections, label: &[u32], w: &mut [u32]) -> Kept
+// `scan` of scanning has this loop over another state, and does not share it for the reason that stands at `put_items` of laying.
+pub fn scan_kept(words: &[u32], ix: Sections, label: &[u32], w: &mut [u32]) -> Option<Kept>
     requires laid { Laid words.now ix }
     requires least_work_in_bounds { (least_work ≤ length w.old) × (length label.now ≤ most_input) }
     ensures { KeptScans (the_table words.now) label.now w.old w.new result }
 {
     let run = Run {
-        worked: 0,
-        emoji: false,
-        text: false,
+        tally: Tally {
+            worked: 0,
+            emoji: false,
+            text: false,
+        },
         tag: 1,
     };
     let mut held = Held {
         run,
         worked: 0,
         class: 0,
-        fine: true,
     };
     let mut at = 0;
     // by hand: a step takes what its token is long, and the place goes on by it
     while at < label.len() {
-        let took = keep_step(words, ix, &label[at..], w, held);
+        let took = keep_step(words, ix, &label[at..], w, held)?;
         held = took.held;
-        if !held.fine {
-            return Kept::No;
-        }
         at += took.taken;
     }
     let worked = held.worked;
     if worked > MOST_WORKED {
-        return Kept::No;
+        return None;
     }
-    let run = held.run;
-    Kept::Tokens {
-        count: run.worked,
-        tally: Tally {
-            worked,
-            emoji: run.emoji,
-            text: run.text,
-        },
-    }
+    let tally = held.run.tally;
+    Some(Kept {
+        count: tally.worked,
+        tally: Tally { worked, ..tally },
+    })
 }

@@ -16,9 +16,7 @@ use Rattle.answers.specs.declared.Refusal.{Refusal}
 use Rattle.answers.specs.declared.Refusal.TheVariants.{Disallowed, Restricted}
 use Rattle.table.specs.Table.{Table}
 use Rattle.tokens.specs.Scan.{steps, first_disallowed}
-use Rattle.scanning.specs.declared.Tally.{Tally}
-use Rattle.scanning.specs.declared.Scanned.{Scanned}
-use Rattle.scanning.specs.declared.Scanned.TheVariants as scanned
+use Rattle.laying.specs.declared.Tally.{Tally}
 use Rattle.scanning.specs.Scanning.{ScanIs, Scans}
 use Rattle.name.specs.Label.{stop, label_verdict, label_by, one_label}
 use Rattle.name.specs.Permitted.{by_accepted, by_barred, by_refused}
@@ -30,15 +28,15 @@ use Rattle.name.proofs.Parting.{label-stop, label_last, place_stop, place_none, 
 use Rattle.one_label.proofs.Said.{judged_accepted, judged_refused}
 
 -- the place of 5 before a stop
-module _ (t : Table) (part w w' : List ℕ) (r : Scanned) (s : Scans t part w w' r) where
-  pub stop_disallowed : (i : ℕ) → r ≡ scanned.Disallowed i → BeforeStop t part w w' i
+module _ (t : Table) (part w w' : List ℕ) (r : Result Tally ℕ) (s : Scans t part w w' r) where
+  pub stop_disallowed : (i : ℕ) → r ≡ Err i → BeforeStop t part w w' i
   stop_disallowed i e =
-      let is : ScanIs t part w' (scanned.Disallowed i) = rw e at s.is in
+      let is : ScanIs t part w' (Err i) = rw e at s.is in
       record { same = s.same; place = rw is }
 
-  pub stop_tokens : (k : Tally) → r ≡ scanned.Tokens k → BeforeStop t part w w' (length part)
+  pub stop_tokens : (k : Tally) → r ≡ Ok k → BeforeStop t part w w' (length part)
   stop_tokens k e =
-      let is : ScanIs t part w' (scanned.Tokens k) = rw e at s.is in
+      let is : ScanIs t part w' (Ok k) = rw e at s.is in
       record { same = s.same; place = rw is.0 }
 
 -- the one label of the label call

@@ -9,14 +9,14 @@ ghost use Rattle.memo.specs.Memo.{Memo};
 ghost use Rattle.name.specs.Label.{one_label, label_before15};
 ghost use Rattle.name.specs.Calls.{LabelCalls, LabelJudged, BeforeStop};
 
-use answers::{AcceptedLabel, Refusal, is_barred, label_length};
+use answers::{AcceptedLabel, Refusal, label_length};
 use ending::finish;
 use memo::MEMO;
 use name::admit::admit;
 use name::labels::{label_end, put_label};
 use one_label::judge_label;
 use quick_asked::ask;
-use scanning::{Scanned, scan};
+use scanning::scan;
 use sections::Sections;
 use unpaired::KNOWN_WORDS;
 use unpaired::index::index_pairs;
@@ -29,8 +29,8 @@ fn before_stop(words: &[u32], ix: Sections, part: &[u32], w: &mut [u32]) -> usiz
 {
     let scanned = scan(words, ix, part, w);
     match scanned {
-        Scanned::Disallowed(i) => i,
-        Scanned::Tokens(_) => part.len(),
+        Err(i) => i,
+        Ok(_) => part.len(),
     }
 }
 
@@ -59,7 +59,7 @@ fn judge_one(
     ask(words, ix, &mut unpaired, input.len());
     let judged = judge_label(words, ix, input, 0, 0, 0, &mut unpaired, w, memo)?;
     let kind = judged.kind;
-    if is_barred(setting, kind) {
+    if kind.is_barred(setting) {
         return Err(Refusal::Restricted(0));
     }
     let length = put_label(answer, 0, true, &w[..judged.length]);

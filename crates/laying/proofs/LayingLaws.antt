@@ -68,18 +68,18 @@ module _ (put : Put) where
   tag_snoc m [] s = refl
   tag_snoc m (x ∷ ss) s = tag_snoc (step_tag put m x) ss s
 
-  pub laying_start : (w : List ℕ) → Laying put [] (record { worked = 0; emoji = false; text = false; tag = 1 }) w
+  pub laying_start : (w : List ℕ) → Laying put [] (record { tally = record { worked = 0; emoji = false; text = false }; tag = 1 }) w
   unfolding laid tags_from tag_after
   laying_start w =
       record { over = λ h. absurd (omega arith); worked = λ h. refl; emoji = refl; text = refl; tag = λ h. refl; words = λ h. refl; tags = λ h. refl }
 
   -- one step more, where the codepoints so far are not over
-  pub laying_step : (ss : List Step) (run : Run) (w w' : List ℕ) (s : Step) (r : Run) → Laying put ss run w → run.worked ≤ most_worked
-      → PutAt w w' run.worked (step_text put s) (step_tags put run.tag s) r.worked
-      → r.emoji ≡ (run.emoji || step_emoji s) → r.text ≡ (run.text || step_texts s) → r.tag ≡ step_tag put run.tag s
+  pub laying_step : (ss : List Step) (run : Run) (w w' : List ℕ) (s : Step) (r : Run) → Laying put ss run w → run.tally.worked ≤ most_worked
+      → PutAt w w' run.tally.worked (step_text put s) (step_tags put run.tag s) r.tally.worked
+      → r.tally.emoji ≡ (run.tally.emoji || step_emoji s) → r.tally.text ≡ (run.tally.text || step_texts s) → r.tag ≡ step_tag put run.tag s
       → Laying put (ss ++ s ∷ []) r w'
   laying_step ss run w w' s r l few p e x m =
-      let count : r.worked ≡ length (laid put (ss ++ s ∷ [])) =
+      let count : r.tally.worked ≡ length (laid put (ss ++ s ∷ [])) =
       rw (laid_snoc ss s, length-append (laid put ss) (step_text put s), ← l.worked few) p.end in
       record {
         over = λ h. omega arith;
@@ -92,8 +92,8 @@ module _ (put : Put) where
       }
 
   -- one step more, where they are
-  pub laying_over : (ss : List Step) (run : Run) (w w' : List ℕ) (s : Step) (r : Run) → Laying put ss run w → most_worked < run.worked
-      → r.worked ≡ run.worked → r.emoji ≡ (run.emoji || step_emoji s) → r.text ≡ (run.text || step_texts s)
+  pub laying_over : (ss : List Step) (run : Run) (w w' : List ℕ) (s : Step) (r : Run) → Laying put ss run w → most_worked < run.tally.worked
+      → r.tally.worked ≡ run.tally.worked → r.tally.emoji ≡ (run.tally.emoji || step_emoji s) → r.tally.text ≡ (run.tally.text || step_texts s)
       → Laying put (ss ++ s ∷ []) r w'
   laying_over ss run w w' s r l h n e x =
       let long : length (laid put (ss ++ s ∷ [])) ≡ length (laid put ss) + length (step_text put s) =
@@ -193,33 +193,33 @@ module _ (put : Put) (joins : Joins put) (ss : List Step) where
     one_more m =
         laying_alike put ((ss ++ scan.text a ∷ []) ++ scan.text (c ∷ []) ∷ []) (ss ++ scan.text (a ++ c ∷ []) ∷ []) r w' (join_alike a (c ∷ [])) m
 
-    pub laying_text : run.worked ≤ most_worked
-        → PutAt w w' run.worked (put (c ∷ [])) (run_tags run.tag 2 (length (put (c ∷ [])))) r.worked
-        → r.emoji ≡ run.emoji → r.text ≡ true → r.tag ≡ next_tag run.tag (length (put (c ∷ [])))
+    pub laying_text : run.tally.worked ≤ most_worked
+        → PutAt w w' run.tally.worked (put (c ∷ [])) (run_tags run.tag 2 (length (put (c ∷ [])))) r.tally.worked
+        → r.tally.emoji ≡ run.tally.emoji → r.tally.text ≡ true → r.tag ≡ next_tag run.tag (length (put (c ∷ [])))
         → Laying put (ss ++ scan.text (a ++ c ∷ []) ∷ []) r w'
     unfolding step_text step_tags step_tag
     laying_text few p e x m =
         one_more
-        (laying_step put (ss ++ scan.text a ∷ []) run w w' (scan.text (c ∷ [])) r l few p (e ∙ sym (or-false run.emoji)) (x ∙ sym (or-true run.text)) m)
+        (laying_step put (ss ++ scan.text a ∷ []) run w w' (scan.text (c ∷ [])) r l few p (e ∙ sym (or-false run.tally.emoji)) (x ∙ sym (or-true run.tally.text)) m)
 
-    pub laying_text_over : most_worked < run.worked → r.worked ≡ run.worked → r.emoji ≡ run.emoji → r.text ≡ true
+    pub laying_text_over : most_worked < run.tally.worked → r.tally.worked ≡ run.tally.worked → r.tally.emoji ≡ run.tally.emoji → r.tally.text ≡ true
         → Laying put (ss ++ scan.text (a ++ c ∷ []) ∷ []) r w'
     laying_text_over h n e x =
         one_more
-        (laying_over put (ss ++ scan.text a ∷ []) run w w' (scan.text (c ∷ [])) r l h n (e ∙ sym (or-false run.emoji)) (x ∙ sym (or-true run.text)))
+        (laying_over put (ss ++ scan.text a ∷ []) run w w' (scan.text (c ∷ [])) r l h n (e ∙ sym (or-false run.tally.emoji)) (x ∙ sym (or-true run.tally.text)))
 
 module _ (put : Put) (ss : List Step) where
-  module _ (run : Run) (w w' : List ℕ) (f : Found) (r : Run) (l : Laying put ss run w) (e : r.emoji ≡ true) (x : r.text ≡ run.text) where
-    pub laying_emoji : run.worked ≤ most_worked → PutAt w w' run.worked f.stripped (run_tags 0 0 (length f.stripped)) r.worked
+  module _ (run : Run) (w w' : List ℕ) (f : Found) (r : Run) (l : Laying put ss run w) (e : r.tally.emoji ≡ true) (x : r.tally.text ≡ run.tally.text) where
+    pub laying_emoji : run.tally.worked ≤ most_worked → PutAt w w' run.tally.worked f.stripped (run_tags 0 0 (length f.stripped)) r.tally.worked
         → r.tag ≡ 1 → Laying put (ss ++ scan.emoji f ∷ []) r w'
     unfolding step_text step_tags step_tag
     laying_emoji few p m =
         laying_step put ss run w w' (scan.emoji f) r l few (rw (emoji_tags (length f.stripped)) at p)
-        (e ∙ sym (or-true run.emoji)) (x ∙ sym (or-false run.text)) m
+        (e ∙ sym (or-true run.tally.emoji)) (x ∙ sym (or-false run.tally.text)) m
 
-    pub laying_emoji_over : most_worked < run.worked → r.worked ≡ run.worked → Laying put (ss ++ scan.emoji f ∷ []) r w'
+    pub laying_emoji_over : most_worked < run.tally.worked → r.tally.worked ≡ run.tally.worked → Laying put (ss ++ scan.emoji f ∷ []) r w'
     laying_emoji_over h n =
-        laying_over put ss run w w' (scan.emoji f) r l h n (e ∙ sym (or-true run.emoji)) (x ∙ sym (or-false run.text))
+        laying_over put ss run w w' (scan.emoji f) r l h n (e ∙ sym (or-true run.tally.emoji)) (x ∙ sym (or-false run.tally.text))
 
   ignored_alike : Alike put ss (ss ++ scan.ignored ∷ [])
   unfolding step_text step_tags step_tag

@@ -85,22 +85,22 @@ sequence_short ws s f = simp (length-take, length-drop) (omega (arith, f.short))
 
 -- a stripped sequence that is written into the work area is an emoji laid down
 module _ (ws w : List ℕ) (s : Span) (run : Run) where
-  pub emoji_put : (out w₂ : List ℕ) (end : ℕ) → least_work ≤ length w → run.worked ≤ most_worked
-      → Appended (take most_worked w) out run.worked (strip (within s ws)) end → TagsPut (out ++ drop most_worked w) w₂ run.worked end 0 0
-      → EmojiPut ws w w₂ s run (record { worked = end; emoji = true; text = run.text; tag = 1 })
+  pub emoji_put : (out w₂ : List ℕ) (end : ℕ) → least_work ≤ length w → run.tally.worked ≤ most_worked
+      → Appended (take most_worked w) out run.tally.worked (strip (within s ws)) end → TagsPut (out ++ drop most_worked w) w₂ run.tally.worked end 0 0
+      → EmojiPut ws w w₂ s run (record { tally = record { worked = end; emoji = true; text = run.tally.text }; tag = 1 })
   emoji_put out w₂ end big few a m =
-      let p = put_both w out run.worked end (strip (within s ws)) big a w₂ 0 0 m in
+      let p = put_both w out run.tally.worked end (strip (within s ws)) big a w₂ 0 0 m in
       record {
         same = p.same;
         grows = omega (arith, p.end);
         lays = λ put ss f e l.
-            laying_emoji put ss run w w₂ f (record { worked = end; emoji = true; text = run.text; tag = 1 }) l refl refl few (rw e p) refl;
+            laying_emoji put ss run w w₂ f (record { tally = record { worked = end; emoji = true; text = run.tally.text }; tag = 1 }) l refl refl few (rw e p) refl;
       }
 
-  pub emoji_over : most_worked < run.worked → EmojiPut ws w w s run (record { worked = run.worked; emoji = true; text = run.text; tag = 1 })
+  pub emoji_over : most_worked < run.tally.worked → EmojiPut ws w w s run (record { tally = record { worked = run.tally.worked; emoji = true; text = run.tally.text }; tag = 1 })
   emoji_over h =
       record {
         same = refl;
         grows = omega arith;
-        lays = λ put ss f e l. laying_emoji_over put ss run w w f (record { worked = run.worked; emoji = true; text = run.text; tag = 1 }) l refl refl h refl;
+        lays = λ put ss f e l. laying_emoji_over put ss run w w f (record { tally = record { worked = run.tally.worked; emoji = true; text = run.tally.text }; tag = 1 }) l refl refl h refl;
       }

@@ -28,28 +28,28 @@ next-none m n h = rw h
 
 -- a codepoint's decomposition that is written into the work area is text laid down
 module _ (t : Table) (c : ℕ) (w : List ℕ) (run : Run) where
-  pub decomposed-behind : (out : List ℕ) (end : ℕ) → Decomposed t c (take most_worked w) out run.worked end → run.worked ≤ end
+  pub decomposed-behind : (out : List ℕ) (end : ℕ) → Decomposed t c (take most_worked w) out run.tally.worked end → run.tally.worked ≤ end
   decomposed-behind out end d = omega (arith, d.written.end)
 
-  pub text_put : (out w₂ : List ℕ) (end tag : ℕ) → least_work ≤ length w → run.worked ≤ most_worked
-      → Decomposed t c (take most_worked w) out run.worked end → TagsPut (out ++ drop most_worked w) w₂ run.worked end run.tag 2
-      → tag ≡ next_tag run.tag (end - run.worked)
-      → TextPut t w w₂ c run (record { worked = end; emoji = run.emoji; text = true; tag = tag })
+  pub text_put : (out w₂ : List ℕ) (end tag : ℕ) → least_work ≤ length w → run.tally.worked ≤ most_worked
+      → Decomposed t c (take most_worked w) out run.tally.worked end → TagsPut (out ++ drop most_worked w) w₂ run.tally.worked end run.tag 2
+      → tag ≡ next_tag run.tag (end - run.tally.worked)
+      → TextPut t w w₂ c run (record { tally = record { worked = end; emoji = run.tally.emoji; text = true }; tag = tag })
   text_put out w₂ end tag big few d m n =
       let s : List ℕ = four_rounds t (c ∷ []) in
-      let p = put_both w out run.worked end s big d.written w₂ run.tag 2 m in
-      let e : end - run.worked ≡ length s = omega (arith, d.written.end) in
+      let p = put_both w out run.tally.worked end s big d.written w₂ run.tag 2 m in
+      let e : end - run.tally.worked ≡ length s = omega (arith, d.written.end) in
       record {
         same = p.same;
         lays = λ ss a l.
-            laying_text (four_rounds t) (four_joins t) ss a run w w₂ c (record { worked = end; emoji = run.emoji; text = true; tag = tag }) l few p refl refl (rw e at n);
+            laying_text (four_rounds t) (four_joins t) ss a run w w₂ c (record { tally = record { worked = end; emoji = run.tally.emoji; text = true }; tag = tag }) l few p refl refl (rw e at n);
       }
 
-  pub text_over : most_worked < run.worked → TextPut t w w c run (record { worked = run.worked; emoji = run.emoji; text = true; tag = run.tag })
+  pub text_over : most_worked < run.tally.worked → TextPut t w w c run (record { tally = record { worked = run.tally.worked; emoji = run.tally.emoji; text = true }; tag = run.tag })
   text_over h =
       record {
         same = refl;
-        lays = λ ss a l. laying_text_over (four_rounds t) (four_joins t) ss a run w w c (record { worked = run.worked; emoji = run.emoji; text = true; tag = run.tag }) l h refl refl refl;
+        lays = λ ss a l. laying_text_over (four_rounds t) (four_joins t) ss a run w w c (record { tally = record { worked = run.tally.worked; emoji = run.tally.emoji; text = true }; tag = run.tag }) l h refl refl refl;
       }
 
 -- the first i items are laid down

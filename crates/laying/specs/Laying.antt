@@ -79,13 +79,13 @@ step_texts disallowed = false
 -- The steps are laid down so: their number of codepoints, or that they are over the limit; whether there are emoji and text; and, unless they
 -- are over, the tag of the next codepoint of text, the codepoints and the tags.
 pub record Laying (put : Put) (ss : List Step) (run : Run) (w : List ℕ) : Type 0 where
-  pub over : most_worked < run.worked → most_worked < length (laid put ss)
-  pub worked : run.worked ≤ most_worked → run.worked ≡ length (laid put ss)
-  pub emoji : run.emoji ≡ any step_emoji ss
-  pub text : run.text ≡ any step_texts ss
-  pub tag : run.worked ≤ most_worked → run.tag ≡ tag_after put 1 ss
-  pub words : run.worked ≤ most_worked → take run.worked w ≡ laid put ss
-  pub tags : run.worked ≤ most_worked → take run.worked (drop most_worked w) ≡ tags_from put 1 ss
+  pub over : most_worked < run.tally.worked → most_worked < length (laid put ss)
+  pub worked : run.tally.worked ≤ most_worked → run.tally.worked ≡ length (laid put ss)
+  pub emoji : run.tally.emoji ≡ any step_emoji ss
+  pub text : run.tally.text ≡ any step_texts ss
+  pub tag : run.tally.worked ≤ most_worked → run.tag ≡ tag_after put 1 ss
+  pub words : run.tally.worked ≤ most_worked → take run.tally.worked w ≡ laid put ss
+  pub tags : run.tally.worked ≤ most_worked → take run.tally.worked (drop most_worked w) ≡ tags_from put 1 ss
 
 -- s and its tags are put behind the first n codepoints, as long as there is room; r is the place behind them. Past the limit the words are
 -- open.
@@ -106,7 +106,7 @@ pub record TagsPut (w w' : List ℕ) (from to first later : ℕ) : Type 0 where
 -- an emoji is laid down; words beyond the cells are open here and below
 pub record EmojiPut (ws w w' : List ℕ) (s : Span) (run r : Run) : Type 0 where
   pub same : length w' ≡ length w
-  pub grows : run.worked ≤ r.worked
+  pub grows : run.tally.worked ≤ r.tally.worked
   pub lays : (put : Put) (ss : List Step) (f : Found) → f.stripped ≡ strip (within s ws) → Laying put ss run w → Laying put (ss ++ emoji f ∷ []) r w'
 
 -- one codepoint of text more is laid down, decomposed

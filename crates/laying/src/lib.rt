@@ -1,5 +1,5 @@
-// Laying tokens down in the work area: codepoints in its first MOST_WORKED words, tags beside them in the next MOST_WORKED. Each codepoint is
-// written to its place at once: what is copied stays on the stack.
+// Laying tokens down in the work area: codepoints in its first MOST_WORKED words, tags beside them in the next MOST_WORKED, since C lends the area
+// as one run of words. Each codepoint is written to its place at once: what is copied stays on the stack.
 #![tactic(auto)]
 
 ghost use Rattle.std.specs.Prelude.{◌≤◌, ◌-◌, ◌≡◌, length};
@@ -18,13 +18,19 @@ use limits::MOST_WORKED;
 use sections::Sections;
 use table::Span;
 
-// What is laid down so far: the number of codepoints, whether there are emoji and text, and the tag of the next codepoint of text. A number over
-// MOST_WORKED says that they are over, and not by how much: nothing is decomposed or laid down any more.
+// What tokens come to: their worked length, or a number over MOST_WORKED where it is over, and not by how much; and whether there are emoji and
+// text.
 #[derive(Clone, Copy)]
-pub struct Run {
+pub struct Tally {
     pub worked: usize,
     pub emoji: bool,
     pub text: bool,
+}
+
+// What is laid down so far, and the tag of the next codepoint of text. Past the limit nothing is decomposed or laid down any more.
+#[derive(Clone, Copy)]
+pub struct Run {
+    pub tally: Tally,
     pub tag: u32,
 }
 
@@ -63,21 +69,24 @@ pub fn put_emoji(words: &[u32], w: &mut [u32], run: Run, sequence: Span) -> Run
     requires { (least_work ≤ length w.old) × SequenceFits words.now sequence }
     ensures { EmojiPut words.now w.old w.new sequence run result }
 {
-    let n = run.worked;
+    let n = run.tally.worked;
     if MOST_WORKED < n {
         return Run {
-            worked: n,
-            emoji: true,
-            text: run.text,
+            tally: Tally {
+                emoji: true,
+                ..run.tally
+            },
             tag: 1,
         };
     }
     let end = strip_into(sequence.of(words), &mut w[..MOST_WORKED], n);
     put_tags(w, n, end, 0, 0);
     Run {
-        worked: end,
-        emoji: true,
-        text: run.text,
+        tally: Tally {
+            worked: end,
+            emoji: true,
+            ..run.tally
+        },
         tag: 1,
     }
 }
@@ -99,27 +108,31 @@ pub fn put_text(words: &[u32], ix: Sections, w: &mut [u32], run: Run, c: u32) ->
     requires least_work_in_bounds { least_work ≤ length w.old }
     ensures { TextPut (the_table words.now) w.old w.new c run result }
 {
-    let at = run.worked;
+    let at = run.tally.worked;
     if MOST_WORKED < at {
         return Run {
-            worked: at,
-            emoji: run.emoji,
-            text: true,
-            tag: run.tag,
+            tally: Tally {
+                text: true,
+                ..run.tally
+            },
+            ..run
         };
     }
     let end = append_decomposed(words, ix, &mut w[..MOST_WORKED], at, c);
     put_tags(w, at, end, run.tag, 2);
     let tag = next_tag(run.tag, at, end);
     Run {
-        worked: end,
-        emoji: run.emoji,
-        text: true,
+        tally: Tally {
+            worked: end,
+            text: true,
+            ..run.tally
+        },
         tag,
     }
 }
 
-// Lays the items of a mapping down, decomposed.
+// Lays the items of a mapping down, decomposed. `keep_items` of kept_scan has this loop over another state: a function that took the step would
+// need the step's promise in its own contract, and be longer than both.
 pub fn put_items(words: &[u32], ix: Sections, w: &mut [u32], run: Run, items: Span) -> Run
     requires laid { Laid words.now ix }
     requires least_work_in_bounds { (least_work ≤ length w.old) × ItemsThere words.now items }

@@ -1,3 +1,4 @@
 pub mod Admitting
 pub mod Parting
 pub mod Answering
+pub mod Splitting

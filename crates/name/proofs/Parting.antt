@@ -20,39 +20,6 @@ use Rattle.name.specs.Label.{stop}
 use Rattle.name.specs.Name.{labels_of}
 use Rattle.name.specs.Parts.{label_at, no_stop, LabelEnds, parts_from, between, Put}
 
--- one more word without a stop
-none_more : (s : List ℕ) (c : ℕ) → no_stop s ≡ true → (c ≡ stop → ⊥) → no_stop (s ++ c ∷ []) ≡ true
-none_more [] c e h = rw (ne_eqb c stop h)
-none_more (x ∷ s) c e h =
-    both (not (eqb x stop)) (no_stop (s ++ c ∷ [])) (both_left (not (eqb x stop)) (no_stop s) e)
-    (none_more s c (both_right (not (eqb x stop)) (no_stop s) e) h)
-
--- no stop stands from `at` up to i
-pub record Seeking (name : List ℕ) (at i : ℕ) : Type 0 where
-  pub from : at ≤ i
-  pub to : i ≤ length name
-  pub none : no_stop (label_at name at i) ≡ true
-
-module _ (name : List ℕ) (at : ℕ) where
-  pub seek_start : at ≤ length name → Seeking name at at
-  seek_start h = let e : at - at ≡ 0 = omega arith in record { from = omega arith; to = h; none = rw e }
-
-  module _ (i : ℕ) (l : Seeking name at i) where
-    pub seek_hit : i < length name → get_or name i 0 ≡ stop → LabelEnds name at i
-    seek_hit h e = record { from = l.from; to = l.to; none = l.none; stands = λ k. e }
-
-    pub seek_end : length name ≤ i → LabelEnds name at i
-    seek_end h = record { from = l.from; to = l.to; none = l.none; stands = λ k. absurd (omega arith) }
-
-    pub seek_more : i < length name → (get_or name i 0 ≡ stop → ⊥) → Seeking name at (i + 1)
-    seek_more h e =
-        let size : i + 1 - at ≡ suc (i - at) = omega (arith, l.from) in
-        let sum : at + (i - at) ≡ i = omega (arith, l.from) in
-        let room : i - at < length (drop at name) = rw length-drop (omega (arith, l.from)) in
-        let here : get_or (drop at name) (i - at) 0 ≡ get_or name i 0 = rw (get_or-drop, sum) in
-        let longer : label_at name at (i + 1) ≡ label_at name at i ++ get_or name i 0 ∷ [] = rw (size, take-suc (drop at name) (i - at) 0 room, here) in
-        record { from = omega (arith, l.from); to = omega arith; none = rw longer (none_more (label_at name at i) (get_or name i 0) l.none e) }
-
 -- words without a stop are one part
 split_last : (s : List ℕ) → no_stop s ≡ true → split stop s ≡ s ∷ []
 unfolding split

@@ -8,12 +8,10 @@ pub fn label_end(input: &[u32], at: usize) -> usize
     requires { at ≤ length input.now }
     ensures { LabelEnds input.now at result }
 {
-    for i in at..input.len() {
-        if input[i] == 0x2E {
-            return i;
-        }
+    match input[at..].iter().position(|&c| c == 0x2E) {
+        Some(n) => at + n,
+        None => input.len(),
     }
-    input.len()
 }
 
 // Writes a label into the part of the answer behind the last stop, if it fits: `at` words stand before it, and a stop goes between unless it

@@ -9,11 +9,11 @@ ghost use Rattle.memo.specs.Memo.{Memo};
 ghost use Rattle.name.specs.Name.{labels_of, labels_verdict, name_before15};
 ghost use Rattle.name.specs.Calls.{NameCalls, NameJudged};
 
-use answers::{AcceptedName, Refusal, is_barred, name_length};
+use answers::{AcceptedName, Refusal, name_length};
 use ending::finish;
 use memo::MEMO;
 use name::admit::admit;
-use name::labels::{label_end, put_label};
+use name::labels::put_label;
 use one_label::judge_label;
 use quick_asked::ask;
 use sections::Sections;
@@ -35,6 +35,12 @@ fn judge_labels(
     requires memo { Memo words.now memo.old }
     ensures { NameJudged name.now (labels_verdict setting (the_table words.now) 0 0 0 (labels_of name.now)) answer.old answer.new w.old w.new result }
 {
+    if name.len() == 0 {
+        return Ok(AcceptedName {
+            length: 0,
+            labels: 0,
+        });
+    }
     let mut unpaired = [0u32; KNOWN_WORDS];
     index_pairs(words, ix, &mut unpaired);
     ask(words, ix, &mut unpaired, name.len());
@@ -42,30 +48,15 @@ fn judge_labels(
     let mut done = 0;
     let mut place = 0;
     let mut len = 0;
-    if name.len() == 0 {
-        at = 1;
-    }
-    // by hand: the step is the label's own length
-    while at <= name.len() {
-        let end = label_end(name, at);
-        let judged = judge_label(
-            words,
-            ix,
-            &name[at..end],
-            at,
-            done,
-            place,
-            &mut unpaired,
-            w,
-            memo,
-        )?;
-        if is_barred(setting, judged.kind) {
+    for label in name.split(|&c| c == 0x2E) {
+        let judged = judge_label(words, ix, label, at, done, place, &mut unpaired, w, memo)?;
+        if judged.kind.is_barred(setting) {
             return Err(Refusal::Restricted(place));
         }
         len = put_label(answer, len, place == 0, &w[..judged.length]);
         done += judged.worked + 1;
         place += 1;
-        at = end + 1;
+        at += label.len() + 1;
     }
     Ok(AcceptedName {
         length: len,
@@ -73,7 +64,8 @@ fn judge_labels(
     })
 }
 
-// Judges a name as far as 14 and 17.
+// Judges a name as far as 14 and 17. The label call and the screen form begin so too: what they share is `admit`, and what follows it takes other
+// arguments and has another promise in each.
 pub fn judge_name(
     setting: u32,
     words: &[u32],
@@ -89,7 +81,8 @@ pub fn judge_name(
 }
 
 // Normalises a name into `answer`, and answers its length and the number of its labels. The words behind the answer and the work area
-// are cleared; a refusal clears both buffers. 15 is judged last. With a setting other than 0, labels of restricted groups are refused.
+// are cleared; a refusal clears both buffers. 15 is judged last. With a setting other than 0, labels of restricted groups are refused. The label
+// call and the screen form end so too, each over its own answer: `finish` is what they share.
 pub fn name(
     input: &[u32],
     words: &[u32],

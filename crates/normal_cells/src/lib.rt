@@ -1,4 +1,5 @@
-// The tokens in the work area, decomposed, are put into normal form: each text is ordered and composed, and what follows moves down.
+// The tokens in the work area, decomposed, are put into normal form: each text is ordered and composed, and what follows moves down. Codepoints
+// and tags stand in two parts of the area, since C lends it as one run of words.
 #![tactic(auto)]
 
 ghost use Rattle.std.specs.Prelude.{◌≤◌, ◌<◌, ◌+◌, ◌≡◌, length, take, drop};
@@ -28,7 +29,7 @@ fn move_down(w: &mut [u32], from: usize, n: usize, at: usize, first: u32, later:
 }
 
 // Puts the normal form of the text from `from` up to `to` behind the first `at` codepoints. The text is ordered and composed where it stands:
-// a copy of it would stay on the stack.
+// a copy of it would stay on the stack. So the classes have an array of their own, and pairs with the codepoints would be that copy.
 fn keep_text(
     words: &[u32],
     ix: Sections,

@@ -1,4 +1,5 @@
-// NFD and NFC of a text, by a table. specs/Forms.antt states what they answer.
+// NFD and NFC of a text, by a table. specs/Forms.antt states what they answer. Both have four lines at the front and four at the end in common: a
+// function that took what stands between as a closure would need its promise as a clause, and be longer.
 #![tactic(auto)]
 
 ghost use Rattle.std.specs.Prelude.{◌≡◌, length};

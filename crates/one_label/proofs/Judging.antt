@@ -1,6 +1,6 @@
 -- One label: where its refusal 5 stands, and what is judged of its tokens.
 use Rattle.one_label.specs.declared.JudgedLabel.{JudgedLabel}
-use Rattle.std.specs.Prelude.{Result, Ok, Err}
+use Rattle.std.specs.Prelude.{Result, Ok, Err, Option as Answer, Some, None}
 use Prim.Native.Nat.{ℕ, zero, suc, pred, ◌+◌, ◌-◌, ◌<◌, ◌≤◌}
 use native.Mathlib.Omega.{arith}
 use mathlib.Core.Path.{◌≡◌, refl, sym, ap, ◌∙◌}
@@ -24,9 +24,7 @@ use Rattle.tokens.specs.Tokens.{Token, is_emoji, tokens_of, worked, normal}
 use Rattle.tokens.specs.Cells.{Cells}
 use Rattle.normal_cells.specs.Normal.{NormalCells}
 use Rattle.scanning.specs.Scanning.{ScanIs, Scans}
-use Rattle.scanning.specs.declared.Tally.{Tally}
-use Rattle.scanning.specs.declared.Scanned.{Scanned}
-use Rattle.scanning.specs.declared.Scanned.TheVariants as scanned
+use Rattle.laying.specs.declared.Tally.{Tally}
 use Rattle.spelling.specs.CellTags.{codes_in, tags_in}
 use Rattle.label.specs.Judging.{verdict_of, judge_at, CellsJudged}
 use Rattle.label.specs.Judge.{judge}
@@ -34,10 +32,7 @@ use Rattle.label.proofs.VerdictLaws.{Parted, any_text, judge-cells}
 use Rattle.label.proofs.PartedLaws.{tokens_parted, emoji-kept, text-kept, normal_parted}
 use Rattle.unpaired.specs.Unpaired.{QuickHolds}
 use Rattle.kept_scan.specs.declared.Kept.{Kept}
-use Rattle.kept_scan.specs.declared.Kept.TheVariants as kept
 use Rattle.kept_scan.specs.Keeping.{KeptIs, KeptScans}
-use Rattle.one_label.specs.declared.Standing.{Standing}
-use Rattle.one_label.specs.declared.Standing.TheVariants.{Decomposed, Normal}
 use Rattle.name.specs.Label.{judged, label_verdict}
 use Rattle.one_label.specs.Judged.{StandingFits, Normalised, Counted, Judges, TokensJudged, QuickTokens, QuickIs, QuickScans}
 
@@ -86,36 +81,36 @@ module _ (t : Table) (start done place : ℕ) (l : List ℕ) where
   unfolding label_verdict
   label_tokens e = rw (moved, e)
 
-  module _ (w w' : List ℕ) (r : Scanned) (s : Scans t l w w' r) where
-    pub scan_inside : (i : ℕ) → r ≡ scanned.Disallowed i → i < length l
+  module _ (w w' : List ℕ) (r : Result Tally ℕ) (s : Scans t l w w' r) where
+    pub scan_inside : (i : ℕ) → r ≡ Err i → i < length l
     unfolding steps
     scan_inside i e =
-        let is : ScanIs t l w' (scanned.Disallowed i) = rw e at s.is in
+        let is : ScanIs t l w' (Err i) = rw e at s.is in
         omega (arith, disallowed_inside t 0 0 0 l i refl is)
 
-    pub scan_refused : (i : ℕ) → r ≡ scanned.Disallowed i → Judges t start done place l w w' (Err (Disallowed (start + i)))
+    pub scan_refused : (i : ℕ) → r ≡ Err i → Judges t start done place l w w' (Err (Disallowed (start + i)))
     scan_refused i e =
-        let is : ScanIs t l w' (scanned.Disallowed i) = rw e at s.is in
+        let is : ScanIs t l w' (Err i) = rw e at s.is in
         record { same = s.same; is = label_disallowed i is }
 
-    pub scan_judged : (k : Tally) → r ≡ scanned.Tokens k → (w'' : List ℕ) (a : Result JudgedLabel Refusal) → TokensJudged t done place k Decomposed w' w'' a → Judges t start done place l w w'' a
+    pub scan_judged : (k : Tally) → r ≡ Ok k → (w'' : List ℕ) (a : Result JudgedLabel Refusal) → TokensJudged t done place k None w' w'' a → Judges t start done place l w w'' a
     scan_judged k e w'' a j =
-        let is : ScanIs t l w' (scanned.Tokens k) = rw e at s.is in
+        let is : ScanIs t l w' (Ok k) = rw e at s.is in
         let c = is.1 in
-        let counted : Counted t (tokens_of (steps t l)) w' k Decomposed = record { over = c.over; worked = c.worked; emoji = c.emoji; text = c.text; cells = c.cells } in
+        let counted : Counted t (tokens_of (steps t l)) w' k None = record { over = c.over; worked = c.worked; emoji = c.emoji; text = c.text; cells = c.cells } in
         record {
           same = j.same ∙ s.same;
           is = rw (label_tokens is.0) (j.is (tokens_of (steps t l)) (tokens_parted (steps t l)) counted);
         }
 
   -- the scan that leaves text as it is
-  module _ (w w' : List ℕ) (r : Kept) where
+  module _ (w w' : List ℕ) (r : Answer Kept) where
     pub quick_scanned : QuickHolds t → KeptScans t l w w' r → QuickScans t l w w' r
     quick_scanned q s = record { same = s.same; is = go r s.is }
       where
-        go : (r : Kept) → KeptIs t l w' r → QuickIs t l w' r
-        go kept.No k = tt
-        go (kept.Tokens n k) a =
+        go : (r : Answer Kept) → KeptIs t l w' r → QuickIs t l w' r
+        go None k = tt
+        go (Some k) a =
             record {
               allowed = a.allowed;
               few = (a.cells q).few;
@@ -130,15 +125,15 @@ module _ (t : Table) (start done place : ℕ) (l : List ℕ) where
             }
 
     module _ (s : QuickScans t l w w' r) where
-      tokens_of_lem : (n : ℕ) (k : Tally) → r ≡ kept.Tokens n k → QuickTokens t l w' n k
-      tokens_of_lem n k e = rw e at s.is
+      tokens_of_lem : (k : Kept) → r ≡ Some k → QuickTokens t l w' k.count k.tally
+      tokens_of_lem k e = rw e at s.is
 
-      pub quick_fits : (n : ℕ) (k : Tally) → r ≡ kept.Tokens n k → n ≤ most_worked
-      quick_fits n k e = (tokens_of_lem n k e).few
+      pub quick_fits : (k : Kept) → r ≡ Some k → k.count ≤ most_worked
+      quick_fits k e = (tokens_of_lem k e).few
 
-      pub quick_judged : (n : ℕ) (k : Tally) → r ≡ kept.Tokens n k → (w'' : List ℕ) (a : Result JudgedLabel Refusal) → TokensJudged t done place k (Normal n) w' w'' a → Judges t start done place l w w'' a
-      quick_judged n k e w'' a j =
-          let q = tokens_of_lem n k e in
+      pub quick_judged : (k : Kept) → r ≡ Some k → (w'' : List ℕ) (a : Result JudgedLabel Refusal) → TokensJudged t done place k.tally (Some k.count) w' w'' a → Judges t start done place l w w'' a
+      quick_judged k e w'' a j =
+          let q = tokens_of_lem k e in
           record {
             same = j.same ∙ s.same;
             is = rw (label_tokens q.allowed) (j.is (tokens_of (steps t l)) (tokens_parted (steps t l)) q.counted);
@@ -148,11 +143,11 @@ module _ (t : Table) (start done place : ℕ) (l : List ℕ) where
       quick_left w'' a j = record { same = j.same ∙ s.same; is = j.is }
 
 -- the tokens in normal form, which they are or are put into
-module _ (t : Table) (s : Standing) (worked : ℕ) (w : List ℕ) where
-  pub normal_now : s ≡ Decomposed → worked ≤ most_worked → (w' : List ℕ) (r : ℕ) → NormalCells t w w' worked r → Normalised t s worked w w' r
+module _ (t : Table) (s : Answer ℕ) (worked : ℕ) (w : List ℕ) where
+  pub normal_now : s ≡ None → worked ≤ most_worked → (w' : List ℕ) (r : ℕ) → NormalCells t w w' worked r → Normalised t s worked w w' r
   normal_now e few w' r m = record { same = m.same; few = omega (arith, m.few); cells = λ ts c. m.cells ts (rw e at c) }
 
-  pub normal_already : (n : ℕ) → s ≡ Normal n → StandingFits s → Normalised t s worked w w n
+  pub normal_already : (n : ℕ) → s ≡ Some n → StandingFits s → Normalised t s worked w w n
   normal_already n e f = record { same = refl; few = rw e at f; cells = λ ts c. rw e at c }
 
 -- whether there are tokens
@@ -165,7 +160,7 @@ some_tokens : (ts : List Token) → (any is_emoji ts ≡ true) ⊎ (any_text ts 
 some_tokens [] e = absurd (⊎_elim (λ x. false≢true x) (λ x. false≢true x) e)
 some_tokens (x ∷ ts) e = refl
 
-module _ (t : Table) (done place : ℕ) (k : Tally) (s : Standing) (w : List ℕ) where
+module _ (t : Table) (done place : ℕ) (k : Tally) (s : Answer ℕ) (w : List ℕ) where
   -- 6
   pub tokens_none : k.emoji ≡ false → k.text ≡ false → TokensJudged t done place k s w w (Err (NoTokens place))
   unfolding judged

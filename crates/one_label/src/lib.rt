@@ -13,13 +13,15 @@ use answers::{Kind, Refusal};
 use bit_sets::has;
 use kept_scan::{Kept, scan_kept};
 use label::judging::judge;
+use laying::Tally;
 use limits::MOST_WORKED;
 use normal_cells::normalise;
-use scanning::{Scanned, Tally, scan};
+use scanning::scan;
 use sections::Sections;
 use unpaired::QUICK_PLACE;
 
-// What is answered for a label that is not refused: the length of its answer, its kind and its worked length.
+// What is answered for a label that is not refused: the length of its answer, its kind and its worked length. Not an `AcceptedLabel` and a length:
+// the callers read each of the three by itself, and the label call's length is the one behind its own answer.
 #[derive(Clone, Copy)]
 pub struct JudgedLabel {
     pub length: usize,
@@ -27,18 +29,11 @@ pub struct JudgedLabel {
     pub worked: usize,
 }
 
-// How the tokens of a label stand in the work area: decomposed, or in normal form, so many codepoints.
-#[derive(Clone, Copy)]
-pub enum Standing {
-    Decomposed,
-    Normal(usize),
-}
-
-// Puts the tokens into normal form, unless they are, and answers how many codepoints they are.
+// Puts the tokens into normal form, unless they stand in it already, `standing` codepoints, and answers how many codepoints they are.
 fn normalised(
     words: &[u32],
     ix: Sections,
-    standing: Standing,
+    standing: Option<usize>,
     worked: usize,
     unpaired: &mut [u32],
     w: &mut [u32],
@@ -50,17 +45,17 @@ fn normalised(
     ensures unpaired_2 { Unpaired (the_table words.now) unpaired.new }
 {
     match standing {
-        Standing::Decomposed => normalise(words, ix, unpaired, w, worked),
-        Standing::Normal(n) => n,
+        Some(n) => n,
+        None => normalise(words, ix, unpaired, w, worked),
     }
 }
 
-// 6 to 14 and 16 on the tokens that a scan has laid down.
+// 6 to 14 and 16 on the tokens that a scan has laid down: decomposed, or in normal form, `standing` codepoints.
 fn judge_tokens(
     words: &[u32],
     ix: Sections,
     tally: Tally,
-    standing: Standing,
+    standing: Option<usize>,
     done: usize,
     place: usize,
     unpaired: &mut [u32],
@@ -117,30 +112,26 @@ fn judge_scanned(
 {
     let scanned = scan(words, ix, label, w);
     match scanned {
-        Scanned::Disallowed(i) => Err(Refusal::Disallowed(start + i)),
-        Scanned::Tokens(tally) => judge_tokens(
-            words,
-            ix,
-            tally,
-            Standing::Decomposed,
-            done,
-            place,
-            unpaired,
-            w,
-            memo,
-        ),
+        Ok(tally) => judge_tokens(words, ix, tally, None, done, place, unpaired, w, memo),
+        Err(i) => Err(Refusal::Disallowed(start + i)),
     }
 }
 
 // The scan that leaves text as it is, where rule 8 was found to hold.
-fn scan_quick(words: &[u32], ix: Sections, label: &[u32], unpaired: &[u32], w: &mut [u32]) -> Kept
+fn scan_quick(
+    words: &[u32],
+    ix: Sections,
+    label: &[u32],
+    unpaired: &[u32],
+    w: &mut [u32],
+) -> Option<Kept>
     requires laid { Laid words.now ix }
     requires unpaired { Unpaired (the_table words.now) unpaired.now }
     requires least_work_in_bounds { (least_work ≤ length w.old) × (length label.now ≤ most_input) }
     ensures { QuickScans (the_table words.now) label.now w.old w.new result }
 {
     if !has(unpaired, QUICK_PLACE) {
-        return Kept::No;
+        return None;
     }
     scan_kept(words, ix, label, w)
 }
@@ -169,17 +160,17 @@ pub fn judge_label(
 {
     let kept = scan_quick(words, ix, label, unpaired, w);
     match kept {
-        Kept::Tokens { count, tally } => judge_tokens(
+        Some(found) => judge_tokens(
             words,
             ix,
-            tally,
-            Standing::Normal(count),
+            found.tally,
+            Some(found.count),
             done,
             place,
             unpaired,
             w,
             memo,
         ),
-        Kept::No => judge_scanned(words, ix, label, start, done, place, unpaired, w, memo),
+        None => judge_scanned(words, ix, label, start, done, place, unpaired, w, memo),
     }
 }

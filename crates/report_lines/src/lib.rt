@@ -1,4 +1,4 @@
-// One line of the report: the token's word, its place, and its codepoints.
+// One line of the report: the token's word, its place, and its codepoints. Not by `write!`: the contracts state each byte, also where the room ends.
 #![tactic(auto)]
 
 ghost use Rattle.std.specs.Prelude.{◌≡◌};

@@ -10,8 +10,11 @@ use mathlib.Core.Bool.{true}
 use Rattle.lists.specs.Lists.{is_some}
 use Rattle.lists.specs.Laws.{Every}
 use Rattle.table.specs.Table.{Table}
-use Rattle.places.specs.Places.{Placed}
+use Rattle.std.specs.Option as answer
+use Rattle.tokens.specs.Tokens.{is_emoji}
+use Rattle.places.specs.Places.{Source, emoji, text, token_of, Placed}
 use Rattle.places.specs.Parts.{at, IsFirst}
+use Rattle.token_extent.specs.Ends.{record_of}
 use Rattle.token_walk.specs.declared.Walked.{Walked}
 use Rattle.token_walk.specs.Walk.{Walkable, Walks}
 use Rattle.token_walk.proofs.Nexting.{walkable_next}
@@ -57,21 +60,25 @@ module _ (t : Table) (label : List ℕ) (start : ℕ) (before : List ℕ) (s : S
     reporting_short m h = rw (whole, length-drop) (omega arith)
 
     module _ (h : i < length label) (w w' : List ℕ) (x : Walked) (k : Walks t lent w w' x) where
-      first : IsFirst t (drop i label) k.source x.taken
+      first : IsFirst t (drop i label) k.source x.extent.end
       first = rw whole at k.is
 
-      pub reporting_place : (1 ≤ x.taken) × (i + x.taken ≤ length label)
+      pub reporting_place : (1 ≤ x.extent.end) × (i + x.extent.end ≤ length label)
       reporting_place = (first.some-taken, omega (arith, first.inside, length-drop i label))
 
-      own_line : line_of t x.emoji (start + i) (start + i + x.taken) (take x.length w') ≡ line t (at k.source (start + i) x.taken)
+      emoji_shown : (y : Source) → answer.is_some (record_of y) ≡ is_emoji (token_of y)
+      emoji_shown (emoji f) = refl
+      emoji_shown (text s) = refl
+
+      own_line : line_of t (answer.is_some x.extent.emoji) (start + i) (start + i + x.extent.end) (take x.length w') ≡ line t (at k.source (start + i) x.extent.end)
       unfolding line
-      own_line = rw (k.emoji, k.words)
+      own_line = rw (k.emoji, emoji_shown k.source, k.words)
 
       pub reporting_more : (after : List ℕ) (q : Sink)
-          → Adds now after (line_of t x.emoji (start + i) (start + i + x.taken) (take x.length w')) r q
-          → Reporting t label start before after s q (i + x.taken)
+          → Adds now after (line_of t (answer.is_some x.extent.emoji) (start + i) (start + i + x.extent.end) (take x.length w')) r q
+          → Reporting t label start before after s q (i + x.extent.end)
       reporting_more after q a =
-          let n : ℕ = x.taken in
+          let n : ℕ = x.extent.end in
           let y : Placed = at k.source (start + i) n in
           let sum : start + (i + n) ≡ start + i + n = omega arith in
           let behind : drop n (drop i label) ≡ drop (i + n) label = drop-drop n i label in

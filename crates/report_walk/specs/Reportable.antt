@@ -1,5 +1,5 @@
 -- What the writer of the report asks.
-use Rattle.std.specs.Prelude.{ℕ, ◌≤◌, ◌≡◌, true, false, List, length}
+use Rattle.std.specs.Prelude.{ℕ, ◌≤◌, ◌≡◌, true, List, length, Some}
 use Rattle.lists.specs.Lists.{is_some}
 use Rattle.lists.specs.Laws.{Every}
 use Rattle.limits.specs.Limits.{most_input, least_work}
@@ -10,7 +10,7 @@ use Rattle.token_walk.specs.Walk.{Walkable}
 
 -- nothing is written yet
 abbrev pub nothing : Sink
-nothing = record { at = 0; full = false }
+nothing = record { at = Some 0 }
 
 -- what the writer asks: a table, room to work, and labels that 5, 6 and 7 let pass, at least one
 pub record Reportable (words name : List ℕ) (work : ℕ) : Type 0 where

@@ -15,7 +15,6 @@ ghost use Rattle.report_walk.specs.Reportable.{nothing, Reportable};
 
 use byte_sink::Sink;
 use layout::layout;
-use name::labels::label_end;
 use report_lines::put_line;
 use sections::Sections;
 use token_walk::next_token;
@@ -42,19 +41,18 @@ fn report_label(
 {
     let mut r = sink;
     let mut i = 0;
-    // by hand: a token's length is its own, and the place goes on by it
+    // by hand: a token's length is its own, and the place goes on by it; an iterator would hold the work area, which `put_line` reads
     while i < label.len() {
         let token = next_token(words, ix, &label[i..], unpaired, w);
         let from = start + i;
-        let taken = token.taken;
-        let length = token.length;
+        let taken = token.extent.end;
         r = put_line(
             words,
             ix,
-            token.emoji,
+            token.extent.emoji.is_some(),
             from,
             from + taken,
-            &w[..length],
+            &w[..token.length],
             out,
             r,
         );
@@ -72,13 +70,11 @@ fn report_labels(words: &[u32], ix: Sections, name: &[u32], out: &mut [u8], w: &
 {
     let mut unpaired = [0u32; KNOWN_WORDS];
     index_pairs(words, ix, &mut unpaired);
-    let mut sink = Sink { at: 0, full: false };
+    let mut sink = Sink { at: Some(0) };
     let mut at = 0;
-    // by hand: a label's length is its own, and the place goes on behind its stop
-    while at <= name.len() {
-        let end = label_end(name, at);
-        sink = report_label(words, ix, &name[at..end], at, &mut unpaired, out, w, sink);
-        at = end + 1;
+    for label in name.split(|&c| c == 0x2E) {
+        sink = report_label(words, ix, label, at, &mut unpaired, out, w, sink);
+        at += label.len() + 1;
     }
     sink
 }
@@ -90,6 +86,6 @@ pub fn write_report(words: &[u32], name: &[u32], out: &mut [u8], w: &mut [u32]) 
 {
     match layout(words) {
         Some(ix) => report_labels(words, ix, name, out, w),
-        None => Sink { at: 0, full: true },
+        None => Sink { at: None },
     }
 }

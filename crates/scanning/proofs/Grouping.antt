@@ -87,8 +87,8 @@ module _ (put : Put) (joins : Joins put) where
   tokens_tags ss = sym (tags_with_lem (tokens_by put (tokens_of ss))) ∙ tokens_with 1 ss
 
   -- where all steps are laid down, the tokens stand in the work area, with what is put for each text
-  pub laying_cells : (ss : List Step) (run : Run) (w : List ℕ) → Laying put ss run w → run.worked ≤ most_worked
-      → Cells (tokens_by put (tokens_of ss)) w run.worked
+  pub laying_cells : (ss : List Step) (run : Run) (w : List ℕ) → Laying put ss run w → run.tally.worked ≤ most_worked
+      → Cells (tokens_by put (tokens_of ss)) w run.tally.worked
   laying_cells ss run w l h =
       record {
         count = l.worked h ∙ ap length (sym (tokens_joined ss));

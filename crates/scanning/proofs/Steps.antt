@@ -11,14 +11,13 @@ use Rattle.table.specs.Table.{Table}
 use Rattle.table.specs.Spans.{within}
 use Rattle.text.specs.Decomposition.{four_rounds}
 use Rattle.laying.specs.declared.Run.{Run}
-use Rattle.std.specs.Prelude.{Option as Answer, Some, None}
+use Rattle.std.specs.Prelude.{Option as Answer, Some, None, Result, Ok, Err, ok_or}
 use Rattle.finder.specs.declared.emoji.Match.{Match}
 use Rattle.tokens.specs.declared.single.Single as single
 use Rattle.tokens.specs.declared.single.Single.{Single}
 use Rattle.scanning.specs.declared.Which as which
 use Rattle.scanning.specs.declared.Which.{Which}
 use Rattle.scanning.specs.declared.Stepped.{Stepped}
-use Rattle.scanning.specs.declared.Scanned as scanned
 use Rattle.finder.specs.Emoji.{Found, strip, find}
 use Rattle.finder.specs.Match.{SequenceFits, FoundBy}
 use Rattle.tokens.specs.Scan.{Step, emoji, text, ignored, disallowed, codepoint_step, steps}
@@ -125,7 +124,7 @@ pub record Scanning (t : Table) (l w₀ w : List ℕ) (run : Run) (at : ℕ) : T
   pub lays : Laying (four_rounds t) done run w
 
 module _ (t : Table) (l w₀ : List ℕ) where
-  pub scan_start : Scanning t l w₀ w₀ (record { worked = 0; emoji = false; text = false; tag = 1 }) 0
+  pub scan_start : Scanning t l w₀ w₀ (record { tally = record { worked = 0; emoji = false; text = false }; tag = 1 }) 0
   scan_start = record { done = []; walked = walked_start t l; same = refl; lays = laying_start (four_rounds t) w₀ }
 
   module _ (w : List ℕ) (run : Run) (at : ℕ) (p : Scanning t l w₀ w run at) (h : at < length l) where
@@ -161,13 +160,25 @@ module _ (t : Table) (l w₀ : List ℕ) where
         }
 
     pub scan_disallowed : (w' : List ℕ) (x : Answer Stepped) → StepPut t (first_step t lent) w w' run x → x ≡ None
-        → Scans t l w₀ w' (scanned.TheVariants.Disallowed at)
+        → Scans t l w₀ w' (Err at)
     scan_disallowed w' x p' x-is =
         let q : StepPut t here w w' run None = rw (rest_is l at, x-is) at p' in
         record { same = q.same ∙ p.same; is = walked_disallowed t l at h p.done p.walked q.went }
 
+    -- the place is handed on as the refusal
+    pub scan_refused : (w' : List ℕ) (x : Answer Stepped) → StepPut t (first_step t lent) w w' run x → (y : Result Stepped ℕ) → y ≡ ok_or x at
+        → (e : ℕ) → y ≡ Err e → Scans t l w₀ w' (Err e)
+    scan_refused w' None q y f e g =
+        let same : ◌≡◌ {A = Result Stepped ℕ} (Err at) (Err e) = sym f ∙ g in
+        let place : at ≡ e = cc in
+        rw (← place) (scan_disallowed w' None q refl)
+    scan_refused w' (Some r) q y f e g =
+        let other : ◌≡◌ {A = Result Stepped ℕ} (Ok r) (Err e) = sym f ∙ g in
+        let z : ◌≡◌ {A = ℕ} 0 1 = cc in
+        absurd (omega arith)
+
   pub scan_stop : (w : List ℕ) (run : Run) (at : ℕ) → Scanning t l w₀ w run at → length l ≤ at
-      → Scans t l w₀ w (scanned.TheVariants.Tokens (record { worked = run.worked; emoji = run.emoji; text = run.text }))
+      → Scans t l w₀ w (Ok run.tally)
   scan_stop w run at p h =
       let all = walked_stop t l p.done at p.walked h in
       let s : List Step = steps t l in

@@ -1,16 +1,14 @@
 -- What the steps of the scan answer, and the scan itself.
-use Rattle.std.specs.Prelude.{ℕ, ◌≤◌, ◌<◌, ◌≡◌, not, List, [], ◌∷◌, ◌++◌, length, Option as Answer, Some, None}
+use Rattle.std.specs.Prelude.{ℕ, ◌≤◌, ◌<◌, ◌≡◌, not, List, [], ◌∷◌, ◌++◌, length, Option as Answer, Some, None, Result, Ok, Err}
 use Rattle.std.proofs.Math.Option.{Option, none, some}
 use Rattle.lists.specs.Lists.{any}
 use Rattle.table.specs.Table.{Table}
 use Rattle.text.specs.Decomposition.{four_rounds}
 use Rattle.laying.specs.declared.Run.{Run}
-use Rattle.scanning.specs.declared.Tally.{Tally}
+use Rattle.laying.specs.declared.Tally.{Tally}
 use Rattle.scanning.specs.declared.Which as which
 use Rattle.scanning.specs.declared.Which.{Which}
 use Rattle.scanning.specs.declared.Stepped.{Stepped}
-use Rattle.scanning.specs.declared.Scanned as scanned
-use Rattle.scanning.specs.declared.Scanned.{Scanned}
 use Rattle.tokens.specs.Scan.{Step, emoji, text, ignored, disallowed, width, step_at, steps, first_disallowed}
 use Rattle.tokens.specs.Tokens.{Token, is_emoji, tokens_of, worked}
 use Rattle.limits.specs.Limits.{most_worked}
@@ -65,11 +63,11 @@ pub record Tallied (t : Table) (ts : List Token) (w : List ℕ) (k : Tally) : Ty
   pub cells : k.worked ≤ most_worked → Cells (decomposed t ts) w k.worked
 
 -- "disallowed codepoint" with its place, or else the tokens
-abbrev pub ScanIs : Table → List ℕ → List ℕ → Scanned → Type 0
-ScanIs t l w (scanned.TheVariants.Disallowed i) = first_disallowed 0 (steps t l) ≡ some i
-ScanIs t l w (scanned.TheVariants.Tokens k) = (first_disallowed 0 (steps t l) ≡ none) × Tallied t (tokens_of (steps t l)) w k
+abbrev pub ScanIs : Table → List ℕ → List ℕ → Result Tally ℕ → Type 0
+ScanIs t l w (Err i) = first_disallowed 0 (steps t l) ≡ some i
+ScanIs t l w (Ok k) = (first_disallowed 0 (steps t l) ≡ none) × Tallied t (tokens_of (steps t l)) w k
 
 -- what the scan of the label l answers; words of the work area beyond the cells are open, and all of them after 5 or past the limit
-pub record Scans (t : Table) (l w w' : List ℕ) (r : Scanned) : Type 0 where
+pub record Scans (t : Table) (l w w' : List ℕ) (r : Result Tally ℕ) : Type 0 where
   pub same : length w' ≡ length w
   pub is : ScanIs t l w' r

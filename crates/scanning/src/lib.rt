@@ -9,7 +9,7 @@ ghost use Rattle.tokens.specs.Scan.{codepoint_step};
 ghost use Rattle.scanning.specs.Scanning.{StepPut, first_step, Scans};
 
 use finder::emoji::find;
-use laying::{Run, put_emoji, put_items, put_text};
+use laying::{Run, Tally, put_emoji, put_items, put_text};
 use sections::Sections;
 use tokens::single::{Single, alone};
 
@@ -26,21 +26,6 @@ pub struct Stepped {
     pub taken: usize,
     pub which: Which,
     pub run: Run,
-}
-
-// The tokens of a label: their worked length, or a number over MOST_WORKED where it is over, and whether there are emoji and text.
-#[derive(Clone, Copy)]
-pub struct Tally {
-    pub worked: usize,
-    pub emoji: bool,
-    pub text: bool,
-}
-
-// What the scan gives: the place of a disallowed codepoint, or the tokens.
-#[derive(Clone, Copy)]
-pub enum Scanned {
-    Disallowed(usize),
-    Tokens(Tally),
 }
 
 // Takes one codepoint that no emoji sequence takes, unless it is disallowed.
@@ -90,36 +75,27 @@ fn step(words: &[u32], ix: Sections, rest: &[u32], w: &mut [u32], run: Run) -> O
     }
 }
 
-// Scans a label. As long as the worked length is at most MOST_WORKED the tokens, their text decomposed, stand in the work area; past that 5 alone
-// is looked for.
-pub fn scan(words: &[u32], ix: Sections, label: &[u32], w: &mut [u32]) -> Scanned
+// Scans a label: the place of a disallowed codepoint, or the tally of its tokens. As long as the worked length is at most MOST_WORKED the tokens,
+// their text decomposed, stand in the work area; past that 5 alone is looked for.
+pub fn scan(words: &[u32], ix: Sections, label: &[u32], w: &mut [u32]) -> Result<Tally, usize>
     requires laid { Laid words.now ix }
     requires least_work_in_bounds { (least_work ≤ length w.old) × (length label.now ≤ most_input) }
     ensures { Scans (the_table words.now) label.now w.old w.new result }
 {
     let mut run = Run {
-        worked: 0,
-        emoji: false,
-        text: false,
+        tally: Tally {
+            worked: 0,
+            emoji: false,
+            text: false,
+        },
         tag: 1,
     };
     let mut at = 0;
     // by hand: a step takes what its token is long, and the place goes on by it
     while at < label.len() {
-        let went = step(words, ix, &label[at..], w, run);
-        match went {
-            Some(next) => {
-                run = next.run;
-                at += next.taken;
-            }
-            None => {
-                return Scanned::Disallowed(at);
-            }
-        }
+        let next = step(words, ix, &label[at..], w, run).ok_or(at)?;
+        run = next.run;
+        at += next.taken;
     }
-    Scanned::Tokens(Tally {
-        worked: run.worked,
-        emoji: run.emoji,
-        text: run.text,
-    })
+    Ok(run.tally)
 }

@@ -9,11 +9,11 @@ ghost use Rattle.memo.specs.Memo.{Memo};
 ghost use Rattle.name.specs.Name.{labels_of};
 ghost use Rattle.screen.specs.Screen.{labels_typed, screen_before15, ScreenJudged, ScreenCalls};
 
-use answers::{AcceptedName, Refusal, is_barred, name_length};
+use answers::{AcceptedName, Refusal, name_length};
 use ending::finish;
 use memo::MEMO;
 use name::admit::admit;
-use name::labels::{label_end, put_label};
+use name::labels::put_label;
 use one_label::judge_label;
 use screen_label::show_label;
 use screen_token::is_greek;
@@ -38,47 +38,29 @@ fn show_labels(
     requires memo { Memo words.now memo.old }
     ensures { ScreenJudged (the_table words.now) greek name.now (labels_typed setting (the_table words.now) 0 0 0 (labels_of name.now)) answer.old answer.new w.old w.new result }
 {
+    if name.len() == 0 {
+        return Ok(AcceptedName {
+            length: 0,
+            labels: 0,
+        });
+    }
     let mut unpaired = [0u32; KNOWN_WORDS];
     index_pairs(words, ix, &mut unpaired);
     let mut at = 0;
     let mut done = 0;
     let mut place = 0;
     let mut len = 0;
-    if name.len() == 0 {
-        at = 1;
-    }
-    // by hand: a label's length is its own, and the place goes on behind its stop
-    while at <= name.len() {
-        let end = label_end(name, at);
-        let judged = judge_label(
-            words,
-            ix,
-            &name[at..end],
-            at,
-            done,
-            place,
-            &mut unpaired,
-            w,
-            memo,
-        )?;
-        if is_barred(setting, judged.kind) {
+    for label in name.split(|&c| c == 0x2E) {
+        let judged = judge_label(words, ix, label, at, done, place, &mut unpaired, w, memo)?;
+        if judged.kind.is_barred(setting) {
             return Err(Refusal::Restricted(place));
         }
         let own = is_greek(greek, judged.kind);
         let from = put_label(answer, len, place == 0, &w[..0]);
-        len = show_label(
-            words,
-            ix,
-            own,
-            &name[at..end],
-            &mut unpaired,
-            answer,
-            from,
-            w,
-        );
+        len = show_label(words, ix, own, label, &mut unpaired, answer, from, w);
         done += judged.worked + 1;
         place += 1;
-        at = end + 1;
+        at += label.len() + 1;
     }
     Ok(AcceptedName {
         length: len,

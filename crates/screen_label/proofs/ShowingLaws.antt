@@ -9,7 +9,7 @@ use lib.Seq.{take_all, drop-drop}
 use Rattle.lists.specs.Lists.{joined_map}
 use Rattle.limits.specs.Limits.{most_worked}
 use Rattle.table.specs.Table.{Table}
-use Rattle.tokens.specs.Tokens.{normal_token, codepoints, is_emoji}
+use Rattle.tokens.specs.Tokens.{normal_token, codepoints}
 use Rattle.places.specs.Places.{Source, emoji, text, token_of}
 use Rattle.places.specs.Parts.{IsFirst}
 use Rattle.token_walk.specs.declared.Walked.{Walked}
@@ -39,12 +39,12 @@ put_then {a = a} {b = b} {c = c} {at = at} {m = m} {e = e} {f = f} s r p q =
 -- what is written for the token of the walk is its screen form
 walked-words : (t : Table) (greek : Bool) (rest w w' : List ℕ) (x : Walked) (k : Walks t rest w w' x) → token_words t greek x w' ≡ screen_token t greek k.source
 unfolding normal_token screen_token
-walked-words t greek rest w w' x k = go k.source k.emoji k.number k.words
+walked-words t greek rest w w' x k = go k.source k.emoji k.words
   where
-    go : (y : Source) → x.emoji ≡ is_emoji (token_of y) → x.number ≡ record_of y → take x.length w' ≡ codepoints (normal_token t (token_of y))
+    go : (y : Source) → x.extent.emoji ≡ record_of y → take x.length w' ≡ codepoints (normal_token t (token_of y))
         → token_words t greek x w' ≡ screen_token t greek y
-    go (emoji f) e n v = rw (e, n)
-    go (text s) e n v = rw (e, v)
+    go (emoji f) e v = rw e
+    go (text s) e v = rw (e, v)
 
 label-none : (t : Table) (greek : Bool) → screen_label t greek [] ≡ []
 unfolding screen_label
@@ -91,15 +91,15 @@ module _ (t : Table) (greek : Bool) (label before : List ℕ) (at : ℕ) where
     showing_short m h = rw (whole, length-drop) (omega arith)
 
     module _ (h : i < length label) (w w' : List ℕ) (x : Walked) (k : Walks t lent w w' x) where
-      first : IsFirst t (drop i label) k.source x.taken
+      first : IsFirst t (drop i label) k.source x.extent.end
       first = rw whole at k.is
 
-      pub showing_place : (1 ≤ x.taken) × (i + x.taken ≤ length label)
+      pub showing_place : (1 ≤ x.extent.end) × (i + x.extent.end ≤ length label)
       showing_place = (first.some-taken, omega (arith, first.inside, length-drop i label))
 
-      pub showing_more : (after : List ℕ) (e : ℕ) → ShowsToken t greek x w' now after end e → Showing t greek label before after at e (i + x.taken)
+      pub showing_more : (after : List ℕ) (e : ℕ) → ShowsToken t greek x w' now after end e → Showing t greek label before after at e (i + x.extent.end)
       showing_more after e q =
-          let n : ℕ = x.taken in
+          let n : ℕ = x.extent.end in
           let one : token_words t greek x w' ≡ screen_token t greek k.source = walked-words t greek lent w w' x k in
           let token : Put now after end true (screen_token t greek k.source) e = rw one at q.put in
           let behind : drop n (drop i label) ≡ drop (i + n) label = drop-drop n i label in

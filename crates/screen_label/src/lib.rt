@@ -36,12 +36,11 @@ pub fn show_label(
 {
     let mut end = at;
     let mut i = 0;
-    // by hand: a token's length is its own, and the place goes on by it
+    // by hand: a token's length is its own, and the place goes on by it; an iterator would hold the work area, which `put_token` reads
     while i < label.len() {
         let token = next_token(words, ix, &label[i..], unpaired, w);
-        let taken = token.taken;
         end = put_token(words, ix, greek, token, answer, end, w);
-        i += taken;
+        i += token.extent.end;
     }
     end
 }

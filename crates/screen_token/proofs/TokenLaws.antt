@@ -1,4 +1,5 @@
 -- The screen form of a text word by word, and of a token.
+use Rattle.std.specs.Prelude.{Some, None}
 use Prim.Native.Nat.{ℕ, suc, ◌+◌, ◌-◌, ◌≤◌, ◌<◌}
 use native.Mathlib.Omega.{arith}
 use native.Mathlib.Numerals.{add-one}
@@ -86,10 +87,10 @@ module _ (t : Table) (greek : Bool) (x : Walked) (w before after : List ℕ) (at
   pub token_put : (s : List ℕ) → token_words t greek x w ≡ s → length s ≤ most_worked → Put before after at true s end → ShowsToken t greek x w before after at end
   token_put s e h p = record { put = rw e p; near = omega (arith, p.ends) }
 
-  pub token_emoji : (ws : List ℕ) (s : Span) → SequenceIs ws (get_or t.emoji x.number []) s → x.emoji ≡ true
+  pub token_emoji : (ws : List ℕ) (m : ℕ) (s : Span) → SequenceIs ws (get_or t.emoji m []) s → x.extent.emoji ≡ Some m
       → Put before after at true (within s ws) end → ShowsToken t greek x w before after at end
-  token_emoji ws s q e p = token_put (within s ws) (rw (e, q.is)) (sequence_short ws (get_or t.emoji x.number []) s q) p
+  token_emoji ws m s q e p = token_put (within s ws) (rw (e, q.is)) (sequence_short ws (get_or t.emoji m []) s q) p
 
-  pub token_text : (front : List ℕ) → x.emoji ≡ false → front ≡ map (shown greek) (take x.length w) → length front ≤ most_worked
+  pub token_text : (front : List ℕ) → x.extent.emoji ≡ None → front ≡ map (shown greek) (take x.length w) → length front ≤ most_worked
       → Put before after at true front end → ShowsToken t greek x w before after at end
   token_text front e f h p = token_put front (rw e (sym f)) h p

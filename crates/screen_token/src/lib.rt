@@ -52,8 +52,8 @@ pub fn put_token(
     requires least_work_in_bounds { (least_work ≤ length w.old) × (token.length ≤ most_worked) × (at ≤ most_answer) }
     ensures { ShowsToken (the_table words.now) greek token w.old answer.old answer.new at result }
 {
-    if token.emoji {
-        let s = sequence(words, ix, token.number);
+    if let Some(number) = token.extent.emoji {
+        let s = sequence(words, ix, number);
         return put_label(answer, at, true, s.of(words));
     }
     let n = token.length;

@@ -7,13 +7,15 @@ use mathlib.Core.List.{List, [], ◌∷◌, ◌++◌, map, append_assoc, append-
 use mathlib.Core.Option.{Option, none, some}
 use lib.ListN.{length, take, drop, length-drop, drop_of_length-le}
 use lib.Seq.{take_all, drop-drop}
-use lib.Dec.{eqb}
+use Rattle.std.specs.Prelude.{Option as Answer, Some, None, is_some}
+use Rattle.std.specs.Option.{option_flatten}
+use mathlib.Core.Bool.{true, false, false≢true}
 use Rattle.table.specs.Table.{Table}
 use Rattle.tokens.specs.Scan as scan
 use Rattle.tokens.specs.Scan.{Step, width, step_at, steps}
 use Rattle.scanning.specs.Scanning.{first_step}
-use Rattle.tokens.specs.Tokens.{is_emoji, tokens_of}
-use Rattle.places.specs.Places.{Source, emoji, text, token_of, bare, placed_from}
+use Rattle.tokens.specs.Tokens.{tokens_of}
+use Rattle.places.specs.Places.{Source, emoji, text, bare, placed_from}
 use Rattle.places.specs.Cutting.{widths, step_wide, steps_next}
 use Rattle.places.specs.Laws.{bare_from, some-before}
 use Rattle.places.specs.Parts.{FirstOf, is_first}
@@ -26,35 +28,34 @@ widths_append [] b = omega arith
 widths_append (s ∷ a) b = omega (arith, widths_append a b)
 
 -- what the code keeps of the token so far
-abbrev SoFar : ℕ → ℕ → Option Source → Type 0
-SoFar kind number none = (kind ≡ 0) × (number ≡ 0)
-SoFar kind number (some (text r)) = (kind ≡ 1) × (number ≡ 0)
-SoFar kind number (some (emoji f)) = (kind ≡ 2) × (number ≡ f.number)
+abbrev token_by : Option Source → Answer (Answer ℕ)
+token_by none = None
+token_by (some x) = Some (record_of x)
 
 -- the first i codepoints are passed
-pub record Walking (t : Table) (l : List ℕ) (kind number i : ℕ) : Type 0 where
+pub record Walking (t : Table) (l : List ℕ) (token : Answer (Answer ℕ)) (i : ℕ) : Type 0 where
   pub o : Option Source
   pub own : List Step
-  pub so_far : SoFar kind number o
+  pub so_far : token ≡ token_by o
   pub split : steps t l ≡ own ++ steps t (drop i l)
   pub count : i ≡ widths own
   pub inside : i ≤ length l
   pub goes : (start n : ℕ) (ss : List Step) → placed_from none start n (own ++ ss) ≡ placed_from o start (n + i) ss
 
 module _ (t : Table) (l : List ℕ) where
-  pub walking_start : Walking t l 0 0 0
+  pub walking_start : Walking t l None 0
   walking_start =
       record {
         o = none;
         own = [];
-        so_far = (refl, refl);
+        so_far = refl;
         split = refl;
         count = refl;
         inside = omega arith;
         goes = λ start n ss. let e : n + 0 ≡ n = omega arith in rw e;
       }
 
-  module _ (kind number i : ℕ) (w : Walking t l kind number i) where
+  module _ (token : Answer (Answer ℕ)) (i : ℕ) (w : Walking t l token i) where
     -- the rest of the label as it is lent
     abbrev lent : List ℕ
     lent = take (length l - i) (drop i l)
@@ -88,9 +89,9 @@ module _ (t : Table) (l : List ℕ) where
             record { next = rw q (rw behind at next); low = low; high = omega arith }
 
     -- the token goes on with it
-    step_on : (s : Step) (o' : Option Source) (kind' number' k : ℕ) → i < length l → first_step t lent ≡ s → width s ≡ k → SoFar kind' number' o'
-        → ((start n : ℕ) (ss : List Step) → placed_from w.o start n (s ∷ ss) ≡ placed_from o' start (n + k) ss) → Walking t l kind' number' (i + k)
-    step_on s o' kind' number' k h e wk so g =
+    step_on : (s : Step) (o' : Option Source) (token' : Answer (Answer ℕ)) (k : ℕ) → i < length l → first_step t lent ≡ s → width s ≡ k → token' ≡ token_by o'
+        → ((start n : ℕ) (ss : List Step) → placed_from w.o start n (s ∷ ss) ≡ placed_from o' start (n + k) ss) → Walking t l token' (i + k)
+    step_on s o' token' k h e wk so g =
         let x = here s h e in
         let one : (rs : List Step) → (w.own ++ s ∷ []) ++ rs ≡ w.own ++ s ∷ rs = λ rs. append_assoc w.own (s ∷ []) rs in
         record {
@@ -105,48 +106,47 @@ module _ (t : Table) (l : List ℕ) where
               rw (sum, one ss) (w.goes start n (s ∷ ss) ∙ g start (n + i) ss);
         }
 
-    pub walking_nothing : i < length l → StandsIs (first_step t lent) Nothing → Walking t l kind number (i + 1)
+    pub walking_nothing : i < length l → StandsIs (first_step t lent) Nothing → Walking t l token (i + 1)
     unfolding placed_from
     walking_nothing h g = go (first_step t lent) refl g
       where
-        go : (s : Step) → first_step t lent ≡ s → Gives s → Walking t l kind number (i + 1)
-        go s e ignored = step_on scan.ignored w.o kind number 1 h e refl w.so_far (λ start n ss. rw (add-one n))
-        go s e disallowed = step_on scan.disallowed w.o kind number 1 h e refl w.so_far (λ start n ss. rw (add-one n))
+        go : (s : Step) → first_step t lent ≡ s → Gives s → Walking t l token (i + 1)
+        go s e ignored = step_on scan.ignored w.o token 1 h e refl w.so_far (λ start n ss. rw (add-one n))
+        go s e disallowed = step_on scan.disallowed w.o token 1 h e refl w.so_far (λ start n ss. rw (add-one n))
 
     pub walking_taken : (m k : ℕ) → i < length l → StandsIs (first_step t lent) (Emoji m k) → (1 ≤ k) × (i + k ≤ length l)
     walking_taken m k h g =
         let x = here (scan.emoji g.found) h g.is in
         (omega (arith, x.low, g.taken), omega (arith, x.high, g.taken))
 
-    pub walking_emoji : (m k : ℕ) → i < length l → kind ≡ 0 → StandsIs (first_step t lent) (Emoji m k) → Walking t l 2 m (i + k)
+    pub walking_emoji : (m k : ℕ) → i < length l → token ≡ None → StandsIs (first_step t lent) (Emoji m k) → Walking t l (Some (Some m)) (i + k)
     unfolding placed_from
     walking_emoji m k h z g = go w.o refl w.so_far
       where
-        go : (p : Option Source) → w.o ≡ p → SoFar kind number p → Walking t l 2 m (i + k)
+        go : (p : Option Source) → w.o ≡ p → token ≡ token_by p → Walking t l (Some (Some m)) (i + k)
         go none e so =
-            step_on (scan.emoji g.found) (some (emoji g.found)) 2 m k h g.is (sym g.taken) (refl, g.number)
+            step_on (scan.emoji g.found) (some (emoji g.found)) (Some (Some m)) k h g.is (sym g.taken) (rw g.number)
             (λ start n ss. rw (e, g.taken))
-        go (some (text r)) e so = absurd (omega (arith, so.0))
-        go (some (emoji f)) e so = absurd (omega (arith, so.0))
+        go (some x) e so = absurd (let y : ◌≡◌ {A = ℕ} 0 1 = cc in omega arith)
 
-    pub walking_text : i < length l → (kind ≡ 2 → ⊥) → StandsIs (first_step t lent) Text → Walking t l 1 number (i + 1)
+    pub walking_text : i < length l → is_some (option_flatten token) ≡ false → StandsIs (first_step t lent) Text → Walking t l (Some None) (i + 1)
     unfolding placed_from
     walking_text h z g = go w.o refl w.so_far
       where
-        go : (p : Option Source) → w.o ≡ p → SoFar kind number p → Walking t l 1 number (i + 1)
+        go : (p : Option Source) → w.o ≡ p → token ≡ token_by p → Walking t l (Some None) (i + 1)
         go none e so =
-            step_on (scan.text (g.first ∷ g.others)) (some (text (g.first ∷ g.others))) 1 number 1 h g.is refl (refl, so.1)
+            step_on (scan.text (g.first ∷ g.others)) (some (text (g.first ∷ g.others))) (Some None) 1 h g.is refl refl
             (λ start n ss. rw (e, add-one n))
         go (some (text r)) e so =
-            step_on (scan.text (g.first ∷ g.others)) (some (text (r ++ g.first ∷ g.others))) 1 number 1 h g.is refl (refl, so.1)
+            step_on (scan.text (g.first ∷ g.others)) (some (text (r ++ g.first ∷ g.others))) (Some None) 1 h g.is refl refl
             (λ start n ss. rw (e, add-one n))
-        go (some (emoji f)) e so = absurd (z so.0)
+        go (some (emoji f)) e so = absurd (false≢true (sym (rw so at z)))
 
     -- the token ends here
     stops : (x : Source) → w.o ≡ some x
         → ((start n : ℕ) → placed_from (some x) start n (steps t (drop i l)) ≡ record { source = x; start = start; end = n } ∷ placed_from none n n (steps t (drop i l)))
         → (1 ≤ length (steps t (drop i l)) → 1 ≤ length (tokens_of (steps t (drop i l))))
-        → TokenEnds t l (record { emoji = eqb kind 2; number = number; end = i })
+        → TokenEnds t l (record { emoji = record_of x; end = i })
     unfolding placed_from
     stops x e opens more =
         let f : FirstOf none (steps t l) =
@@ -159,59 +159,49 @@ module _ (t : Table) (l : List ℕ) where
           first = λ start n. ap (placed_from none start n) w.split ∙ w.goes start n (steps t (drop i l)) ∙ rw e (opens start (n + i) ∙ rw w.count);
           more = more;
         } in
-        let so : SoFar kind number (some x) = rw e at w.so_far in
-        record {
-          source = x;
-          is = rw w.count (is_first t l f);
-          emoji = which x so;
-          number = named x so;
-        }
-      where
-        which : (y : Source) → SoFar kind number (some y) → eqb kind 2 ≡ is_emoji (token_of y)
-        which (text r) so = rw so.0
-        which (emoji g) so = rw so.0
+        record { source = x; is = rw w.count (is_first t l f); emoji = refl }
 
-        named : (y : Source) → SoFar kind number (some y) → number ≡ record_of y
-        named (text r) so = so.1
-        named (emoji g) so = so.1
-
-    pub ends_emoji : (m k : ℕ) → i < length l → (kind ≡ 0 → ⊥) → StandsIs (first_step t lent) (Emoji m k)
-        → TokenEnds t l (record { emoji = eqb kind 2; number = number; end = i })
+    pub ends_emoji : (m k : ℕ) → i < length l → (a : Answer ℕ) → token ≡ Some a → StandsIs (first_step t lent) (Emoji m k)
+        → TokenEnds t l (record { emoji = a; end = i })
     unfolding placed_from tokens_of
-    ends_emoji m k h z g = go w.o refl w.so_far
+    ends_emoji m k h a z g = go w.o refl w.so_far
       where
         next : steps t (drop i l) ≡ scan.emoji g.found ∷ steps t (drop (i + width (scan.emoji g.found)) l)
         next = (here (scan.emoji g.found) h g.is).next
 
-        go : (p : Option Source) → w.o ≡ p → SoFar kind number p → TokenEnds t l (record { emoji = eqb kind 2; number = number; end = i })
-        go none e so = absurd (z so.0)
-        go (some x) e so = stops x e (λ start n. rw next) (λ u. rw next (omega arith))
+        go : (p : Option Source) → w.o ≡ p → token ≡ token_by p → TokenEnds t l (record { emoji = a; end = i })
+        go none e so = absurd (let y : ◌≡◌ {A = ℕ} 0 1 = cc in omega arith)
+        go (some x) e so =
+            let same : record_of x ≡ a = cc in
+            rw same at (stops x e (λ start n. rw next) (λ u. rw next (omega arith)))
 
-    pub ends_text : i < length l → kind ≡ 2 → StandsIs (first_step t lent) Text → TokenEnds t l (record { emoji = eqb kind 2; number = number; end = i })
+    pub ends_text : i < length l → is_some (option_flatten token) ≡ true → StandsIs (first_step t lent) Text
+        → TokenEnds t l (record { emoji = option_flatten token; end = i })
     unfolding placed_from tokens_of
     ends_text h z g = go w.o refl w.so_far
       where
         next : steps t (drop i l) ≡ scan.text (g.first ∷ g.others) ∷ steps t (drop (i + 1) l)
         next = (here (scan.text (g.first ∷ g.others)) h g.is).next
 
-        go : (p : Option Source) → w.o ≡ p → SoFar kind number p → TokenEnds t l (record { emoji = eqb kind 2; number = number; end = i })
-        go none e so = absurd (omega (arith, so.0))
-        go (some (text r)) e so = absurd (omega (arith, so.0))
-        go (some (emoji f)) e so = stops (emoji f) e (λ start n. rw next) (λ u. rw next (some-before g.first g.others (tokens_of (steps t (drop (i + 1) l)))))
+        go : (p : Option Source) → w.o ≡ p → token ≡ token_by p → TokenEnds t l (record { emoji = option_flatten token; end = i })
+        go none e so = absurd (false≢true (rw so at z))
+        go (some (text r)) e so = absurd (false≢true (rw so at z))
+        go (some (emoji f)) e so =
+            rw so (stops (emoji f) e (λ start n. rw next) (λ u. rw next (some-before g.first g.others (tokens_of (steps t (drop (i + 1) l))))))
 
-    pub ends_label : length l ≤ i → 1 ≤ length (tokens_of (steps t l)) → TokenEnds t l (record { emoji = eqb kind 2; number = number; end = i })
+    pub ends_label : length l ≤ i → 1 ≤ length (tokens_of (steps t l)) → TokenEnds t l (record { emoji = option_flatten token; end = i })
     unfolding placed_from steps
-    ends_label h some_tokens = go w.o refl
+    ends_label h some_tokens = go w.o refl w.so_far
       where
         next : steps t (drop i l) ≡ []
         next = ap (steps t) (drop_of_length-le l h)
 
-        go : (p : Option Source) → w.o ≡ p → TokenEnds t l (record { emoji = eqb kind 2; number = number; end = i })
-        go none e =
+        go : (p : Option Source) → w.o ≡ p → token ≡ token_by p → TokenEnds t l (record { emoji = option_flatten token; end = i })
+        go none e so =
             let empty : placed_from none 0 0 (steps t l) ≡ [] = ap (placed_from none 0 0) w.split ∙ w.goes 0 0 (steps t (drop i l)) ∙ rw (e, next) in
             let gone : tokens_of (steps t l) ≡ [] = sym (bare_from none 0 0 (steps t l) tt) ∙ ap (map bare) empty in
             absurd (omega (arith, some_tokens, ap length gone))
-        go (some x) e = stops x e (λ start n. rw next) (λ u. absurd (omega (arith, u, ap length next)))
+        go (some x) e so = rw so (stops x e (λ start n. rw next) (λ u. absurd (omega (arith, u, ap length next))))
 
 -- what stands here, once it is known which it is
 pub as_emoji : (s : Step) (r : Stands) (m k : ℕ) → r ≡ Emoji m k → StandsIs s r → StandsIs s (Emoji m k)

@@ -1,11 +1,10 @@
 -- What stands at a place of a label, and where a token ends.
-use Rattle.std.specs.Prelude.{ℕ, ◌≡◌, List, [], ◌∷◌}
+use Rattle.std.specs.Prelude.{ℕ, ◌≡◌, List, ◌∷◌, Option as Answer, Some, None}
 use Rattle.table.specs.Table.{Table}
 use Rattle.finder.specs.Emoji.{Found}
 use Rattle.tokens.specs.Scan as scan
 use Rattle.tokens.specs.Scan.{Step}
-use Rattle.tokens.specs.Tokens.{is_emoji}
-use Rattle.places.specs.Places.{Source, emoji, text, token_of}
+use Rattle.places.specs.Places.{Source, emoji, text}
 use Rattle.places.specs.Parts.{IsFirst}
 use Rattle.token_extent.specs.declared.Stands.{Stands}
 use Rattle.token_extent.specs.declared.Stands.TheVariants.{Emoji, Text, Nothing}
@@ -35,14 +34,13 @@ StandsIs s (Emoji n k) = EmojiStands s n k
 StandsIs s Text = TextStands s
 StandsIs s Nothing = Gives s
 
--- the number of an emoji's record, 0 for text
-abbrev pub record_of : Source → ℕ
-record_of (emoji f) = f.number
-record_of (text s) = 0
+-- the number of an emoji's record; text has none
+abbrev pub record_of : Source → Answer ℕ
+record_of (emoji f) = Some f.number
+record_of (text s) = None
 
 -- the first token of what is left of a label, and where it ends
 pub record TokenEnds (t : Table) (rest : List ℕ) (r : Extent) : Type 0 where
   pub source : Source
   pub is : IsFirst t rest source r.end
-  pub emoji : r.emoji ≡ is_emoji (token_of source)
-  pub number : r.number ≡ record_of source
+  pub emoji : r.emoji ≡ record_of source

@@ -13,13 +13,6 @@ use finder::emoji::find;
 use sections::Sections;
 use tokens::single::{Single, alone};
 
-// What the token has come to.
-const NONE: u32 = 0;
-
-const TEXT: u32 = 1;
-
-const EMOJI: u32 = 2;
-
 // What stands at one place of a label: an emoji, with the number of its record and how much it takes, text, or what gives no token.
 #[derive(Clone, Copy)]
 pub enum Stands {
@@ -28,11 +21,10 @@ pub enum Stands {
     Nothing,
 }
 
-// Where the first token of the rest of a label ends, whether it is an emoji, and the number of its record, 0 for text.
+// Where the first token of the rest of a label ends, and the number of its record where it is an emoji.
 #[derive(Clone, Copy)]
 pub struct Extent {
-    pub emoji: bool,
-    pub number: usize,
+    pub emoji: Option<usize>,
     pub end: usize,
 }
 
@@ -73,34 +65,26 @@ pub fn token_end(words: &[u32], ix: Sections, rest: &[u32]) -> Extent
     requires in_bounds { 1 ≤ length (tokens_of (steps (the_table words.now) rest.now)) }
     ensures { TokenEnds (the_table words.now) rest.now result }
 {
-    let mut kind = NONE;
-    let mut number = 0;
+    // What the token has come to: nothing yet, text, or an emoji with the number of its record.
+    let mut token: Option<Option<usize>> = None;
     let mut i = 0;
     // by hand: a step takes what its token is long, and the place goes on by it
     while i < rest.len() {
         let here = look(words, ix, &rest[i..]);
         match here {
-            Stands::Emoji { number: n, taken } => {
-                if kind != NONE {
-                    return Extent {
-                        emoji: kind == EMOJI,
-                        number,
-                        end: i,
-                    };
+            Stands::Emoji { number, taken } => {
+                if let Some(emoji) = token {
+                    return Extent { emoji, end: i };
                 }
-                kind = EMOJI;
-                number = n;
+                token = Some(Some(number));
                 i += taken;
             }
             Stands::Text => {
-                if kind == EMOJI {
-                    return Extent {
-                        emoji: true,
-                        number,
-                        end: i,
-                    };
+                let emoji = token.flatten();
+                if emoji.is_some() {
+                    return Extent { emoji, end: i };
                 }
-                kind = TEXT;
+                token = Some(None);
                 i += 1;
             }
             Stands::Nothing => {
@@ -109,8 +93,7 @@ pub fn token_end(words: &[u32], ix: Sections, rest: &[u32]) -> Extent
         }
     }
     Extent {
-        emoji: kind == EMOJI,
-        number,
+        emoji: token.flatten(),
         end: i,
     }
 }

@@ -10,9 +10,8 @@ use lib.Dec.{ltb}
 use borrow.Author.Tests.{ltb-true, ltb-false}
 use Rattle.limits.specs.Limits.{most_worked}
 use Rattle.table.specs.Table.{Table}
-use Rattle.scanning.specs.declared.Tally.{Tally}
-use Rattle.scanning.specs.declared.Scanned.{Scanned}
-use Rattle.scanning.specs.declared.Scanned.TheVariants as scanned
+use Rattle.std.specs.Prelude.{Result, Ok, Err}
+use Rattle.laying.specs.declared.Tally.{Tally}
 use Rattle.tokens.specs.Scan as scan
 use Rattle.tokens.specs.Scan.{Step, steps, first_disallowed}
 use Rattle.tokens.specs.Tokens.{Token, codepoints, tokens_of, worked_token, worked, normal_token, normal, joined_tokens}
@@ -75,17 +74,17 @@ module _ (t : Table) (rest : List ℕ) (g : Walkable t rest) (x : Source) (n : �
         worked-first t (token_of x) [],
       )
 
-  module _ (w w' : List ℕ) (r : Scanned) (s : Scans t (take n rest) w w' r) where
-    pub never_disallowed : (i : ℕ) → r ≡ scanned.Disallowed i → ⊥
+  module _ (w w' : List ℕ) (r : Result Tally ℕ) (s : Scans t (take n rest) w w' r) where
+    pub never_disallowed : (i : ℕ) → r ≡ Err i → ⊥
     never_disallowed i e =
-        let is : ScanIs t (take n rest) w' (scanned.Disallowed i) = rw e at s.is in
+        let is : ScanIs t (take n rest) w' (Err i) = rw e at s.is in
         let both : some i ≡ none = sym is ∙ own_allowed in
         let z : ◌≡◌ {A = ℕ} 0 1 = cc in
         omega arith
 
-    module _ (k : Tally) (e : r ≡ scanned.Tokens k) where
+    module _ (k : Tally) (e : r ≡ Ok k) where
       tallied : Tallied t (tokens_of (steps t (take n rest))) w' k
-      tallied = let is : ScanIs t (take n rest) w' (scanned.Tokens k) = rw e at s.is in is.1
+      tallied = let is : ScanIs t (take n rest) w' (Ok k) = rw e at s.is in is.1
 
       pub own_worked : k.worked ≤ most_worked
       own_worked = go (ltb most_worked k.worked) refl
@@ -104,25 +103,24 @@ module _ (t : Table) (rest : List ℕ) (g : Walkable t rest) (x : Source) (n : �
           ap (λ (us : List Token). joined_tokens (normal t us)) (tokens_alone t rest x n f) ∙ append-nil (codepoints (normal_token t (token_of x))) in
           (cells.few, cells.count ∙ ap length one, cells.words ∙ one)
 
-module _ (t : Table) (rest w w' : List ℕ) (g : Walkable t rest) (x : Extent) (d : TokenEnds t rest x) (r : Scanned)
+module _ (t : Table) (rest w w' : List ℕ) (g : Walkable t rest) (x : Extent) (d : TokenEnds t rest x) (r : Result Tally ℕ)
     (s : Scans t (take x.end rest) w w' r) where
-  pub walks_token : (k : Tally) → r ≡ scanned.Tokens k → (w'' : List ℕ) (len : ℕ) → NormalCells t w' w'' k.worked len
-      → Walks t rest w w'' (record { emoji = x.emoji; number = x.number; taken = x.end; length = len })
+  pub walks_token : (k : Tally) → r ≡ Ok k → (w'' : List ℕ) (len : ℕ) → NormalCells t w' w'' k.worked len
+      → Walks t rest w w'' (record { extent = x; length = len })
   walks_token k e w'' len c =
       let v = own_words t rest g d.source x.end d.is w w' r s k e w'' len c in
       record {
         source = d.source;
         is = d.is;
         emoji = d.emoji;
-        number = d.number;
         same = c.same ∙ s.same;
         few = v.0;
         count = v.1;
         words = v.2;
       }
 
-  pub walks_worked : (k : Tally) → r ≡ scanned.Tokens k → k.worked ≤ most_worked
+  pub walks_worked : (k : Tally) → r ≡ Ok k → k.worked ≤ most_worked
   walks_worked k e = own_worked t rest g d.source x.end d.is w w' r s k e
 
-  pub walks_never : (i : ℕ) → r ≡ scanned.Disallowed i → ⊥
+  pub walks_never : (i : ℕ) → r ≡ Err i → ⊥
   walks_never i e = never_disallowed t rest g d.source x.end d.is w w' r s i e

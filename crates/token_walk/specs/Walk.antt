@@ -4,7 +4,7 @@ use Rattle.std.proofs.Math.Option.{none}
 use Rattle.limits.specs.Limits.{most_worked}
 use Rattle.table.specs.Table.{Table}
 use Rattle.tokens.specs.Scan.{steps, first_disallowed}
-use Rattle.tokens.specs.Tokens.{is_emoji, codepoints, tokens_of, worked, normal_token}
+use Rattle.tokens.specs.Tokens.{codepoints, tokens_of, worked, normal_token}
 use Rattle.places.specs.Places.{Source, token_of}
 use Rattle.places.specs.Parts.{IsFirst}
 use Rattle.token_extent.specs.Ends.{record_of}
@@ -20,9 +20,8 @@ pub record Walkable (t : Table) (rest : List ℕ) : Type 0 where
 -- the first token of what is left of a label: its place, and its codepoints (NFC or stripped) in front in the work area
 pub record Walks (t : Table) (rest w w' : List ℕ) (r : Walked) : Type 0 where
   pub source : Source
-  pub is : IsFirst t rest source r.taken
-  pub emoji : r.emoji ≡ is_emoji (token_of source)
-  pub number : r.number ≡ record_of source
+  pub is : IsFirst t rest source r.extent.end
+  pub emoji : r.extent.emoji ≡ record_of source
   pub same : length w' ≡ length w
   pub few : r.length ≤ most_worked
   pub count : r.length ≡ length (codepoints (normal_token t (token_of source)))

@@ -10,16 +10,14 @@ ghost use Rattle.unpaired.specs.Unpaired.{Unpaired};
 ghost use Rattle.token_walk.specs.Walk.{Walkable, Walks};
 
 use normal_cells::normalise;
-use scanning::{Scanned, scan};
+use scanning::scan;
 use sections::Sections;
-use token_extent::token_end;
+use token_extent::{Extent, token_end};
 
-// The first token of the rest of a label: how much of the input is its, and how many codepoints it has, which stand in front in the work area.
+// The first token of the rest of a label: where it ends, and how many codepoints it has, which stand in front in the work area.
 #[derive(Clone, Copy)]
 pub struct Walked {
-    pub emoji: bool,
-    pub number: usize,
-    pub taken: usize,
+    pub extent: Extent,
     pub length: usize,
 }
 
@@ -39,23 +37,12 @@ pub fn next_token(
     ensures unpaired_2 { Unpaired (the_table words.now) unpaired.new }
 {
     let extent = token_end(words, ix, rest);
-    let end = extent.end;
-    let scanned = scan(words, ix, &rest[..end], w);
+    let scanned = scan(words, ix, &rest[..extent.end], w);
     match scanned {
-        Scanned::Tokens(tally) => {
+        Ok(tally) => {
             let length = normalise(words, ix, unpaired, w, tally.worked);
-            Walked {
-                emoji: extent.emoji,
-                number: extent.number,
-                taken: end,
-                length,
-            }
+            Walked { extent, length }
         }
-        Scanned::Disallowed(_) => Walked {
-            emoji: extent.emoji,
-            number: extent.number,
-            taken: end,
-            length: 0,
-        },
+        Err(_) => Walked { extent, length: 0 },
     }
 }

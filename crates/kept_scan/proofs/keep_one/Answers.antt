@@ -1,5 +1,4 @@
 -- `keep_one` meets its contract: each case of the step at one codepoint is kept or given up.
-use mathlib.Core.Path.{refl}
 use Rattle.scanning.proofs.Steps.{one_items}
 use Rattle.kept_scan.proofs.Stepping.{one-valid, one-mapped, one-ignored, step_given}
 use Rattle.kept_scan.proofs.keep_one.Goals as goal
@@ -24,4 +23,4 @@ pub returns-in-Ignored : goal.returns-in-Ignored
 returns-in-Ignored c = one-ignored _ _ _ _ _ c.alone-found.ensures _ _ c.in-Ignored.is
 
 pub returns-in-Disallowed : goal.returns-in-Disallowed
-returns-in-Disallowed c = step_given _ _ _ _ _ refl
+returns-in-Disallowed c = step_given _ _ _ _

@@ -9,14 +9,10 @@ keep_emoji-requires c =
     let p = d.requires in
     (p.least_work_in_bounds.0, step_sequence _ _ _ _ d.find-found.ensures _ d.in-Some.is)
 
-pub returns-in-Some : goal.returns-in-Some
-returns-in-Some c =
-    let e = c in
-    let f = e in
-    step_emoji _ _ _ _ f.requires.least_work_in_bounds.1 f.find-found.ensures _ e.in-Some.is _ _ _ _ c.keep_emoji.ensures
+pub returns-in_ok-next-in-Some : goal.returns-in_ok-next-in-Some
+returns-in_ok-next-in-Some c =
+    step_emoji _ _ _ _ c.requires.least_work_in_bounds.1 c.find-found.ensures _ c.in-Some.is _ _ _ _ c.keep_emoji.ensures _ c.in_ok-next-in-Some.was
 
-pub returns-in-None : goal.returns-in-None
-returns-in-None c =
-    let e = c in
-    let f = e in
-    step_alone _ _ _ _ f.requires.least_work_in_bounds.1 f.find-found.ensures e.in-None.is _ _ _ _ c.keep_one.ensures
+pub returns-in_ok-next-in-None : goal.returns-in_ok-next-in-None
+returns-in_ok-next-in-None c =
+    step_alone _ _ _ _ c.requires.least_work_in_bounds.1 c.find-found.ensures c.in-None.is _ _ _ _ c.keep_one.ensures _ c.in_ok-next-in-None.was

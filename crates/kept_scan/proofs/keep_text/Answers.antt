@@ -1,12 +1,11 @@
 -- `keep_text` meets its contract: the codepoint is written to its place, and tagged.
 use native.Mathlib.Omega.{arith}
-use mathlib.Core.Path.{refl}
 use borrow.Author.Tests.{not-false}
 use Rattle.kept_scan.proofs.Holding.{text-given, write-room, tag_room, text-kept}
 use Rattle.kept_scan.proofs.keep_text.Goals as goal
 
 pub returns-then-not-may_keep : goal.returns-then-not-may_keep
-returns-then-not-may_keep c = text-given _ _ _ _ _ refl
+returns-then-not-may_keep c = text-given _ _ _ _
 
 pub append_decomposed-worked-requires : goal.append_decomposed-worked-requires
 append_decomposed-worked-requires c =

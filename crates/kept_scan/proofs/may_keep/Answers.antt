@@ -4,9 +4,6 @@ use mathlib.Core.Bool.{false≢true}
 use borrow.Author.Tests.{not-true, not-false}
 use Rattle.kept_scan.proofs.may_keep.Goals as goal
 
-pub returns-then-not-held : goal.returns-then-not-held
-returns-then-not-held c = λ e. absurd (false≢true e)
-
 pub returns-then-held-ge-MOST_WORKED : goal.returns-then-held-ge-MOST_WORKED
 returns-then-held-ge-MOST_WORKED c = λ e. absurd (false≢true e)
 
@@ -20,7 +17,6 @@ pub returns : goal.returns
 returns c =
     λ e.
     record {
-      fine = not-false _ c.if-not-held.false;
       room = c.if-held-ge-MOST_WORKED.false;
       worked = c.if-held-gt-MOST_WORKED.false;
       order = sym c.stands_behind.ensures ∙ not-false _ c.if-not-stands_behind.false-raw;

@@ -1,12 +1,16 @@
-use Prim.Native.Nat.{◌-◌}
+use Prim.Native.Nat.{◌+◌, ◌-◌}
 use native.Mathlib.Omega.{arith}
-use mathlib.Core.Path.{refl, sym, ◌∙◌}
+use mathlib.Core.Path.{◌≡◌, refl, sym, ◌∙◌}
+use lib.ListN.{length}
+use Rattle.std.proofs.Common.{rules}
 use Rattle.std.proofs.lemmas.Result.{err_from_is_err_and}
-use Rattle.name.proofs.Parting.{label-length}
+use Rattle.name.proofs.Splitting.{left_start, left_none, left_next}
 use Rattle.one_label.proofs.Said.{judged-room, judged_count, judged_short, judged-worked}
 use Rattle.name_call.proofs.Passing.{pass_start, pass_empty, pass_done, pass_refused, pass_barred, pass_more}
 use Rattle.name_call.proofs.judge_labels.Goals as goal
-use Rattle.name_call.proofs.judge_labels.Goals.{else-name-eq0, then-name-eq0}
+
+pub returns-then-name-eq0 : goal.returns-then-name-eq0
+returns-then-name-eq0 c = pass_done _ _ _ _ _ _ _ _ _ _ _ (pass_empty _ _ _ _ _ c.if-name-eq0.true) (omega (arith, c.if-name-eq0.true))
 
 pub index_pairs-requires : goal.index_pairs-requires
 index_pairs-requires c = record { laid = c.requires.laid; unpaired_value = refl }
@@ -17,44 +21,47 @@ slice_bounds-ask-end c = sym c.index_pairs.ensures.size
 pub ask-requires : goal.ask-requires
 ask-requires c = record { laid = c.requires.laid; unpaired = c.index_pairs.ensures }
 
-pub loop-at-init : goal.loop-at-init
-loop-at-init c =
-    ((elim c.if-name-eq0.branch [ then-name-eq0 w ↦ rw w.at-is (pass_empty _ _ _ _ _ w.if-name-eq0.true) | else-name-eq0 w ↦ rw w.at-is (pass_start _ _ _ _ _ (omega arith)) ]), (c.ask.ensures.unpaired_2, c.requires.memo))
+pub loop-label-init : goal.loop-label-init
+loop-label-init c = (
+  pass_start _ _ _ _ _ (omega arith),
+  (c.ask.ensures.unpaired_2, c.requires.memo),
+  rw c.into_iter-label-iterator.ensures.into_iter_gives (left_start _ _ c.split-label-items.ensures.rest c.split-label-items.ensures.done),
+)
 
-pub slice_bounds-judge_label-end-in-loop-at : goal.slice_bounds-judge_label-end-in-loop-at
-slice_bounds-judge_label-end-in-loop-at c = sym c.loop-at.invariant.1.0.size
+pub slice_bounds-judge_label-end : goal.slice_bounds-judge_label-end
+slice_bounds-judge_label-end c = sym c.loop-label.invariant.1.0.size
 
 pub judge_label-requires : goal.judge_label-requires
 judge_label-requires c =
     let p = c.requires in
-    let i = c.loop-at.invariant in
-    let e = c.label_end-end.ensures in
-    let size = label-length _ _ _ e in
-    record { laid = p.laid; unpaired = i.1.0; least_work_in_bounds = (omega (arith, p.least_work_in_bounds.0, i.0.same-work), omega (arith, size, e.to, p.least_work_in_bounds.1), omega (arith, p.least_work_in_bounds.1, i.0.inside), i.0.spent); memo = i.1.1 }
+    let i = c.loop-label.invariant in
+    let n = left_next _ _ _ _ c.in-Some.label c.next.new.self (λ f a r q k. search rules) c.loop-label.invariant.2 c.in-Some.ensures.steps in
+    record { laid = p.laid; unpaired = i.1.0; least_work_in_bounds = (omega (arith, p.least_work_in_bounds.0, i.0.same-work), omega (arith, n.ends.to, p.least_work_in_bounds.1), omega (arith, p.least_work_in_bounds.1, n.ends.to), i.0.spent); memo = i.1.1 }
 
 pub shape_of-answer-then-is_barred : goal.shape_of-answer-then-is_barred
-shape_of-answer-then-is_barred c = c.loop-at.invariant.0.same
+shape_of-answer-then-is_barred c = c.loop-label.invariant.0.same
 
 pub shape_of-w-then-is_barred : goal.shape_of-w-then-is_barred
-shape_of-w-then-is_barred c = c.judge_label.ensures.judges.same ∙ c.loop-at.invariant.0.same-work
+shape_of-w-then-is_barred c = c.judge_label.ensures.judges.same ∙ c.loop-label.invariant.0.same-work
 
 pub shape_of-memo-then-is_barred : goal.shape_of-memo-then-is_barred
 shape_of-memo-then-is_barred c = c.judge_label.ensures.memo_2.size ∙ sym c.requires.memo.size
 
 pub returns-then-is_barred : goal.returns-then-is_barred
 returns-then-is_barred c =
-    pass_barred _ _ _ _ _ _ _ _ _ _ _ c.loop-at.invariant.0 _ c.label_end-end.ensures _ _ c.judge_label.ensures.judges _ c.in_ok-judged.was (sym c.is_barred.ensures ∙ c.if-is_barred.true)
+    let n = left_next _ _ _ _ c.in-Some.label c.next.new.self (λ f a r q k. search rules) c.loop-label.invariant.2 c.in-Some.ensures.steps in
+    pass_barred _ _ _ _ _ _ _ _ _ _ _ c.loop-label.invariant.0 _ n.ends _ _ (rw n.is c.judge_label.ensures.judges) _ c.in_ok-judged.was (sym c.is_barred.ensures ∙ c.if-is_barred.true)
 
 pub slice_bounds-put_label-end : goal.slice_bounds-put_label-end
 slice_bounds-put_label-end c =
-    judged-room _ _ _ _ _ _ _ _ c.judge_label.ensures.judges _ c.in_ok-judged.was (omega (arith, c.loop-at.invariant.0.same-work, c.requires.least_work_in_bounds.0))
+    judged-room _ _ _ _ _ _ _ _ c.judge_label.ensures.judges _ c.in_ok-judged.was (omega (arith, c.loop-label.invariant.0.same-work, c.requires.least_work_in_bounds.0))
 
-pub slice_bounds-put_label-end-in-loop-at : goal.slice_bounds-put_label-end-in-loop-at
-slice_bounds-put_label-end-in-loop-at c = judged_count _ _ _ _ _ _ _ _ c.judge_label.ensures.judges _ c.in_ok-judged.was
+pub slice_bounds-put_label-end-in-loop-label : goal.slice_bounds-put_label-end-in-loop-label
+slice_bounds-put_label-end-in-loop-label c = judged_count _ _ _ _ _ _ _ _ c.judge_label.ensures.judges _ c.in_ok-judged.was
 
 pub put_label-len-requires : goal.put_label-len-requires
 put_label-len-requires c =
-    let i = c.loop-at.invariant.0 in (
+    let i = c.loop-label.invariant.0 in (
       omega (arith, i.small, i.few, i.inside, c.requires.least_work_in_bounds.1),
       judged_short _ _ _ _ _ _ _ _ c.judge_label.ensures.judges _ c.in_ok-judged.was,
     )
@@ -62,31 +69,33 @@ put_label-len-requires c =
 pub overflow_add-done : goal.overflow_add-done
 overflow_add-done c = omega (arith, judged-worked _ _ _ _ _ _ _ _ c.judge_label.ensures.judges _ c.in_ok-judged.was)
 
-pub overflow_add-done-in-loop-at : goal.overflow_add-done-in-loop-at
-overflow_add-done-in-loop-at c = omega (arith, judged-worked _ _ _ _ _ _ _ _ c.judge_label.ensures.judges _ c.in_ok-judged.was)
+pub overflow_add-done-in-loop-label : goal.overflow_add-done-in-loop-label
+overflow_add-done-in-loop-label c = omega (arith, judged-worked _ _ _ _ _ _ _ _ c.judge_label.ensures.judges _ c.in_ok-judged.was)
 
 pub overflow_add-place : goal.overflow_add-place
 overflow_add-place c =
-    let i = c.loop-at.invariant.0 in
+    let i = c.loop-label.invariant.0 in
     omega (arith, i.few, i.inside, c.requires.least_work_in_bounds.1)
 
-pub overflow_add-at : goal.overflow_add-at
-overflow_add-at c = omega (arith, c.label_end-end.ensures.to, c.requires.least_work_in_bounds.1)
+pub overflow_add-at-in-loop-label : goal.overflow_add-at-in-loop-label
+overflow_add-at-in-loop-label c =
+    let n = left_next _ _ _ _ c.in-Some.label c.next.new.self (λ f a r q k. search rules) c.loop-label.invariant.2 c.in-Some.ensures.steps in
+    omega (arith, n.ends.to, c.requires.least_work_in_bounds.1)
 
-pub loop-at-smaller : goal.loop-at-smaller
-loop-at-smaller c = omega (arith, c.label_end-end.ensures.from)
-
-pub loop-at-preserved : goal.loop-at-preserved
-loop-at-preserved c = (
-  pass_more _ _ _ _ _ _ _ _ _ _ _ c.loop-at.invariant.0 _ c.label_end-end.ensures _ _ c.judge_label.ensures.judges _ c.in_ok-judged.was (sym c.is_barred.ensures ∙ c.if-is_barred.false) _ _ c.put_label-len.ensures,
-  (c.judge_label.ensures.unpaired_2, c.judge_label.ensures.memo_2),
-)
+pub loop-label-preserved : goal.loop-label-preserved
+loop-label-preserved c =
+    let n = left_next _ _ _ _ c.in-Some.label c.next.new.self (λ f a r q k. search rules) c.loop-label.invariant.2 c.in-Some.ensures.steps in
+    let e : c.loop-label.at + (length c.in-Some.label.now + 1) ≡ c.loop-label.at + length c.in-Some.label.now + 1 = omega arith in (
+      rw e (pass_more _ _ _ _ _ _ _ _ _ _ _ c.loop-label.invariant.0 _ n.ends _ _ (rw n.is c.judge_label.ensures.judges) _ c.in_ok-judged.was (sym c.is_barred.ensures ∙ c.if-is_barred.false) _ _ c.put_label-len.ensures),
+      (c.judge_label.ensures.unpaired_2, c.judge_label.ensures.memo_2),
+      n.left,
+    )
 
 pub shape_of-answer-in_err-judged : goal.shape_of-answer-in_err-judged
-shape_of-answer-in_err-judged c = c.loop-at.invariant.0.same
+shape_of-answer-in_err-judged c = c.loop-label.invariant.0.same
 
 pub shape_of-w-in_err-judged : goal.shape_of-w-in_err-judged
-shape_of-w-in_err-judged c = c.judge_label.ensures.judges.same ∙ c.loop-at.invariant.0.same-work
+shape_of-w-in_err-judged c = c.judge_label.ensures.judges.same ∙ c.loop-label.invariant.0.same-work
 
 pub shape_of-memo-in_err-judged : goal.shape_of-memo-in_err-judged
 shape_of-memo-in_err-judged c = c.judge_label.ensures.memo_2.size ∙ sym c.requires.memo.size
@@ -94,16 +103,17 @@ shape_of-memo-in_err-judged c = c.judge_label.ensures.memo_2.size ∙ sym c.requ
 pub returns-in_err-judged : goal.returns-in_err-judged
 returns-in_err-judged c =
     let p = err_from_is_err_and c.from_residual.result c.from_residual.ensures.1 in
-    rw (p.1, p.2) (pass_refused _ _ _ _ _ _ _ _ _ _ _ c.loop-at.invariant.0 _ c.label_end-end.ensures _ _ c.judge_label.ensures.judges _ c.in_err-judged.was)
+    let n = left_next _ _ _ _ c.in-Some.label c.next.new.self (λ f a r q k. search rules) c.loop-label.invariant.2 c.in-Some.ensures.steps in
+    rw (p.1, p.2) (pass_refused _ _ _ _ _ _ _ _ _ _ _ c.loop-label.invariant.0 _ n.ends _ _ (rw n.is c.judge_label.ensures.judges) _ c.in_err-judged.was)
 
 pub shape_of-answer : goal.shape_of-answer
-shape_of-answer c = c.loop-at.invariant.0.same
+shape_of-answer c = c.loop-label.invariant.0.same
 
 pub shape_of-w : goal.shape_of-w
-shape_of-w c = c.loop-at.invariant.0.same-work
+shape_of-w c = c.loop-label.invariant.0.same-work
 
 pub shape_of-memo : goal.shape_of-memo
-shape_of-memo c = c.loop-at.invariant.1.1.size ∙ sym c.requires.memo.size
+shape_of-memo c = c.loop-label.invariant.1.1.size ∙ sym c.requires.memo.size
 
 pub returns : goal.returns
-returns c = pass_done _ _ _ _ _ _ _ _ _ _ _ c.loop-at.invariant.0 c.loop-at-test.false
+returns c = pass_done _ _ _ _ _ _ _ _ _ _ _ c.loop-label.invariant.0 (omega (arith, left_none _ _ _ c.loop-label.invariant.2 c.in-None.ensures.steps.0))

@@ -1,14 +1,10 @@
 -- `judge_labels`: after each turn the labels so far have passed, and their answers stand in front.
-use Prim.Native.Nat.{◌+◌, ◌-◌}
-use lib.ListN.{length}
 use Rattle.table.specs.Layout.{the_table}
 use Rattle.unpaired.specs.Unpaired.{Unpaired}
 use Rattle.memo.specs.Memo.{Memo}
+use Rattle.name.proofs.Splitting.{Left}
 use Rattle.name_call.proofs.Passing.{Passed}
 use Rattle.name_call.proofs.judge_labels.Given as goal
 
-abbrev pub invariant-loop-at : goal.invariant-loop-at
-invariant-loop-at l = Passed l.setting (the_table l.words) l.name l.initial.answer l.answer l.initial.w l.w l.at l.done l.place l.len × (Unpaired (the_table l.words) l.unpaired × Memo l.words l.memo)
-
-abbrev pub decreases-loop-at : goal.decreases-loop-at
-decreases-loop-at l = length l.name + 1 - l.at
+abbrev pub invariant-loop-label : goal.invariant-loop-label
+invariant-loop-label l = Passed l.setting (the_table l.words) l.name l.initial.answer l.answer l.initial.w l.w l.at l.done l.place l.len × (Unpaired (the_table l.words) l.unpaired × Memo l.words l.memo) × Left l.name l.at l.label-iterator

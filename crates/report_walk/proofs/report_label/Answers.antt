@@ -44,7 +44,7 @@ pub loop-i-preserved : goal.loop-i-preserved
 loop-i-preserved c =
     let i = c.loop-i.invariant in
     let n = c.next_token-token.ensures in
-    (reporting_more _ _ _ _ _ _ _ _ i.0 (omega arith) _ _ _ n.walks _ _ c.put_line-r.ensures, (n.unpaired_2, n.walks.same ∙ i.1.1))
+    (reporting_more _ _ _ _ _ _ _ _ i.0 (omega arith) _ _ _ n.walks _ _ (rw c.is_some.ensures at c.put_line-r.ensures), (n.unpaired_2, n.walks.same ∙ i.1.1))
 
 pub shape_of-unpaired : goal.shape_of-unpaired
 shape_of-unpaired c = omega (arith, c.loop-i.invariant.1.0.size, c.requires.unpaired.size)

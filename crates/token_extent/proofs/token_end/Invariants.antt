@@ -6,7 +6,7 @@ use Rattle.token_extent.proofs.Walking.{Walking}
 use Rattle.token_extent.proofs.token_end.Given as goal
 
 abbrev pub invariant-loop-i : goal.invariant-loop-i
-invariant-loop-i l = Walking (the_table l.words) l.rest l.kind l.number l.i
+invariant-loop-i l = Walking (the_table l.words) l.rest l.token l.i
 
 abbrev pub decreases-loop-i : goal.decreases-loop-i
 decreases-loop-i l = length l.rest - l.i

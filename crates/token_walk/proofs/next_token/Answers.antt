@@ -23,20 +23,20 @@ normalise-length-requires c =
       unpaired = p.unpaired;
       least_work_in_bounds = (
         omega (arith, s.scan-scanned.ensures.same, p.least_work_in_bounds.0),
-        walks_worked _ _ _ _ p.walkable _ e.token_end-extent.ensures _ s.scan-scanned.ensures _ c.in-Tokens.is,
+        walks_worked _ _ _ _ p.walkable _ e.token_end-extent.ensures _ s.scan-scanned.ensures _ c.in-Ok.is,
       );
     }
 
-pub returns-in-Tokens : goal.returns-in-Tokens
-returns-in-Tokens c =
+pub returns-in-Ok : goal.returns-in-Ok
+returns-in-Ok c =
     let p = c.requires in
     let n = c in
     let s = c in
-    let e = s in record { walks = walks_token _ _ _ _ p.walkable _ e.token_end-extent.ensures _ s.scan-scanned.ensures _ c.in-Tokens.is _ _ n.normalise-length.ensures.normal_cells; unpaired_2 = n.normalise-length.ensures.unpaired_2 }
+    let e = s in record { walks = walks_token _ _ _ _ p.walkable _ e.token_end-extent.ensures _ s.scan-scanned.ensures _ c.in-Ok.is _ _ n.normalise-length.ensures.normal_cells; unpaired_2 = n.normalise-length.ensures.unpaired_2 }
 
-pub returns-in-Disallowed : goal.returns-in-Disallowed
-returns-in-Disallowed c =
+pub returns-in-Err : goal.returns-in-Err
+returns-in-Err c =
     let p = c.requires in
     let s = c in
     let e = s in
-    absurd (walks_never _ _ _ _ p.walkable _ e.token_end-extent.ensures _ s.scan-scanned.ensures _ c.in-Disallowed.is)
+    absurd (walks_never _ _ _ _ p.walkable _ e.token_end-extent.ensures _ s.scan-scanned.ensures _ c.in-Err.is)
