@@ -35,7 +35,9 @@ AEABI = {"memcpy": "(void *to, const void *from, size_t count) { memcpy(to, from
 COMPILER = [f"{name}{width}" for name in AEABI for width in ("", "4", "8")] + ["uldivmod", "uidiv", "uidivmod", "lmul", "llsl", "llsr"]
 
 # Functions that call themselves, and how often at most at a time: rounds 4 down to 0; the digits of 64 bits in base 10.
-DEEP = {"decomposition::expand": 5, "nsm_rows::runs::take_rounds": 5, "byte_sink::put_numeral": 20}
+# The library's sort goes down at most twice the logarithm of its length, and its choice of a pivot by eighths: here of 1,024 (`group_numbers` `BATCH`).
+DEEP = {"decomposition::expand": 5, "nsm_rows::runs::take_rounds": 5, "byte_sink::put_numeral": 20,
+        "core::slice::sort::unstable::quicksort": 21, "core::slice::sort::pivot::median_of_medians": 3}
 
 ROUTINE = 64  # bytes of stack that memcpy and the like may take
 
@@ -153,8 +155,9 @@ def frames(usage, text):
             raise Unknown(f"{name} calls itself: DEEP of targets/build.py has to say how often")
         if name not in known:
             open_calls.add(name)
-            below = calls.get(name, set()) - ({name} if name in DEEP else set())
-            own = size.get(name, 0) * DEEP.get(name, 1) if name in calls else ROUTINE
+            often = DEEP.get(name.partition("::<#")[0])  # a generic function's name ends with its instance
+            below = calls.get(name, set()) - ({name} if often else set())
+            own = size.get(name, 0) * (often or 1) if name in calls else ROUTINE
             known[name] = own + max(map(most, below), default=0)
             open_calls.remove(name)
         return known[name]

@@ -58,5 +58,5 @@ MACHINES = [
     riscv("riscv64imac-unknown-none-elf", "rv64imac", "lp64", "qemu-system-riscv64"),
     riscv("riscv32imac-unknown-none-elf", "rv32imac", "ilp32", "qemu-system-riscv32", "-Os"),
     # Functions are made parts of others more readily than by default: one that is handed a codepoint by its place keeps it in memory (docs/STACK.md).
-    Machine("wasm32-unknown-unknown", ["--target=wasm32-unknown-unknown", "-mllvm", "-inline-threshold=500"], 32, level="-O3"),
+    Machine("wasm32-unknown-unknown", ["--target=wasm32-unknown-unknown", "-mllvm", "-inline-threshold=3000"], 32, level="-O3"),
 ]

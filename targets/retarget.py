@@ -38,6 +38,7 @@ SHAPES = [
     rf"define(?: internal)?{HINTS} {ANSWER} {NAME}{TAKEN} #\d+ \{{",
     r"declare void @llvm\.memmove\.p0\.p0\.i64\(ptr writeonly captures\(none\), ptr readonly captures\(none\), i64, i1 immarg\) #\d+",
     r"declare void @llvm\.memset\.p0\.i64\(ptr writeonly captures\(none\), i8, i64, i1 immarg\) #\d+|declare void @llvm\.trap\(\) #\d+",
+    r"declare i64 @llvm\.ctlz\.i64\(i64, i1 immarg\) #\d+",
     r"\}",
     r"[\w.]+:(?: +; (?:preds = .*|No predecessors!))?",
     rf"  %\w+ = alloca (?:{ONE}|{MANY}), align \d+",
@@ -48,6 +49,7 @@ SHAPES = [
     rf"  (?:%\w+ = )?call{HINTS} {ANSWER} {NAME}{GIVEN}(?: #\d+)?",
     rf"  call void @llvm\.memmove\.p0\.p0\.i64\(ptr {WORD}, ptr {WORD}, i64 \d+, i1 false\)",  # a length is always written out
     rf"  call void @llvm\.memset\.p0\.i64\(ptr {WORD}, i8 {WORD}, i64 \d+, i1 false\)|  call void @llvm\.trap\(\)",
+    rf"  %\w+ = call i64 @llvm\.ctlz\.i64\(i64 {WORD}, i1 false\)",  # of 64 bits on every machine
     rf"  %\w+ = (?:add|sub|mul|shl)(?: nuw)?(?: nsw)? {INT} {WORD}, {WORD}",
     rf"  %\w+ = (?:udiv|urem|lshr|and|or|xor)(?: exact| disjoint)? {INT} {WORD}, {WORD}",
     rf"  %\w+ = icmp \w+ {INT} {WORD}, {WORD}|  %\w+ = icmp eq ptr %\w+, null",
@@ -57,7 +59,7 @@ SHAPES = [
     rf"  switch {INT} %\w+, label %[\w.]+ \[|    {INT} -?\d+, label %[\w.]+|  \]",
     rf"  ret (?:void|{ONE} {WORD}|{PAIR} %\w+)|  unreachable",
     rf"attributes #\d+ = \{{ (?:(?:inlinehint|alwaysinline|noinline) )?{re.escape(ATTRIBUTES)} \}}",
-    r"attributes #\d+ = \{(?: (?:nocallback|nofree|nounwind|willreturn|cold|noreturn|memory\((?:argmem|inaccessiblemem): \w+\)))* \}",
+    r"attributes #\d+ = \{(?: (?:nocallback|nofree|nosync|nounwind|speculatable|willreturn|cold|noreturn|memory\((?:none|(?:argmem|inaccessiblemem): \w+)\)))* \}",
     r'!llvm\.ident = !\{!0\}|!\d+ = !\{[^"{}]*\}|!0 = !\{!"rattle logic=[0-9a-f]+"\}',
 ]
 COPIES = re.compile(r'define internal void @"core::ptr::copy_drop::copy_bits::<i\d+>"\(.*')

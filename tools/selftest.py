@@ -510,6 +510,8 @@ class Targets(unittest.TestCase):
     def test_functions_that_call_themselves_are_where_they_are_said_to_be(self):
         for name in build.DEEP:
             crate, *module, function = name.split("::")
+            if crate == "core":  # the library's sort, whose source is the toolchain's
+                continue
             source = (HERE.parent / "crates" / crate / "src" / f"{module[0] if module else 'lib'}.rt").read_text(encoding="utf-8")
             self.assertRegex(source, rf"\bfn {function}\(")
 
