@@ -197,7 +197,7 @@ module _ (part : List ℕ) (number : ℕ) where
     to_stop h = rw (group-stop part 0 at (ListLeft part number n) w h)
 
     module _ (h : at < length part) (v : GroupRecord) (e : v ≡ group_at part at) where
-      pub to_here : n ≡ 0 → ListHere part v.list (list_of (groups_in part) number)
+      pub to_here : n ≡ 0 → ListHere part v.listed v.list (list_of (groups_in part) number)
       unfolding list_of
       to_here z =
           let here = group_here_lem part 0 at (ListLeft part number n) w h in
