@@ -1,5 +1,5 @@
 -- A flag for each group, as the look-alike test keeps them, in most_groups places. Flags are of any type that has one that is set and one that is not,
--- which `bit` tells; where they are numbers, 1 and 0 are put, and each number but 0 is a flag that is set.
+-- which a function tells; where they are numbers, 1 and 0 are put, and each number but 0 is a flag that is set.
 use Rattle.std.specs.Prelude.{ℕ, ◌-◌, ◌<◌, ◌≡◌, Bool, true, false, not, ◌&&◌, cond, List, [], ◌∷◌, ◌++◌, map, ◌⊎◌, length, get_or, replicate, eqb, Option, Some, None}
 use Rattle.lists.specs.Lists.{any}
 use Rattle.group_numbers.specs.Components.{no_group, nth}
@@ -19,7 +19,7 @@ slots gs = gs ++ replicate (most_groups - length gs) no_group
 
 -- a flag for each
 unfoldable pub flags_by : {A : Type 0} → (Bool → A) → (Group → Bool) → List Group → List A
-flags_by bit f gs = map (λ g. bit (f g)) gs
+flags_by of f gs = map (λ g. of (f g)) gs
 
 -- the same as numbers
 abbrev pub flags_for : (Group → Bool) → List Group → List ℕ
