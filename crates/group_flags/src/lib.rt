@@ -87,9 +87,10 @@ pub fn keep_where<F: Flag, T: Fn(usize) -> bool>(flags: &mut [F; 256], test: T)
     requires callable { (i : ℕ) → i < most_groups → T.pre test i }
     ensures { (others : List ℕ) → length others ≡ most_groups → TellsPlaces (T.post test) others → flags.new ≡ kept_by (F.of false) flags.old others }
 {
+    let clear = F::of(false);
     for i in 0..256 {
         if !test(i) {
-            flags[i] = F::of(false);
+            flags[i] = clear;
         }
     }
 }
@@ -131,13 +132,7 @@ fn is_apart(x: u32, own: Option<u32>) -> bool
 
 // Keeps the flags of the groups that hold a member of the whole of c outside its extent, by the components of that whole: those of another
 // component than the groups that hold c.
-pub fn keep_outside<F: Flag>(
-    words: &[u32],
-    ix: Sections,
-    flags: &mut [F; 256],
-    k: &[u32],
-    c: u32,
-)
+pub fn keep_outside<F: Flag>(words: &[u32], ix: Sections, flags: &mut [F; 256], k: &[u32], c: u32)
     requires laid { Laid words.now ix }
     requires k_len { length k.now ≡ most_groups }
     ensures { KeepsOutsideBy (F.of false) (the_table words.now).groups k.now c flags.old flags.new }

@@ -1,6 +1,5 @@
 -- `keep_where` meets its contract: where a list tells what the test answers, what is left to be asked says what is kept.
 use mathlib.Core.Path.{◌≡◌}
-use mathlib.Core.Bool.{false}
 use mathlib.Core.List.{List}
 use Prim.Native.Nat.{ℕ}
 use lib.ListN.{length}
@@ -12,4 +11,4 @@ use Rattle.group_flags.proofs.keep_where.Given as goal
 abbrev pub invariant-loop-i : goal.invariant-loop-i
 invariant-loop-i g l =
     (others : List ℕ) → length others ≡ most_groups → TellsPlaces (goal.T-post g l.fn.test) others
-    → KeepWalk (g.F.Flag.of false) l.initial.flags others l.flags l.i
+    → KeepWalk l.clear l.initial.flags others l.flags l.i
