@@ -25,13 +25,7 @@ const LOOKED: usize = 64;
 const FEW_WHOLES: usize = 8192;
 
 // Keeps the flags of the groups that hold c, or of those that do not, as `held` says.
-fn keep_holding<F: Flag>(
-    words: &[u32],
-    ix: Sections,
-    flags: &mut [F; 256],
-    c: u32,
-    held: bool,
-)
+fn keep_holding<F: Flag>(words: &[u32], ix: Sections, flags: &mut [F; 256], c: u32, held: bool)
     requires { Laid words.now ix }
     ensures { KeptWhere (F.of false) (the_table words.now) (λ g. beq (holds g c) held) flags.old flags.new }
 {
