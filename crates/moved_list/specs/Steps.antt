@@ -1,5 +1,5 @@
 -- What the functions of this crate and the inner ones of `moved` answer.
-use Rattle.std.specs.Prelude.{ℕ, ◌≤◌, ◌≡◌, true, List, [], ◌∷◌, length, Result}
+use Rattle.std.specs.Prelude.{ℕ, ◌≤◌, ◌≡◌, true, List, [], ◌∷◌, length, Result, Option as Answer, Some, None}
 use Rattle.std.proofs.Math.Option.{Option, none, some}
 use Rattle.lists.specs.Lists.{joined_map, on_some}
 use Rattle.ending.specs.Ends.{Judged}
@@ -9,6 +9,11 @@ use Rattle.name.specs.Parts.{Put}
 use Rattle.moved_list.specs.declared.MovedError.{MovedError}
 use Rattle.moved_list.specs.Moved.{in_list, moved_from, moved_before33, moved_listing}
 use Rattle.moved_list.specs.Promise.{moved_values}
+
+-- the number beside a slot, whatever number it is
+abbrev pub number_is : Answer ℕ → Option ℕ
+number_is None = none
+number_is (Some n) = some n
 
 -- the words of a slot's entry, none where it stays
 abbrev pub entry_words : ℕ → Option ℕ → List ℕ
