@@ -9,8 +9,8 @@ ghost use Rattle.table.specs.Layout.{the_table};
 ghost use Rattle.unpaired.specs.Unpaired.{Unpaired};
 ghost use Rattle.memo.specs.Memo.{Memo};
 ghost use Rattle.name.specs.Name.{labels_of};
-ghost use Rattle.refiled.specs.Refiled.{changed};
-ghost use Rattle.refiled.specs.Changes.{change_is};
+ghost use Rattle.refiled.specs.Refiled.{refiled_verdict, changed};
+ghost use Rattle.refiled.specs.Changes.{change_is, verdict_is};
 ghost use Rattle.refiling.specs.Labels.{filed_is, filing, Lent, Lasting};
 
 use answers::Refusal;
@@ -86,6 +86,7 @@ pub fn refile(
 ) -> Result<bool, BookError>
     requires lent { Lent words.now ix unpaired.old w.old memo.old }
     requires in_bounds { (1 ≤ length name.now) × (length name.now ≤ most_input) }
+    ensures verdict { verdict_is result ≡ refiled_verdict words.now (length w.old) name.now }
     ensures result_value { change_is result ≡ changed words.now (length w.old) name.now }
     ensures lasting { Lasting words.now w.old w.new unpaired.new memo.new }
 {
