@@ -13,7 +13,7 @@ use sections::Sections;
 use sections::lookup::in_section;
 use table::lookup::group_at;
 
-// What stands for a flag: a bool, as the look-alike test keeps them, or a number, as a caller may: 1 and 0 are put, and each number but 0 is set.
+// What stands for a flag: a bool, or a number, where 1 and 0 are put and each number but 0 is a flag that is set.
 pub trait Flag: Copy {
     ghost of: { Bool → Self };
 
