@@ -76,24 +76,23 @@ module _ (t : Table) (name : List ℕ) where
     unfolding filing
     go_end h = sym (g.left ∙ rw (parts_none name at h))
 
-    module _ (end : ℕ) (e : LabelEnds name at end) (w w' : List ℕ) (r : Result JudgedLabel Refusal) (j : Judges t at done place (label_at name at end) w w' r) where
+    module _ (end : ℕ) (e : LabelEnds name at end) (l : List ℕ) (is : label_at name at end ≡ l) (w w' : List ℕ) (r : Result JudgedLabel Refusal)
+        (j : Judges t at done place l w w' r) where
       pub go_refused : (f : Refusal) → r ≡ Err f → Refused (number_of f) (place_of f) ≡ filing t 0 0 0 0 true (labels_of name)
       unfolding filing
-      go_refused f er =
-          sym (g.left ∙ rw (parts_next name at end e, judged_refused t at done place (label_at name at end) w w' r f er j))
+      go_refused f er = sym (g.left ∙ rw (parts_next name at end e, is, judged_refused t at done place l w w' r f er j))
 
       pub go_more : (n : ℕ) (k : Kind) (worked : ℕ) → r ≡ Ok (record { length = n; kind = k; worked = worked })
-          → Going t name (end + 1) (done + (worked + 1)) (place + 1) (len + (n + 1)) (same && same_list (take n w') (label_at name at end))
+          → Going t name (end + 1) (done + (worked + 1)) (place + 1) (len + (n + 1)) (same && same_list (take n w') l)
       go_more n k worked er =
-          let a : Accepts (label_verdict t at done place (label_at name at end)) done w' n k worked =
-          judged_accepted t at done place (label_at name at end) w w' r _ er j in
-          let size : length (label_at name at end) ≡ end - at = label-length name at end e in
+          let a : Accepts (label_verdict t at done place l) done w' n k worked = judged_accepted t at done place l w w' r _ er j in
+          let size : length l ≡ end - at = ap length (sym is) ∙ label-length name at end e in
           record {
             left =
-                g.left ∙ rw (parts_next name at end e)
-                (label-next t at done place len same (label_at name at end) (parts_from name (end + 1)) a.label (end + 1) (done + (worked + 1))
-                (place + 1) (len + (n + 1)) (same && same_list (take n w') (label_at name at end)) a.verdict (omega (arith, size, e.from))
-                (omega (arith, a.long)) (omega arith) (omega (arith, a.count)) (rw a.words));
+                g.left ∙ rw (parts_next name at end e, is)
+                (label-next t at done place len same l (parts_from name (end + 1)) a.label (end + 1) (done + (worked + 1)) (place + 1) (len + (n + 1))
+                (same && same_list (take n w') l) a.verdict (omega (arith, size, e.from)) (omega (arith, a.long)) (omega arith) (omega (arith, a.count))
+                (rw a.words));
             inside = omega (arith, e.to);
             few = omega (arith, g.few, e.from);
             spent = omega (arith, a.room);
