@@ -10,18 +10,15 @@ use lib.Seq.{drop-drop}
 use lib.Dec.{leb}
 use Rattle.std.specs.Borrow.{Bor}
 use Rattle.std.specs.List.{prefix_len}
-use Rattle.std.specs.Bool.{then_some}
-use Rattle.std.specs.Option.{MatchOption}
-use Rattle.lists.specs.Lists.{all, take_with, is_empty, is_some, same_list, and_then}
+use Rattle.lists.specs.Lists.{all, take_with, is_empty, is_some, and_then}
 use Rattle.table.specs.declared.Span.{Span}
 use Rattle.table.specs.declared.GroupRecord.{GroupRecord}
 use Rattle.table.specs.Table.{Range, Group, Table}
 use Rattle.table.specs.Layout.{most_flags, in_front, ranges, sequences, is_whitelisted, has_list, flags_fit, group, GroupEnd, group_end, groups, the_table}
-use Rattle.table.specs.Spans.{Fits, within}
-use Rattle.table.specs.Part.{SequencesAt, SequenceHere, records_in, counted_at}
+use Rattle.table.specs.Spans.{within}
+use Rattle.table.specs.Part.{records_in}
 use Rattle.table.specs.GroupPart.{groups_in, GroupsPart, group_at, ListHere, ListAt}
 use Rattle.table.proofs.Lookups.{drop-next, Walk, none-some, false_true, both, only_if-some, in_front-some, and_then-some}
-use Rattle.table.proofs.Records.{records_start, sequences_end, sequences_step, sequence-fits, sequence_items}
 use Rattle.table.proofs.ListSizes.{rest_of}
 use Rattle.table.proofs.GroupWalks.{GroupWalk, group_start, group-stop, group_here_lem, group_here, group_on, list_here, group_uncounted}
 use Rattle.sections.specs.declared.Sections.{Sections}
@@ -141,48 +138,6 @@ module _ (t : Table) (list : List (List ℕ)) (s : List ℕ) where
       go (c ∷ []) i j f = absurd (j refl)
       go (c ∷ d ∷ v) i j f = rw f
 
--- The search in a list: the records before `at` are others.
-pub record Asking (part run : List ℕ) (at : ℕ) : Type 0 where
-  pub left : List (List ℕ)
-  pub walk : SequencesAt part at left
-  pub same : in_list (records_in sequences part) run ≡ in_list left run
-
-module _ (part run : List ℕ) where
-  pub ask_start : is_some (sequences (length part) part) ≡ true → Asking part run 0
-  unfolding records_in
-  ask_start h = go (sequences (length part) part) refl h
-    where
-      go : (o : Option (List (List ℕ))) → sequences (length part) part ≡ o → is_some o ≡ true → Asking part run 0
-      go none e i = absurd (false_true i)
-      go (some xs) e i = record { left = xs; walk = records_start sequences part xs e; same = rw e }
-
-  module _ (at : ℕ) (w : Asking part run at) where
-    pub ask_stop : length part ≤ at → false ≡ in_list (records_in sequences part) run
-    ask_stop h = rw (w.same, sequences_end part at w.left w.walk h)
-
-    module _ (h : at < length part) where
-      pub ask_here : SequenceHere part at w.left
-      ask_here = sequences_step part at w.left w.walk h
-
-      pub ask_room : at + 1 + get_or part at 0 ≤ length part
-      ask_room = ask_here.fits
-
-      module _ (s : Span) (e : s ≡ counted_at part at) where
-        pub ask_fits : Fits part s
-        ask_fits = rw e (sequence-fits part at w.left ask_here)
-
-        pub ask_more : at < s.to
-        ask_more = rw e (omega arith)
-
-        here : in_list (records_in sequences part) run ≡ same_list run (within s part) || in_list ask_here.rest run
-        here = w.same ∙ ap (λ (xs : List (List ℕ)). in_list xs run) ask_here.split ∙ rw (e, sequence_items part at w.left ask_here)
-
-        pub ask_hit : same_list run (within s part) ≡ true → true ≡ in_list (records_in sequences part) run
-        ask_hit b = rw (here, b)
-
-        pub ask_on : same_list run (within s part) ≡ false → Asking part run s.to
-        ask_on b = record { left = ask_here.rest; walk = rw e ask_here.next; same = here ∙ rw b }
-
 -- The walk to the list of a group: it is that of the groups left, of another number.
 abbrev pub ListLeft : List ℕ → ℕ → ℕ → List Group → Type 0
 ListLeft part number n left = list_of (groups_in part) number ≡ list_of left n
@@ -197,7 +152,7 @@ module _ (part : List ℕ) (number : ℕ) where
     to_stop h = rw (group-stop part 0 at (ListLeft part number n) w h)
 
     module _ (h : at < length part) (v : GroupRecord) (e : v ≡ group_at part at) where
-      pub to_here : n ≡ 0 → ListHere part v.list (list_of (groups_in part) number)
+      pub to_here : n ≡ 0 → ListHere part v.listed v.list (list_of (groups_in part) number)
       unfolding list_of
       to_here z =
           let here = group_here_lem part 0 at (ListLeft part number n) w h in

@@ -12,9 +12,10 @@ ghost use Rattle.compounds.specs.Compounds.{marks_of, compounds, in_list, compou
 ghost use Rattle.compounds.specs.ListIs.{ListIs};
 
 use buffers::same;
+use records::Lists;
 use sections::Sections;
 use sections::lookup::is_mark;
-use table::lookup::{counted, group_at};
+use table::lookup::group_at;
 
 // The number of marks that the text begins with.
 fn marks_in_front(words: &[u32], ix: Sections, text: &[u32]) -> usize
@@ -29,16 +30,7 @@ fn in_list(list: &[u32], run: &[u32]) -> bool
     requires { is_some (sequences (length list.now) list.now) ≡ true }
     ensures { result ≡ in_list (records_in sequences list.now) run.now }
 {
-    // by hand: a record's length is its own, and the place goes on by it
-    let mut at: usize = 0;
-    while at < list.len() {
-        let items = counted(list, at);
-        if same(run, items.of(list)) {
-            return true;
-        }
-        at = items.to;
-    }
-    false
+    Lists::of(list).any(|items| same(run, items))
 }
 
 // Whether the list permits a character and the marks behind it.

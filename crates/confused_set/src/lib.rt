@@ -18,15 +18,16 @@ use sections::lookup::whole_of;
 use table::WholeLists;
 use table::lookup::counted;
 
-// The words of the filter. It is lent as an array: a struct of it would have to name its table in a ghost field, and each clause to say which, which
-// is no plainer.
+// The words of the filter. It is lent as so many words: a struct of it would have to name its table in a ghost field, and each clause to say which,
+// which is no plainer.
 pub const FILTER_WORDS: usize = 128;
 
 // The fewest characters that the filter is made for. Making it takes as long as walking the wholes for one character.
 const FEWEST: usize = 3;
 
 // Puts the bits of the items.
-fn note_items(set: &mut [u32; FILTER_WORDS], items: &[u32])
+fn note_items(set: &mut [u32], items: &[u32])
+    requires { length set.old ≡ filter_words }
     ensures { Put set.old set.new (placed items.now) }
 {
     for &c in items {
@@ -35,8 +36,9 @@ fn note_items(set: &mut [u32; FILTER_WORDS], items: &[u32])
 }
 
 // Puts the bits of the confused items of every whole of a section.
-fn note_wholes(part: &[u32], set: &mut [u32; FILTER_WORDS])
-    requires { is_some (wholes (length part.now) part.now) ≡ true }
+fn note_wholes(part: &[u32], set: &mut [u32])
+    requires part_value { is_some (wholes (length part.now) part.now) ≡ true }
+    requires set_len { length set.old ≡ filter_words }
     ensures { Put set.old set.new (noted (wholes_in part.now)) }
 {
     // by hand: a record's length is its own, and the place goes on by it
@@ -52,7 +54,7 @@ fn note_wholes(part: &[u32], set: &mut [u32; FILTER_WORDS])
 // Makes the filter for a text of so many characters. Of few it leaves every bit set, which rules nothing out.
 // The promise only limits the result: a character whose bit is clear is in no confused list, and of a bit that is set nothing is promised. Which bits
 // are set costs or saves time alone: `whole_by` searches the wholes where one is set, and its answer does not depend on it.
-pub fn make_filter(words: &[u32], ix: Sections, set: &mut [u32; FILTER_WORDS], characters: usize)
+pub fn make_filter(words: &[u32], ix: Sections, set: &mut [u32], characters: usize)
     requires laid { Laid words.now ix }
     requires set_value { set.old ≡ replicate filter_words 0xFFFFFFFF }
     ensures { Filter (the_table words.now).wholes set.new }
@@ -65,12 +67,7 @@ pub fn make_filter(words: &[u32], ix: Sections, set: &mut [u32; FILTER_WORDS], c
 }
 
 // Where the lists of the whole of c stand, if c is confused.
-pub fn whole_by(
-    words: &[u32],
-    ix: Sections,
-    set: &[u32; FILTER_WORDS],
-    c: u32,
-) -> Option<WholeLists>
+pub fn whole_by(words: &[u32], ix: Sections, set: &[u32], c: u32) -> Option<WholeLists>
     requires laid { Laid words.now ix }
     requires filter { Filter (the_table words.now).wholes set.now }
     ensures { WholeFound words.now (whole_of (the_table words.now).wholes c) result }

@@ -1,6 +1,6 @@
 -- The ends of the call.
 use Prim.Native.Nat.{ℕ}
-use mathlib.Core.Path.{◌≡◌, ap}
+use mathlib.Core.Path.{◌≡◌, ap, sym, ◌∙◌}
 use mathlib.Core.List.{List}
 use mathlib.Core.Option.{none}
 use Rattle.table.specs.Layout.{parse, the_table}
@@ -24,7 +24,10 @@ module _ (ws part : List ℕ) where
   unfolding emoji_call
   told ix l m f = rw (laid-parse ws ix l) (ap matching f.same)
 
-  pub told-found : (ix : Sections) → Laid ws ix → (m : Answer Match) → FoundBy ws part (find (the_table ws).emoji part) m
-      → emoji_values (Ok m) ≡ emoji_call ws part
-  told-found ix l (Some u) f = told ix l (Some u) f
-  told-found ix l None f = told ix l None f
+  module _ (ix : Sections) (l : Laid ws ix) (o : Answer Match) (f : FoundBy ws part (find (the_table ws).emoji part) o) where
+    pub told-found : (m : Match) → o ≡ Some m
+        → emoji_values (Ok (Some (record { taken = m.taken; index = m.number; selectors = m.selectors }))) ≡ emoji_call ws part
+    told-found m e = ap (λ (x : Answer Match). matching (found_of ws x)) (sym e) ∙ told ix l o f
+
+    pub told-none : o ≡ None → emoji_values (Ok None) ≡ emoji_call ws part
+    told-none e = ap (λ (x : Answer Match). matching (found_of ws x)) (sym e) ∙ told ix l o f

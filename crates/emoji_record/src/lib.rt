@@ -20,7 +20,7 @@ fn sequence_in(part: &[u32], number: usize) -> Span
 {
     let mut left = number;
     let mut at = 0;
-    // by hand: a record's length is its own, and the place goes on by it
+    // by hand: the place of the words is the answer, and `Lists` hands out the words alone
     while at < part.len() {
         let sequence = counted(part, at);
         if left == 0 {

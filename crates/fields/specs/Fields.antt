@@ -1,6 +1,6 @@
 -- The numbers that stand for the answers at the boundary, where 01 gives none: kinds are 1 emoji, 2 ASCII, 3 a group, and whether a table is
 -- sound is a field of its own, so that every rule has its number. Beside a refusal every other field is 0.
-use Rattle.std.specs.Prelude.{ℕ, cond}
+use Rattle.std.specs.Prelude.{ℕ, cond, Option as Answer, Some, None}
 use Rattle.std.proofs.Math.Option.{Option, none, some}
 use Rattle.answers.specs.declared.Kind.{Kind}
 use Rattle.answers.specs.declared.Kind.TheVariants.{Emoji, Ascii, Group}
@@ -60,6 +60,11 @@ label_fields r =
 pub record SoundnessValues : Type 0 where
   pub sound : ℕ
   pub rule : ℕ
+
+-- the number of a broken rule, whatever number it is
+abbrev pub broken_number : Answer ℕ → Option ℕ
+broken_number None = none
+broken_number (Some n) = some n
 
 abbrev pub soundness_numbers : Option ℕ → SoundnessValues
 soundness_numbers none = record { sound = 1; rule = 0 }

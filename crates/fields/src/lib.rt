@@ -3,7 +3,7 @@
 
 ghost use Rattle.std.specs.Prelude.{◌≡◌};
 ghost use Rattle.answers.specs.Values.{unpack_values, name_values, label_values, broken_rule};
-ghost use Rattle.fields.specs.Fields.{unpack_fields, name_fields, label_fields, label_numbers, kind_numbers, kind_fields, soundness_numbers, soundness_fields};
+ghost use Rattle.fields.specs.Fields.{unpack_fields, name_fields, label_fields, label_numbers, kind_numbers, kind_fields, broken_number, soundness_numbers, soundness_fields};
 
 use answers::{AcceptedLabel, AcceptedName, Kind, Refusal, Rule, UnpackError};
 
@@ -143,16 +143,23 @@ impl From<Result<AcceptedLabel, Refusal>> for WanlophengLabel {
     }
 }
 
+// The fields of a table whose lowest broken rule has this number, whatever number it is, or of a sound one.
+pub fn soundness_fields(broken: Option<u32>) -> WanlophengSoundness
+    ensures { soundness_fields result ≡ soundness_numbers (broken_number broken) }
+{
+    match broken {
+        None => WanlophengSoundness { sound: 1, rule: 0 },
+        Some(rule) => WanlophengSoundness { sound: 0, rule },
+    }
+}
+
 impl From<Result<(), Rule>> for WanlophengSoundness {
     ghost from_gives = { λ s r. soundness_fields r ≡ soundness_numbers (broken_rule s) };
 
     fn from(s: Result<(), Rule>) -> WanlophengSoundness {
         match s {
-            Ok(()) => WanlophengSoundness { sound: 1, rule: 0 },
-            Err(rule) => WanlophengSoundness {
-                sound: 0,
-                rule: rule.number(),
-            },
+            Ok(()) => soundness_fields(None),
+            Err(rule) => soundness_fields(Some(rule.number())),
         }
     }
 }

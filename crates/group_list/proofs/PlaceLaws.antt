@@ -9,33 +9,29 @@ use lib.ListN.{length, get_or, take, drop, drop_of_length-le}
 use lib.Seq.{drop-cons}
 use Rattle.name.specs.Parts.{Put}
 use Rattle.listing.specs.Filling.{Holds, Filling, fill_start, fill_end, fill_more}
-use Rattle.group_list.specs.Places.{places_of, is_set, GroupPut}
-
--- the flags from a place on are the flag there and those from the next place on
-flags_next : (fs : List Bool) (i : ℕ) → i < length fs → drop i fs ≡ get_or fs i false ∷ drop (i + 1) fs
-flags_next fs i h = rw add-one (drop-cons fs i false h)
+use Rattle.group_list.specs.Places.{places_of, GroupPut}
 
 -- the flag at i and those behind it
-module _ (flags : List Bool) (before : List ℕ) where
+module _ {A : Type 0} (p : A → Bool) (flags : List A) (before : List ℕ) where
   -- the numbers of the flags before i that are set stand in the list
   pub record Walked (after : List ℕ) (len i : ℕ) : Type 0 where
     pub inside : i ≤ length flags
     pub few : len ≤ i
-    pub filling : Filling (places_of is_set 0 flags) (places_of is_set i (drop i flags)) before after len
+    pub filling : Filling (places_of p 0 flags) (places_of p i (drop i flags)) before after len
 
   pub walk_start : Walked before 0 0
-  walk_start = record { inside = omega arith; few = omega arith; filling = fill_start (places_of is_set 0 flags) before }
+  walk_start = record { inside = omega arith; few = omega arith; filling = fill_start (places_of p 0 flags) before }
 
   module _ (after : List ℕ) (len i : ℕ) (l : Walked after len i) where
-    pub walk_end : length flags ≤ i → Holds (places_of is_set 0 flags) before after len
+    pub walk_end : length flags ≤ i → Holds (places_of p 0 flags) before after len
     unfolding places_of
-    walk_end h = fill_end (places_of is_set 0 flags) before after len (rw (drop_of_length-le flags {i = i} h) at l.filling)
+    walk_end h = fill_end (places_of p 0 flags) before after len (rw (drop_of_length-le flags {i = i} h) at l.filling)
 
-    places_next : (f : Bool) (fs : List Bool) → places_of is_set i (f ∷ fs) ≡ cond (is_set f) (i ∷ []) [] ++ places_of is_set (i + 1) fs
+    places_next : (f : A) (fs : List A) → places_of p i (f ∷ fs) ≡ cond (p f) (i ∷ []) [] ++ places_of p (i + 1) fs
     unfolding places_of
-    places_next f fs = rw (add-one i) (go (is_set f))
+    places_next f fs = rw (add-one i) (go (p f))
       where
-        go : (b : Bool) → cond b (i ∷ places_of is_set (suc i) fs) (places_of is_set (suc i) fs) ≡ cond b (i ∷ []) [] ++ places_of is_set (suc i) fs
+        go : (b : Bool) → cond b (i ∷ places_of p (suc i) fs) (places_of p (suc i) fs) ≡ cond b (i ∷ []) [] ++ places_of p (suc i) fs
         go true = refl
         go false = refl
 
@@ -43,14 +39,16 @@ module _ (flags : List Bool) (before : List ℕ) where
     item_short true = omega arith
     item_short false = omega arith
 
-    pub walk_more : i < length flags → (after' : List ℕ) (len' : ℕ) → GroupPut i (get_or flags i false) after after' len len' → Walked after' len' (i + 1)
-    walk_more h after' len' p =
+    pub walk_more : i < length flags → (d : A) (after' : List ℕ) (len' : ℕ) → GroupPut i (p (get_or flags i d)) after after' len len' → Walked after' len' (i + 1)
+    walk_more h d after' len' g =
+        let f : A = get_or flags i d in
+        let next : drop i flags ≡ f ∷ drop (i + 1) flags = rw add-one (drop-cons flags i d h) in
         record {
           inside = omega arith;
-          few = omega (arith, p.ends, item_short (is_set (get_or flags i false)), l.few);
+          few = omega (arith, g.ends, item_short (p f), l.few);
           filling =
-              fill_more (places_of is_set 0 flags) before after len (cond (is_set (get_or flags i false)) (i ∷ []) []) (places_of is_set (i + 1) (drop (i + 1) flags))
-              after' len' (rw (flags_next flags i h, places_next (get_or flags i false) (drop (i + 1) flags)) at l.filling) p;
+              fill_more (places_of p 0 flags) before after len (cond (p f) (i ∷ []) []) (places_of p (i + 1) (drop (i + 1) flags))
+              after' len' (rw (next, places_next f (drop (i + 1) flags)) at l.filling) g;
         }
 
 -- nothing is put for a flag that is not set

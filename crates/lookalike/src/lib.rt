@@ -9,11 +9,11 @@ ghost use Rattle.table.specs.Layout.{the_table, most_groups};
 ghost use Rattle.table.specs.Lookup.{holds};
 ghost use Rattle.confusable.specs.Confusable as definition;
 ghost use Rattle.confused_set.specs.Filter.{Filter};
-ghost use Rattle.lookalike.specs.Respelling.{KeptWhere, may_respell, Narrowed, Respellings};
+ghost use Rattle.lookalike.specs.Respelling.{KeptWhere, may_respell, Narrowed, RespellingsBy};
 ghost use Rattle.memo.specs.Memo.{Memo};
 
 use confused_set::{FILTER_WORDS, make_filter, whole_by};
-use group_flags::{any_set, flag_holders, keep_outside, keep_where};
+use group_flags::{Flag, any_set, flag_holders, keep_outside, keep_where};
 use memo::recall;
 use sections::Sections;
 use table::WholeLists;
@@ -25,9 +25,9 @@ const LOOKED: usize = 64;
 const FEW_WHOLES: usize = 8192;
 
 // Keeps the flags of the groups that hold c, or of those that do not, as `held` says.
-fn keep_holding(words: &[u32], ix: Sections, flags: &mut [bool; 256], c: u32, held: bool)
+fn keep_holding<F: Flag>(words: &[u32], ix: Sections, flags: &mut [F; 256], c: u32, held: bool)
     requires { Laid words.now ix }
-    ensures { KeptWhere (the_table words.now) (λ g. beq (holds g c) held) flags.old flags.new }
+    ensures { KeptWhere (F.of false) (the_table words.now) (λ g. beq (holds g c) held) flags.old flags.new }
 {
     let mut holders = [false; 256];
     flag_holders(words, ix, &mut holders, c);
@@ -45,7 +45,7 @@ fn rule_out(
 )
     requires laid { Laid words.now ix }
     requires filter { Filter (the_table words.now).wholes filter.now }
-    ensures { KeptWhere (the_table words.now) (λ g. may_respell (the_table words.now) g c) flags.old flags.new }
+    ensures { KeptWhere false (the_table words.now) (λ g. may_respell (the_table words.now) g c) flags.old flags.new }
 {
     let confused = is_confused(words, ix, filter, c);
     keep_holding(words, ix, flags, c, !confused);
@@ -105,18 +105,18 @@ fn looks_plain(words: &[u32], ix: Sections, filter: &[u32; FILTER_WORDS], text: 
 
 // Keeps the flags of the groups that can spell c otherwise: hold it, or, where it is confused, hold a member of its whole
 // outside its extent. Answers whether c is confused.
-fn narrow(
+fn narrow<F: Flag>(
     words: &[u32],
     ix: Sections,
     filter: &[u32; FILTER_WORDS],
     memo: &mut [u32],
-    flags: &mut [bool; 256],
+    flags: &mut [F; 256],
     c: u32,
 ) -> bool
     requires laid { Laid words.now ix }
     requires filter { Filter (the_table words.now).wholes filter.now }
     requires memo { Memo words.now memo.old }
-    ensures narrowed { Narrowed (the_table words.now) c flags.old flags.new result }
+    ensures narrowed { Narrowed F.of (the_table words.now) c flags.old flags.new result }
     ensures memo_2 { Memo words.now memo.new }
 {
     let whole = whole_by(words, ix, filter, c);
@@ -137,19 +137,19 @@ fn narrow(
 
 // Keeps, of flags that are all set, those of the groups that can spell each character of the text otherwise, by a filter. Answers whether the text
 // has a confused character.
-fn respellings_by(
+fn respellings_by<F: Flag>(
     words: &[u32],
     ix: Sections,
     filter: &[u32; FILTER_WORDS],
     text: &[u32],
     memo: &mut [u32],
-    flags: &mut [bool; 256],
+    flags: &mut [F; 256],
 ) -> bool
     requires laid { Laid words.now ix }
     requires filter { Filter (the_table words.now).wholes filter.now }
     requires memo { Memo words.now memo.old }
-    requires flags_value { flags.old ≡ replicate most_groups true }
-    ensures respellings { Respellings (the_table words.now) text.now flags.new result }
+    requires flags_value { flags.old ≡ replicate most_groups (F.of true) }
+    ensures respellings { RespellingsBy F.of (the_table words.now) text.now flags.new result }
     ensures memo_2 { Memo words.now memo.new }
 {
     let mut seen = false;
@@ -160,17 +160,17 @@ fn respellings_by(
 }
 
 // The same without a filter, which is made.
-pub fn respellings(
+pub fn respellings<F: Flag>(
     words: &[u32],
     ix: Sections,
     text: &[u32],
     memo: &mut [u32],
-    flags: &mut [bool; 256],
+    flags: &mut [F; 256],
 ) -> bool
     requires laid { Laid words.now ix }
     requires memo { Memo words.now memo.old }
-    requires flags_value { flags.old ≡ replicate most_groups true }
-    ensures respellings { Respellings (the_table words.now) text.now flags.new result }
+    requires flags_value { flags.old ≡ replicate most_groups (F.of true) }
+    ensures respellings { RespellingsBy F.of (the_table words.now) text.now flags.new result }
     ensures memo_2 { Memo words.now memo.new }
 {
     let mut filter = [0xFFFFFFFF; FILTER_WORDS];

@@ -18,13 +18,12 @@ use Rattle.limits.specs.Limits.{most_input}
 use Rattle.answers.specs.Verdict.{Verdict, accepted, refused, next}
 use Rattle.answers.specs.Values.{number_of, place_of}
 use Rattle.answers.specs.declared.Refusal.{Refusal}
-use Rattle.ending.specs.Ends.{Ends, Judged}
 use Rattle.ending.specs.Finish.{Finishes}
 use Rattle.table.specs.Layout.{the_table}
 use Rattle.name.specs.Label.{admitted}
 use Rattle.name.specs.Admission.{AdmissionIs}
 use Rattle.name.specs.Parts.{Put}
-use Rattle.book_slots.specs.Book.{area_size, front_size, slot_count, slot_size, form_room, Slot, slot_of, slots_in, name_of}
+use Rattle.book_slots.specs.Book.{area_size, front_size, slot_count, slot_size, form_room, Slot, slot_of, slots_in}
 use Rattle.book_slots.specs.Damage.{slot_damaged, name_twice, damaged}
 use Rattle.book_slots.specs.SlotLaws.{slots_long}
 use Rattle.book_slots.proofs.Naming.{name_part}
@@ -32,7 +31,7 @@ use Rattle.book_damage.proofs.Damages.{not_too_long}
 use Rattle.book_answers.specs.Calls.{area_number, opened}
 use Rattle.book_forms.specs.Forms.{OpeningIs}
 use Rattle.book_answers.specs.declared.AreaError.{AreaError}
-use Rattle.refiled.specs.Refiled.{changed}
+use Rattle.refiled.specs.Refiled.{refiled_verdict, changed}
 use Rattle.listing.specs.Listing.{listed_long}
 use Rattle.listing.specs.Filling.{Holds, Filling, fill_start, fill_end, fill_more}
 use Rattle.listing.specs.Listed.{judged-listed, judged_refused}
@@ -41,7 +40,7 @@ use Rattle.moved_list.specs.declared.MovedError.{MovedError}
 use Rattle.moved_list.specs.declared.MovedError.TheVariants.{Area, Refused, NoRoom}
 use Rattle.moved_list.specs.Moved.{Entry, in_list, slot_change, moved_from, moved_before33, moved_listing, moved_call}
 use Rattle.moved_list.specs.Promise.{moved_values, MovedCalls}
-use Rattle.moved_list.specs.Steps.{entry_words, SlotsListed, moved_entries, MovedJudged}
+use Rattle.moved_list.specs.Steps.{slot_verdict, entry_words, SlotsListed, moved_entries, MovedJudged}
 
 nonzero : (n : ℕ) → (n ≡ 0 → ⊥) → 1 ≤ n
 nonzero zero h = absurd (h refl)
@@ -67,10 +66,19 @@ module _ (words : List ℕ) (work : ℕ) (slot : List ℕ) where
   unfolding slot_change
   free_stays e = rw (eq-eqb (get_or slot 0 0) 0 e)
 
+  pub free_verdict : get_or slot 0 0 ≡ 0 → accepted true ≡ slot_verdict words work (slot_of slot)
+  unfolding slot_verdict
+  free_verdict e = rw (eq-eqb (get_or slot 0 0) 0 e)
+
   pub filed_change : slot_damaged (slot_of slot) ≡ false → (get_or slot 0 0 ≡ 0 → ⊥) → (c : Option ℕ)
       → c ≡ changed words work (take (1 + get_or slot 0 0 - 1) (drop 1 slot)) → c ≡ slot_change words work (slot_of slot)
   unfolding slot_change
   filed_change whole h c e = e ∙ rw (name_part slot (form_short slot whole), ne_eqb (get_or slot 0 0) 0 h)
+
+  pub filed_verdict : slot_damaged (slot_of slot) ≡ false → (get_or slot 0 0 ≡ 0 → ⊥) → (v : Verdict Bool)
+      → v ≡ refiled_verdict words work (take (1 + get_or slot 0 0 - 1) (drop 1 slot)) → v ≡ slot_verdict words work (slot_of slot)
+  unfolding slot_verdict
+  filed_verdict whole h v e = e ∙ rw (name_part slot (form_short slot whole), ne_eqb (get_or slot 0 0) 0 h)
 
 -- the entry of a slot in front of those behind it
 entry_next : (words : List ℕ) (work i : ℕ) (s : Slot) (slots : List Slot) (c : Option ℕ) → c ≡ slot_change words work s

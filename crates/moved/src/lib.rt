@@ -6,12 +6,12 @@ ghost use Rattle.limits.specs.Limits.{least_work};
 ghost use Rattle.sections.specs.Laid.{Laid};
 ghost use Rattle.book_slots.specs.Book.{slot_count, slot_of};
 ghost use Rattle.book_slots.specs.Damage.{slot_damaged};
-ghost use Rattle.refiled.specs.Changes.{change_is};
+ghost use Rattle.refiled.specs.Changes.{change_is, verdict_is};
 ghost use Rattle.refiling.specs.Labels.{Lent, Lasting};
 ghost use Rattle.lists.specs.Lists.{any};
 ghost use Rattle.moved_list.specs.Moved.{slot_change};
 ghost use Rattle.moved_list.specs.Promise.{MovedCalls};
-ghost use Rattle.moved_list.specs.Steps.{SlotsListed, MovedJudged};
+ghost use Rattle.moved_list.specs.Steps.{slot_verdict, SlotsListed, MovedJudged};
 
 use book_answers::BookError;
 use book_forms::open;
@@ -36,6 +36,7 @@ fn slot_change(
 ) -> Result<bool, BookError>
     requires whole { slot_damaged (slot_of slot.now) ≡ false }
     requires lent { Lent words.now ix unpaired.old w.old memo.old }
+    ensures verdict { verdict_is result ≡ slot_verdict words.now (length w.old) (slot_of slot.now) }
     ensures result_value { change_is result ≡ slot_change words.now (length w.old) (slot_of slot.now) }
     ensures lasting { Lasting words.now w.old w.new unpaired.new memo.new }
 {

@@ -1,14 +1,26 @@
 -- What the functions of this crate and the inner ones of `moved` answer.
-use Rattle.std.specs.Prelude.{ℕ, ◌≤◌, ◌≡◌, true, List, [], ◌∷◌, length, Result}
+use Rattle.std.specs.Prelude.{ℕ, ◌≤◌, ◌≡◌, Bool, true, cond, List, [], ◌∷◌, length, Result, Option as Answer, Some, None}
 use Rattle.std.proofs.Math.Option.{Option, none, some}
 use Rattle.lists.specs.Lists.{joined_map, on_some}
+use Rattle.answers.specs.Verdict.{Verdict, accepted}
 use Rattle.ending.specs.Ends.{Judged}
-use Rattle.book_slots.specs.Book.{Slot, slot_count}
+use Rattle.book_slots.specs.Book.{Slot, slot_count, is_free, name_of}
 use Rattle.listing.specs.Filling.{Holds}
 use Rattle.name.specs.Parts.{Put}
+use Rattle.refiled.specs.Refiled.{refiled_verdict}
 use Rattle.moved_list.specs.declared.MovedError.{MovedError}
 use Rattle.moved_list.specs.Moved.{in_list, moved_from, moved_before33, moved_listing}
 use Rattle.moved_list.specs.Promise.{moved_values}
+
+-- whether the name of a slot stays as it is filed, or the refusal with its place; a free slot stays
+unfoldable pub slot_verdict : List ℕ → ℕ → Slot → Verdict Bool
+unfolding refiled_verdict
+slot_verdict words work s = cond (is_free s) (accepted true) (refiled_verdict words work (name_of s))
+
+-- the number beside a slot, whatever number it is
+abbrev pub number_is : Answer ℕ → Option ℕ
+number_is None = none
+number_is (Some n) = some n
 
 -- the words of a slot's entry, none where it stays
 abbrev pub entry_words : ℕ → Option ℕ → List ℕ

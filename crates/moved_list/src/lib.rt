@@ -5,7 +5,7 @@ ghost use Rattle.std.specs.Prelude.{◌≤◌, ◌*◌, ◌≡◌};
 ghost use Rattle.book_slots.specs.Book.{slot_count};
 ghost use Rattle.refiled.specs.Changes.{change_is};
 ghost use Rattle.moved_list.specs.Promise.{moved_number, moved_place};
-ghost use Rattle.moved_list.specs.Steps.{EntryPut, moved_entries};
+ghost use Rattle.moved_list.specs.Steps.{number_is, EntryPut, moved_entries};
 ghost use Rattle.moved_list.specs.declared.MovedError.TheVariants.{Area, Refused};
 
 use answers::Refusal;
@@ -59,8 +59,30 @@ impl From<Refusal> for MovedError {
     }
 }
 
-// Puts the entry of a slot behind the first `len` words of the list, if there is one and it fits: none where the name stays as it is filed. Answers the
-// length with it.
+// The number beside a slot: the refusal, 0 where the name is filed otherwise, and none where it stays as it is filed.
+fn number_beside(change: Result<bool, BookError>) -> Option<u32>
+    ensures { number_is result ≡ change_is change }
+{
+    match change {
+        Ok(true) => None,
+        Ok(false) => Some(0),
+        Err(e) => Some(e.number()),
+    }
+}
+
+// Puts the entry of a slot, its number and the one beside it, whatever that is, behind the first `len` words of the list, if it fits; none where there is
+// no number. Answers the length with it.
+pub fn put_change(list: &mut [u32], len: usize, slot: usize, change: Option<u32>) -> usize
+    requires { (len ≤ 2 * slot_count) × (slot ≤ slot_count) }
+    ensures { EntryPut slot (number_is change) list.old list.new len result }
+{
+    match change {
+        None => len,
+        Some(number) => put_label(list, len, true, &[slot as u32, number]),
+    }
+}
+
+// Puts the entry of a slot so, where a table files its name otherwise or not at all.
 pub fn put_entry(
     list: &mut [u32],
     len: usize,
@@ -70,12 +92,7 @@ pub fn put_entry(
     requires { (len ≤ 2 * slot_count) × (slot ≤ slot_count) }
     ensures { EntryPut slot (change_is change) list.old list.new len result }
 {
-    let number = match change {
-        Ok(true) => return len,
-        Ok(false) => 0,
-        Err(e) => e.number(),
-    };
-    put_label(list, len, true, &[slot as u32, number])
+    put_change(list, len, slot, number_beside(change))
 }
 
 // The words of the entries, two each; none beside a refusal.

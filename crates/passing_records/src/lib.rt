@@ -9,13 +9,14 @@ ghost use Rattle.table.specs.Part.{records_in};
 ghost use Rattle.sound_parts.specs.Parts.{Holds, as_headed};
 ghost use Rattle.unpaired.specs.Unpaired.{Unpaired, Asked};
 ghost use Rattle.second_items.specs.Seconds.{SecondsHeld};
+ghost use Rattle.records.specs.Left.{heads_left};
 ghost use Rattle.passing_records.specs.Records.{record_passes, record_passes_in};
 
 use passing::passes;
+use records::Heads;
 use second_items::second_held;
 use sections::Sections;
 use table::Span;
-use table::lookup::counted;
 
 // Whether the head of a decomposition passes, and its second item, if it is a composition pair.
 fn record_passes(
@@ -46,17 +47,12 @@ fn records_pass(words: &[u32], ix: Sections, unpaired: &mut [u32], held: bool, p
     requires laid { Laid words.now ix }
     requires unpaired { Unpaired (the_table words.now) unpaired.old }
     requires seconds_held { SecondsHeld (the_table words.now) held }
-    requires holds { Holds as_headed part.now }
-    ensures { Asked (the_table words.now) unpaired.new (all (record_passes_in (the_table words.now)) (records_in as_headed part.now)) result }
+    ensures { Asked (the_table words.now) unpaired.new (all (record_passes_in (the_table words.now)) (heads_left part.now)) result }
 {
-    // by hand: a record's length is its own, and the place goes on by it
-    let mut i: usize = 0;
-    while i < part.len() {
-        let s = counted(part, i + 1);
-        if !record_passes(words, ix, unpaired, held, part[i], s.of(part)) {
+    for (head, items) in Heads::of(part) {
+        if !record_passes(words, ix, unpaired, held, head, items) {
             return false;
         }
-        i = s.to;
     }
     true
 }

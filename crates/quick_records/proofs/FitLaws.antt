@@ -1,20 +1,22 @@
 -- Laws of what is asked of each decomposition.
-use Prim.Native.Nat.{ℕ, zero, suc, ◌+◌, ◌≤◌, ◌<◌}
+use Prim.Native.Nat.{ℕ, zero, suc, ◌+◌, ◌≤◌}
 use native.Mathlib.Omega.{arith}
-use mathlib.Core.Path.{◌≡◌, refl, sym, ◌∙◌, ap}
+use mathlib.Core.Path.{◌≡◌, refl, sym, ◌∙◌, ap, subst}
 use mathlib.Core.Bool.{Bool, true, false, not, ◌||◌, cond}
-use mathlib.Core.List.{List, [], ◌∷◌}
-use lib.ListN.{length, get_or, replicate, length-take, length-drop, length-replicate}
+use mathlib.Core.Logic.{◌⊎◌, inl, inr}
+use mathlib.Core.List.Memᴰ
+use mathlib.Core.List.{List, [], ◌∷◌, Memᴰ}
+use lib.ListN.{length, get_or, replicate, length-replicate}
 use lib.Dec.{eqb}
 use borrow.Author.Tests.{eq-eqb, eqb-true}
 use Rattle.lists.specs.Lists.{mem}
 use Rattle.lists.specs.Tests.{never}
 use Rattle.table.specs.Table.{Table, Headed}
-use Rattle.table.specs.Layout.{most_items, the_table}
+use Rattle.table.specs.Layout.{the_table}
 use Rattle.table.specs.Lookup.{in_quick_check, table_class}
 use Rattle.table.specs.Spans.{within}
-use Rattle.table.specs.Part.{in_pairs, class_among, HeadedHere}
-use Rattle.table.proofs.Lookups.{drop-two, pairs-ranges, class-ranges}
+use Rattle.table.specs.Part.{in_pairs, class_among, heads_in}
+use Rattle.table.proofs.Lookups.{pairs-ranges, class-ranges}
 use Rattle.halving.specs.Halving.{FirstCovers}
 use Rattle.heads.specs.Heads.{rising}
 use Rattle.halving.specs.Stride.{pairs_covers, triples_covers, items_covers}
@@ -28,11 +30,10 @@ use Rattle.text.specs.Composition.{is_two, is_pair}
 use Rattle.sound_parts.specs.Parts.{record_of}
 use Rattle.unpaired.specs.Unpaired.{may_compose}
 use Rattle.quick_filters.specs.Filter.{filter_words, holds, RunsNoted}
-use Rattle.quick_levels.specs.Walk.{Each, Few, Passed, Indexed, items_at}
+use Rattle.quick_levels.specs.Walk.{Each, Few, Indexed}
 use Rattle.quick_records.specs.Fit.{PartOf, SetOf, Cleared, ByHead, Behind, Composing, RecordAsked, Fitting}
 use Rattle.quick_seconds.specs.Seconds.{Good, SecondAsked}
 use Rattle.quick_filters.proofs.FilterLaws.{was_clear}
-use Rattle.quick_levels.proofs.WalkLaws.{passed_here, passed_more}
 
 or_false : (a b : Bool) → (a || b) ≡ false → (a ≡ false) × (b ≡ false)
 or_false true b e = absurd (never true refl e)
@@ -79,27 +80,29 @@ module _ (t : Table) (good : List ℕ) (inside : Bool) (head a b : ℕ) (r : Boo
         fits = λ k. record { second = λ q. s.fits e; outer = λ o. record { paired = pair_is t head a b ∙ c.pair; first = c.outside; behind = f k } };
       }
 
--- the record at a place
-module _ (t : Table) (part good : List ℕ) (inside : Bool) (i n : ℕ) (h : i + 2 + n ≤ length part) where
+-- a record, by its number of items
+module _ (t : Table) (good : List ℕ) (inside : Bool) (head : ℕ) (items : List ℕ) where
   not_two : (s : List ℕ) → (length s ≡ 2 → ⊥) → is_two s ≡ false
   not_two [] e = refl
   not_two (a ∷ []) e = refl
   not_two (a ∷ b ∷ []) e = absurd (e refl)
   not_two (a ∷ b ∷ c ∷ s) e = refl
 
-  pub at_other : Good t good → (n ≡ 2 → ⊥) → RecordAsked t good inside (record_of (get_or part i 0) (items_at part i n)) inside
+  pub other_number : Good t good → (length items ≡ 2 → ⊥) → RecordAsked t good inside (record_of head items) inside
   unfolding is_pair
-  at_other g e =
-      let l : length (items_at part i n) ≡ n = simp (length-take, length-drop) (omega arith) in
-      let f : is_two (items_at part i n) ≡ false = not_two (items_at part i n) (λ k. e (sym l ∙ k)) in
+  other_number g e =
+      let f : is_two items ≡ false = not_two items e in
       record { kept = g; fits = λ k. record { second = λ q. never true refl (sym (sym (rw f) ∙ q)); outer = λ o. never inside k o } }
 
-  pub at-two : (r : Bool) → n ≡ 2 → RecordAsked t good inside (record_of (get_or part i 0) (get_or part (i + 2) 0 ∷ get_or part (i + 3) 0 ∷ [])) r
-      → RecordAsked t good inside (record_of (get_or part i 0) (items_at part i n)) r
-  at-two r e k =
-      let three : i + 2 + 1 ≡ i + 3 = omega arith in
-      let two : items_at part i n ≡ get_or part (i + 2) 0 ∷ get_or part (i + 3) 0 ∷ [] = rw (e, drop-two part (i + 2) (omega arith), three) in
-      rw two k
+  pub two_items : (r : Bool) → length items ≡ 2 → RecordAsked t good inside (record_of head (get_or items 0 0 ∷ get_or items 1 0 ∷ [])) r
+      → RecordAsked t good inside (record_of head items) r
+  two_items r e k = rw (two items e) k
+    where
+      two : (s : List ℕ) → length s ≡ 2 → s ≡ get_or s 0 0 ∷ get_or s 1 0 ∷ []
+      two [] e = absurd (omega arith)
+      two (a ∷ []) e = absurd (omega arith)
+      two (a ∷ b ∷ []) e = refl
+      two (a ∷ b ∷ c ∷ s) e = absurd (omega arith)
 
 -- a record was judged, with its head in the set or outside
 pub record Judged (t : Table) (good : List ℕ) (x : Headed) (r : Bool) : Type 0 where
@@ -117,18 +120,23 @@ judged_inside t good set x r s c a =
 pub judged_outside : (t : Table) (good : List ℕ) (x : Headed) (r : Bool) → RecordAsked t good false x r → Judged t good x r
 judged_outside t good x r a = record { kept = a.kept; fits = λ e. record { second = (a.fits e).second; outer = λ o. (a.fits e).outer refl } }
 
--- the walk
-pub fits_more : (t : Table) (part good : List ℕ) (i : ℕ) (w : Passed (Fitting t) part i) (h : i < length part) (r : Bool)
-    → Judged t good (record_of (get_or part i 0) (items_at part i (get_or part (i + 1) 0))) r → r ≡ true
-    → (next : ℕ) → next ≡ i + 2 + get_or part (i + 1) 0 → Passed (Fitting t) part next
-fits_more t part good i w h r a ok next e =
-    passed_more (Fitting t) part i w (Fitting t) (λ y k. k) h (fitting x.first x.head x.items) next e
-  where
-    x : HeadedHere most_items part i w.left
-    x = passed_here (Fitting t) part i w h
+-- A walk over the decompositions has come so far that all of them fit where those that are left do.
+abbrev pub Decides : Table → List Headed → Type 0
+Decides t left = Each (Fitting t) left → Each (Fitting t) t.decompositions
 
-    fitting : (y : Headed) → y.head ≡ get_or part i 0 → y.items ≡ items_at part i (get_or part (i + 1) 0) → Fitting t y
-    fitting y p q = let k : Fitting t (record_of y.head y.items) = rw (p, q) (a.fits ok) in k
+pub decides_start : (t : Table) (part : List ℕ) (left : List Headed) → PartOf t part → left ≡ heads_in part → Decides t left
+decides_start t part left p e f = subst (λ (l : List Headed). Each (Fitting t) l) (e ∙ p.are) f
+
+module _ (t : Table) (left : List Headed) (w : Decides t left) where
+  pub decides_more : (x : Headed) (later : List Headed) → left ≡ x ∷ later → Fitting t x → Decides t later
+  decides_more x later e k f = w (λ y m. one y (Memᴰ.cases_cons (rw e at m)))
+    where
+      one : (y : Headed) → (y ≡ x) ⊎ Memᴰ y later → Fitting t y
+      one y (inl q) = rw q k
+      one y (inr m) = f y m
+
+  pub decides_all : left ≡ [] → Each (Fitting t) t.decompositions
+  decides_all e = w (λ y m. absurd (Memᴰ.not-nil (rw e at m)))
 
 -- what the other sections say nothing of
 pub set_of : (ws : List ℕ) (ix : Sections) → Laid ws ix → SetOf (the_table ws) (within ix.quick ws)

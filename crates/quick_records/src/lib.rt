@@ -5,6 +5,7 @@ use quick_filters::filters::{may_hold, note_runs};
 use quick_filters::slots::find_slot;
 use quick_levels::index_records;
 use quick_seconds::second_fits;
+use records::Heads;
 use sections::Sections;
 use sections::lookup::in_quick_check;
 use text::class::class_of;
@@ -23,7 +24,7 @@ struct Lent<'a> {
     said: &'a [u32],
 }
 
-ghost use Rattle.std.specs.Prelude.{◌≡◌, true, false, ℕ, ◌+◌, ◌≤◌, ◌%◌, length, get_or};
+ghost use Rattle.std.specs.Prelude.{◌≡◌, true, false, ℕ, ◌≤◌, ◌%◌, length};
 ghost use Rattle.sections.specs.Laid.{Laid};
 ghost use Rattle.table.specs.Layout.{the_table};
 ghost use Rattle.table.specs.Part.{in_pairs};
@@ -31,7 +32,7 @@ ghost use Rattle.text.specs.Ordering.{out_of_order};
 ghost use Rattle.sound_parts.specs.Parts.{record_of};
 ghost use Rattle.heads.specs.Heads.{rising};
 ghost use Rattle.quick_filters.specs.Filter.{filter_words};
-ghost use Rattle.quick_levels.specs.Walk.{Each, Few, items_at};
+ghost use Rattle.quick_levels.specs.Walk.{Each, Few};
 ghost use Rattle.quick_records.specs.Fit.{PartOf, SetOf, Cleared, Behind, Lending, Composing, RecordAsked, Fitting};
 ghost use Rattle.quick_seconds.specs.Seconds.{HeadsHeld, Good};
 
@@ -127,27 +128,26 @@ fn composes(words: &[u32], ix: Sections, lent: &Lent<'_>, head: u32, a: u32) -> 
     may_compose(head, words, ix, a)
 }
 
-// Whether the record of n items at i fits, where its head is in the set: one item is no composition pair.
+// Whether a record fits whose head is in the set: one item is no composition pair.
 fn fits_inside(
     words: &[u32],
     ix: Sections,
     lent: &Lent<'_>,
     good: &mut [u32],
-    i: usize,
-    n: usize,
+    head: u32,
+    items: &[u32],
 ) -> bool
     requires lent { Laid words.now ix × Lending (the_table words.now) lent.now }
-    requires good { Good (the_table words.now) good.old × (i + 2 + n ≤ length lent.now.part.now) }
-    ensures { RecordAsked (the_table words.now) good.new true
-        (record_of (get_or lent.now.part.now i 0) (items_at lent.now.part.now i n)) result }
+    requires good { Good (the_table words.now) good.old }
+    ensures { RecordAsked (the_table words.now) good.new true (record_of head items.now) result }
 {
-    if n != 2 {
+    if items.len() != 2 {
         return true;
     }
-    if second_fits(words, ix, lent.heads, good, lent.part[i + 3]) {
+    if second_fits(words, ix, lent.heads, good, items[1]) {
         return true;
     }
-    !may_compose(lent.part[i], words, ix, lent.part[i + 2])
+    !may_compose(head, words, ix, items[0])
 }
 
 // The same, where its head may be outside the set.
@@ -156,23 +156,22 @@ fn fits_outside(
     ix: Sections,
     lent: &Lent<'_>,
     good: &mut [u32],
-    i: usize,
-    n: usize,
+    head: u32,
+    items: &[u32],
 ) -> bool
     requires lent { Laid words.now ix × Lending (the_table words.now) lent.now }
-    requires good { Good (the_table words.now) good.old × (i + 2 + n ≤ length lent.now.part.now) }
-    ensures { RecordAsked (the_table words.now) good.new false
-        (record_of (get_or lent.now.part.now i 0) (items_at lent.now.part.now i n)) result }
+    requires good { Good (the_table words.now) good.old }
+    ensures { RecordAsked (the_table words.now) good.new false (record_of head items.now) result }
 {
-    if n != 2 {
+    if items.len() != 2 {
         return false;
     }
-    let a = lent.part[i + 2];
-    let b = lent.part[i + 3];
+    let a = items[0];
+    let b = items[1];
     if !second_fits(words, ix, lent.heads, good, b) {
         return false;
     }
-    if !composes(words, ix, lent, lent.part[i], a) {
+    if !composes(words, ix, lent, head, a) {
         return false;
     }
     stands_behind(words, ix, lent, a, b)
@@ -184,23 +183,17 @@ fn all_fit(words: &[u32], ix: Sections, lent: &Lent<'_>, set: &[u32], good: &mut
     requires good { Good (the_table words.now) good.old × SetOf (the_table words.now) set.now }
     ensures { result ≡ true → Each (Fitting (the_table words.now)) (the_table words.now).decompositions }
 {
-    let part = lent.part;
     let mut k: usize = 0;
-    // by hand: a record's length is its own, and the place goes on by it
-    let mut i: usize = 0;
-    while i < part.len() {
-        let head = part[i];
-        let n = part[i + 1] as usize;
+    for (head, items) in Heads::of(lent.part) {
         k = advance(set, k, head);
         let fits = if covers(set, k, head, head) {
-            fits_inside(words, ix, lent, good, i, n)
+            fits_inside(words, ix, lent, good, head, items)
         } else {
-            fits_outside(words, ix, lent, good, i, n)
+            fits_outside(words, ix, lent, good, head, items)
         };
         if !fits {
             return false;
         }
-        i += n + 2;
     }
     true
 }

@@ -8,8 +8,8 @@ use mathlib.Core.Bool.{Bool, true, false, not, ◌&&◌, cond}
 use mathlib.Core.List.{List, [], ◌∷◌, map}
 use mathlib.Core.Option.{none, some}
 use lib.ListN.{length, take, length-append}
-use lib.Dec.{eqb, ltb}
-use borrow.Author.Tests.{eq-eqb, ne_eqb}
+use lib.Dec.{ltb}
+use borrow.Author.Tests.{ne_eqb}
 use Rattle.lists.specs.Lists.{place_with, join_with, split, same_list}
 use Rattle.lists.specs.Splits.{split-some}
 use Rattle.limits.specs.Limits.{least_work, most_input, most_worked}
@@ -17,12 +17,13 @@ use Rattle.answers.specs.Verdict.{Verdict, accepted, refused, next}
 use Rattle.answers.specs.Values.{number_of, place_of}
 use Rattle.answers.specs.declared.Kind.{Kind}
 use Rattle.answers.specs.declared.Refusal.{Refusal}
+use Rattle.answers.specs.declared.Refusal.TheVariants.{NotScalar}
 use Rattle.table.specs.Table.{Table}
 use Rattle.sections.specs.Laid.{Laid}
 use Rattle.table.specs.Layout.{the_table}
 use Rattle.sections.specs.declared.Sections.{Sections}
 use Rattle.scalar.specs.Scalar.{is_scalar}
-use Rattle.name.specs.Label.{Label, stop, answer, admitted, label_verdict, label_by}
+use Rattle.name.specs.Label.{Label, stop, answer, label_verdict, label_by}
 use Rattle.name.specs.Permitted.{by_off}
 use Rattle.name.specs.Name.{labels_of, labels_verdict, name_answer, name_before15}
 use Rattle.name.specs.Parts.{label_at, LabelEnds, parts_from, most_label}
@@ -32,8 +33,11 @@ use Rattle.name.proofs.Parting.{label-length, parts_next, parts_all, parts_none}
 use Rattle.one_label.proofs.Said.{judged_accepted, judged_refused}
 use Rattle.book_slots.specs.Book.{form_room}
 use Rattle.book_answers.specs.Calls.{fileable}
-use Rattle.refiled.specs.Refiled.{form_by, change_of, changed}
-use Rattle.refiled.specs.Changes.{change_by}
+use Rattle.book_answers.specs.declared.BookError.{BookError}
+use Rattle.book_answers.specs.declared.BookError.TheVariants as book
+use Rattle.refiled.specs.Refiled.{form_by, refiled_verdict, changed}
+use Rattle.refiled.specs.Changes.{change_is, verdict_by, verdict_is}
+use Rattle.refiled.proofs.ChangeLaws.{change-changed}
 use Rattle.refiling.specs.declared.FiledForm.{FiledForm}
 use Rattle.refiling.specs.Labels.{Filed, Refused, Form, filed_is, on_label, filing}
 use Rattle.refiling.proofs.Joins.{alike, alike_joined}
@@ -72,24 +76,23 @@ module _ (t : Table) (name : List ℕ) where
     unfolding filing
     go_end h = sym (g.left ∙ rw (parts_none name at h))
 
-    module _ (end : ℕ) (e : LabelEnds name at end) (w w' : List ℕ) (r : Result JudgedLabel Refusal) (j : Judges t at done place (label_at name at end) w w' r) where
-      pub go_refused : (f : Refusal) → r ≡ Err f → Refused (number_of f) ≡ filing t 0 0 0 0 true (labels_of name)
+    module _ (end : ℕ) (e : LabelEnds name at end) (l : List ℕ) (is : label_at name at end ≡ l) (w w' : List ℕ) (r : Result JudgedLabel Refusal)
+        (j : Judges t at done place l w w' r) where
+      pub go_refused : (f : Refusal) → r ≡ Err f → Refused (number_of f) (place_of f) ≡ filing t 0 0 0 0 true (labels_of name)
       unfolding filing
-      go_refused f er =
-          sym (g.left ∙ rw (parts_next name at end e, judged_refused t at done place (label_at name at end) w w' r f er j))
+      go_refused f er = sym (g.left ∙ rw (parts_next name at end e, is, judged_refused t at done place l w w' r f er j))
 
       pub go_more : (n : ℕ) (k : Kind) (worked : ℕ) → r ≡ Ok (record { length = n; kind = k; worked = worked })
-          → Going t name (end + 1) (done + (worked + 1)) (place + 1) (len + (n + 1)) (same && same_list (take n w') (label_at name at end))
+          → Going t name (end + 1) (done + (worked + 1)) (place + 1) (len + (n + 1)) (same && same_list (take n w') l)
       go_more n k worked er =
-          let a : Accepts (label_verdict t at done place (label_at name at end)) done w' n k worked =
-          judged_accepted t at done place (label_at name at end) w w' r _ er j in
-          let size : length (label_at name at end) ≡ end - at = label-length name at end e in
+          let a : Accepts (label_verdict t at done place l) done w' n k worked = judged_accepted t at done place l w w' r _ er j in
+          let size : length l ≡ end - at = ap length (sym is) ∙ label-length name at end e in
           record {
             left =
-                g.left ∙ rw (parts_next name at end e)
-                (label-next t at done place len same (label_at name at end) (parts_from name (end + 1)) a.label (end + 1) (done + (worked + 1))
-                (place + 1) (len + (n + 1)) (same && same_list (take n w') (label_at name at end)) a.verdict (omega (arith, size, e.from))
-                (omega (arith, a.long)) (omega arith) (omega (arith, a.count)) (rw a.words));
+                g.left ∙ rw (parts_next name at end e, is)
+                (label-next t at done place len same l (parts_from name (end + 1)) a.label (end + 1) (done + (worked + 1)) (place + 1) (len + (n + 1))
+                (same && same_list (take n w') l) a.verdict (omega (arith, size, e.from)) (omega (arith, a.long)) (omega arith) (omega (arith, a.count))
+                (rw a.words));
             inside = omega (arith, e.to);
             few = omega (arith, g.few, e.from);
             spent = omega (arith, a.room);
@@ -100,7 +103,7 @@ module _ (t : Table) (name : List ℕ) where
 -- what follows a verdict on all labels
 abbrev on_labels : Verdict (List Label) → (List Label → Filed) → Filed
 on_labels (accepted xs) f = f xs
-on_labels (refused n p) f = Refused n
+on_labels (refused n p) f = Refused n p
 
 -- the lengths of answers, each with a stop behind it
 abbrev lengths : List Label → ℕ
@@ -172,11 +175,12 @@ lengths_joined x [] = omega arith
 lengths_joined x (y ∷ ys) = rw (length-append, lengths_joined y ys) (omega arith)
 
 -- 42 and 43 are judged by the length alone, and the form is the name where each answer is its label
-form_change : (form name : List ℕ) → change_of name (fileable form) ≡ change_by (length form) (same_list form name)
+form_change : (form name : List ℕ) → next (fileable form) (λ f. accepted (same_list f name)) ≡ verdict_by (length form) (same_list form name)
 form_change [] name = refl
 form_change (c ∷ s) name = rw (ne_eqb (suc (length s)) 0 (λ h. omega arith)) (go (ltb form_room (suc (length s))))
   where
-    go : (b : Bool) → change_of name (cond b (refused 43 0) (accepted (c ∷ s))) ≡ cond b (some 43) (cond (same_list (c ∷ s) name) none (some 0))
+    go : (b : Bool)
+        → next (cond b (refused 43 0) (accepted (c ∷ s))) (λ f. accepted (same_list f name)) ≡ cond b (refused 43 0) (accepted (same_list (c ∷ s) name))
     go true = refl
     go false = refl
 
@@ -187,39 +191,53 @@ labels_split (c ∷ s) h = refl
 
 module _ (words name : List ℕ) (work : ℕ) (ix : Sections) (laid : Laid words ix) (enough : least_work ≤ work) (some_name : 1 ≤ length name)
     (short : length name ≤ most_input) where
+  -- an answer stands for the verdict, and so for the number beside the name
+  abbrev Answers : Result Bool BookError → Type 0
+  Answers r = (verdict_is r ≡ refiled_verdict words work name) × (change_is r ≡ changed words work name)
+
+  by_verdict : (r : Result Bool BookError) → verdict_is r ≡ refiled_verdict words work name → Answers r
+  by_verdict r e = (e, change-changed words work name r e)
+
   -- 4
-  pub changed_scalar : (i : ℕ) → some i ≡ place_with (λ c. not (is_scalar c)) 0 name → some 4 ≡ changed words work name
-  unfolding changed form_by name_before15
-  changed_scalar i e = rw (admitted_scalar words name work ix laid enough short i e)
+  scalar_refused : (i : ℕ) → some i ≡ place_with (λ c. not (is_scalar c)) 0 name → refused 4 i ≡ refiled_verdict words work name
+  unfolding refiled_verdict form_by name_before15
+  scalar_refused i e = rw (admitted_scalar words name work ix laid enough short i e)
+
+  pub changed_scalar : (i : ℕ) → some i ≡ place_with (λ c. not (is_scalar c)) 0 name → Answers (Err (book.Refused (NotScalar i)))
+  changed_scalar i e = by_verdict (Err (book.Refused (NotScalar i))) (scalar_refused i e)
 
   module _ (scalars : none ≡ place_with (λ c. not (is_scalar c)) 0 name) where
     abbrev verdict : Verdict (List Label)
     verdict = labels_verdict 0 (the_table words) 0 0 0 (labels_of name)
 
-    changed_by : changed words work name ≡ change_of name (next verdict (λ labels. fileable (name_answer labels)))
-    unfolding changed form_by name_before15
+    -- what follows the verdict on all labels
+    abbrev on_form : Verdict (List Label) → Verdict Bool
+    on_form v = next (next v (λ labels. fileable (name_answer labels))) (λ form. accepted (same_list form name))
+
+    changed_by : refiled_verdict words work name ≡ on_form verdict
+    unfolding refiled_verdict form_by name_before15
     changed_by = rw (admitted-all words name work ix laid enough short scalars).admits
 
     -- a refusal of a label
-    pub changed_refused : (n : ℕ) → Refused n ≡ filing (the_table words) 0 0 0 0 true (labels_of name) → some n ≡ changed words work name
-    changed_refused n e =
+    pub changed_refused : (n p : ℕ) → Refused n p ≡ filing (the_table words) 0 0 0 0 true (labels_of name) → refused n p ≡ refiled_verdict words work name
+    changed_refused n p e =
         go verdict (e ∙ filed_labels (the_table words) 0 0 0 0 true (labels_of name)) ∙ sym changed_by
       where
         go : (v : Verdict (List Label))
-            → Refused n ≡ on_labels v (λ xs. Form (0 + lengths xs - 1) (true && alike stop (map answer xs) (labels_of name)))
-            → some n ≡ change_of name (next v (λ labels. fileable (name_answer labels)))
+            → Refused n p ≡ on_labels v (λ xs. Form (0 + lengths xs - 1) (true && alike stop (map answer xs) (labels_of name)))
+            → refused n p ≡ on_form v
         go (accepted xs) f = absurd (let z : ◌≡◌ {A = ℕ} 0 1 = cc in omega arith)
-        go (refused m p) f = let z : n ≡ m = cc in rw z
+        go (refused m q) f = let y : n ≡ m = cc in let z : p ≡ q = cc in rw (y, z)
 
     -- a form
     pub changed_form : (len : ℕ) (same : Bool) → Form len same ≡ filing (the_table words) 0 0 0 0 true (labels_of name)
-        → change_by len same ≡ changed words work name
+        → verdict_by len same ≡ refiled_verdict words work name
     unfolding name_answer
     changed_form len same e =
         go verdict refl (e ∙ filed_labels (the_table words) 0 0 0 0 true (labels_of name)) ∙ sym changed_by
       where
         formed : (xs : List Label) → length (map answer xs) ≡ length (split stop name) → len ≡ 0 + lengths xs - 1
-            → same ≡ alike stop (map answer xs) (split stop name) → change_by len same ≡ change_of name (fileable (name_answer xs))
+            → same ≡ alike stop (map answer xs) (split stop name) → verdict_by len same ≡ on_form (accepted xs)
         formed [] h f g = absurd (omega (arith, split-some stop name))
         formed (x ∷ xs) h f g =
             let long : len ≡ length (name_answer (x ∷ xs)) = omega (arith, lengths_joined x xs) in
@@ -227,7 +245,7 @@ module _ (words name : List ℕ) (work : ℕ) (ix : Sections) (laid : Laid words
 
         go : (v : Verdict (List Label)) → verdict ≡ v
             → Form len same ≡ on_labels v (λ xs. Form (0 + lengths xs - 1) (true && alike stop (map answer xs) (labels_of name)))
-            → change_by len same ≡ change_of name (next v (λ labels. fileable (name_answer labels)))
+            → verdict_by len same ≡ on_form v
         go (accepted xs) ev f =
             let count : length (map answer xs) ≡ length (split stop name) =
             rw (labels_split name some_name) at (accepted_count (the_table words) 0 0 0 (labels_of name) xs ev) in
@@ -237,8 +255,8 @@ module _ (words name : List ℕ) (work : ℕ) (ix : Sections) (laid : Laid words
         go (refused m p) ev f = absurd (let z : ◌≡◌ {A = ℕ} 0 1 = cc in omega arith)
 
     module _ (r : Result FiledForm Refusal) (e : filed_is r ≡ filing (the_table words) 0 0 0 0 true (labels_of name)) where
-      pub labels_refused : (f : Refusal) → r ≡ Err f → some (number_of f) ≡ changed words work name
-      labels_refused f g = changed_refused (number_of f) (rw g at e)
+      pub labels_refused : (f : Refusal) → r ≡ Err f → Answers (Err (book.Refused f))
+      labels_refused f g = by_verdict (Err (book.Refused f)) (changed_refused (number_of f) (place_of f) (rw g at e))
 
-      pub labels_formed : (f : FiledForm) → r ≡ Ok f → change_by f.length f.same ≡ changed words work name
-      labels_formed f g = changed_form f.length f.same (rw g at e)
+      pub labels_formed : (f : FiledForm) → r ≡ Ok f → (a : Result Bool BookError) → verdict_is a ≡ verdict_by f.length f.same → Answers a
+      labels_formed f g a k = by_verdict a (k ∙ changed_form f.length f.same (rw g at e))

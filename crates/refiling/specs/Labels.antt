@@ -10,24 +10,24 @@ use Rattle.sections.specs.declared.Sections.{Sections}
 use Rattle.unpaired.specs.Unpaired.{Unpaired}
 use Rattle.memo.specs.Memo.{Memo}
 use Rattle.name.specs.Label.{Label, answer, label_verdict}
-use Rattle.answers.specs.Values.{number_of}
+use Rattle.answers.specs.Values.{number_of, place_of}
 use Rattle.answers.specs.declared.Refusal.{Refusal}
 use Rattle.refiling.specs.declared.FiledForm.{FiledForm}
 
--- what the labels of a name give: the number of a refusal, or the length of the form and whether it is the name
+-- what the labels of a name give: the number and the place of a refusal, or the length of the form and whether it is the name
 pub data Filed : Type 0 where
-  Refused : ℕ → Filed
+  Refused : (number place : ℕ) → Filed
   Form : ℕ → Bool → Filed
 
 -- what an answer stands for
 abbrev pub filed_is : Result FiledForm Refusal → Filed
 filed_is (Ok f) = Form f.length f.same
-filed_is (Err f) = Refused (number_of f)
+filed_is (Err f) = Refused (number_of f) (place_of f)
 
 -- what follows a label's verdict
 abbrev pub on_label : Verdict Label → (Label → Filed) → Filed
 on_label (accepted x) f = f x
-on_label (refused n p) f = Refused n
+on_label (refused n p) f = Refused n p
 
 -- The labels from number `place` on, which start at `at`; `done` is the worked length before them, `len` the length of the answers before them, each
 -- with a stop behind it, and `same` says whether each of those is its label.

@@ -9,14 +9,13 @@ ghost use Rattle.table.specs.Layout.{the_table};
 ghost use Rattle.unpaired.specs.Unpaired.{Unpaired};
 ghost use Rattle.memo.specs.Memo.{Memo};
 ghost use Rattle.name.specs.Name.{labels_of};
-ghost use Rattle.refiled.specs.Refiled.{changed};
-ghost use Rattle.refiled.specs.Changes.{change_is};
+ghost use Rattle.refiled.specs.Refiled.{refiled_verdict, changed};
+ghost use Rattle.refiled.specs.Changes.{change_is, verdict_is};
 ghost use Rattle.refiling.specs.Labels.{filed_is, filing, Lent, Lasting};
 
 use answers::Refusal;
 use book_answers::BookError;
 use name::admit::first_not_scalar;
-use name::labels::label_end;
 use one_label::judge_label;
 use refiled::change_by;
 use sections::Sections;
@@ -47,26 +46,14 @@ fn file_labels(
     let mut place = 0;
     let mut len = 0;
     let mut same = true;
-    // by hand: the step is the label's own length
-    while at <= name.len() {
-        let end = label_end(name, at);
-        let label = judge_label(
-            words,
-            ix,
-            &name[at..end],
-            at,
-            done,
-            place,
-            unpaired,
-            w,
-            memo,
-        )?;
-        let alike = buffers::same(&w[..label.length], &name[at..end]);
+    for label in name.split(|&c| c == 0x2E) {
+        let judged = judge_label(words, ix, label, at, done, place, unpaired, w, memo)?;
+        let alike = buffers::same(&w[..judged.length], label);
         same = same & alike;
-        len += label.length + 1;
-        done += label.worked + 1;
+        len += judged.length + 1;
+        done += judged.worked + 1;
         place += 1;
-        at = end + 1;
+        at += label.len() + 1;
     }
     Ok(FiledForm {
         length: len - 1,
@@ -86,6 +73,7 @@ pub fn refile(
 ) -> Result<bool, BookError>
     requires lent { Lent words.now ix unpaired.old w.old memo.old }
     requires in_bounds { (1 ≤ length name.now) × (length name.now ≤ most_input) }
+    ensures verdict { verdict_is result ≡ refiled_verdict words.now (length w.old) name.now }
     ensures result_value { change_is result ≡ changed words.now (length w.old) name.now }
     ensures lasting { Lasting words.now w.old w.new unpaired.new memo.new }
 {

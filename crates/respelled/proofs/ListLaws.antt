@@ -30,14 +30,14 @@ use Rattle.scanning.specs.Scanning.{Tallied, ScanIs, Scans}
 use Rattle.laying.specs.declared.Tally.{Tally}
 use Rattle.group_numbers.specs.Components.{no_group}
 use Rattle.confusable.specs.Confusable.{is_confused, respells}
-use Rattle.group_flags.specs.Flags.{slots, flags_for}
-use Rattle.lookalike.specs.Respelling.{Respellings}
+use Rattle.group_flags.specs.Flags.{slots, flags_by}
+use Rattle.lookalike.specs.Respelling.{RespellingsBy}
 use Rattle.lookalike.proofs.OutsideLaws.{respells-none}
 use Rattle.label.specs.CellText.{text_at, TextAlone}
 use Rattle.label.proofs.CellLaws.{text_tokens}
 use Rattle.name.specs.Label.{Label, label_verdict, one_label, admitted, label_answering, label_before15}
 use Rattle.name.specs.Admission.{Admits, AdmissionIs}
-use Rattle.group_list.specs.Places.{places_of, is_set}
+use Rattle.group_list.specs.Places.{places_of}
 use Rattle.listing.specs.Filling.{Holds}
 use Rattle.listing.specs.Listed.{judged-listed, judged_refused}
 use Rattle.listing.proofs.ListedLaws.{list-kept, list_over}
@@ -50,13 +50,13 @@ use Rattle.respelled.proofs.Reaching.{passes_14, listed-none, one-past}
 
 -- the flags of the look-alike test say which groups are listed
 module _ (f : Group → Bool) (None-passes : f no_group ≡ false) where
-  places_flags : (at : ℕ) (gs : List Group) → places_of is_set at (flags_for f gs) ≡ places_of f at gs
-  unfolding places_of flags_for
+  places_flags : (at : ℕ) (gs : List Group) → places_of (λ b. b) at (flags_by (λ b. b) f gs) ≡ places_of f at gs
+  unfolding places_of flags_by
   places_flags at [] = refl
   places_flags at (g ∷ gs) = go (f g) (places_flags (suc at) gs)
     where
-      go : (b : Bool) → places_of is_set (suc at) (map f gs) ≡ places_of f (suc at) gs
-          → cond (is_set b) (at ∷ places_of is_set (suc at) (map f gs)) (places_of is_set (suc at) (map f gs))
+      go : (b : Bool) → places_of (λ x. x) (suc at) (map f gs) ≡ places_of f (suc at) gs
+          → cond b (at ∷ places_of (λ x. x) (suc at) (map f gs)) (places_of (λ x. x) (suc at) (map f gs))
           ≡ cond b (at ∷ places_of f (suc at) gs) (places_of f (suc at) gs)
       go true e = ap (λ (r : List ℕ). at ∷ r) e
       go false e = e
@@ -71,12 +71,12 @@ module _ (f : Group → Bool) (None-passes : f no_group ≡ false) where
   places_front k at [] = places_behind k at
   places_front k at (g ∷ gs) = rw (places_front k (suc at) gs)
 
-  places_slots : (gs : List Group) → places_of is_set 0 (flags_for f (slots gs)) ≡ places_of f 0 gs
+  places_slots : (gs : List Group) → places_of (λ b. b) 0 (flags_by (λ b. b) f (slots gs)) ≡ places_of f 0 gs
   unfolding slots
   places_slots gs = places_flags 0 (gs ++ replicate (most_groups - length gs) no_group) ∙ places_front (most_groups - length gs) 0 gs
 
 -- what the look-alike test left
-module _ (t : Table) (s : List ℕ) (fs : List Bool) (seen : Bool) (r : Respellings t s fs seen) where
+module _ (t : Table) (s : List ℕ) (fs : List Bool) (seen : Bool) (r : RespellingsBy (λ b. b) t s fs seen) where
   pub text_unseen : seen ≡ false → (list : List ℕ) → Holds (respelled_in t s) list list 0
   unfolding respelled_in
   text_unseen e list = rw (← r.confused, e) (record { same = refl; long = refl; written = λ h. refl })
@@ -88,12 +88,12 @@ module _ (t : Table) (s : List ℕ) (fs : List Bool) (seen : Bool) (r : Respelli
   no_group_lem [] e = absurd (let z : ◌≡◌ {A = ℕ} 0 1 = cc in omega arith)
   no_group_lem (c ∷ u) e = none_spells c u
 
-  pub text_seen : seen ≡ true → (list list' : List ℕ) (n : ℕ) → Holds (places_of is_set 0 fs) list list' n → Holds (respelled_in t s) list list' n
+  pub text_seen : seen ≡ true → (list list' : List ℕ) (n : ℕ) → Holds (places_of (λ b. b) 0 fs) list list' n → Holds (respelled_in t s) list list' n
   unfolding respelled_in
   text_seen e list list' n h =
       let confused : any (is_confused t) s ≡ true = sym r.confused ∙ e in
-      let same : places_of is_set 0 fs ≡ places_of (λ g. all (respells t g) s) 0 t.groups =
-      ap (places_of is_set 0) r.flags ∙ places_slots (λ g. all (respells t g) s) (no_group_lem s confused) t.groups in
+      let same : places_of (λ b. b) 0 fs ≡ places_of (λ g. all (respells t g) s) 0 t.groups =
+      ap (places_of (λ b. b) 0) r.flags ∙ places_slots (λ g. all (respells t g) s) (no_group_lem s confused) t.groups in
       rw (confused, ← same) h
 
 -- the text of a label in the work area

@@ -18,9 +18,10 @@ use sections::lookup::in_quick_check;
 use table::Span;
 use text::hangul::{is_trailing, is_vowel};
 
-// Whether a decomposition is a composition pair with the second item x.
-fn second_is(words: &[u32], ix: Sections, head: u32, items: &[u32], x: u32) -> bool
-    requires { Laid words.now ix }
+// Whether a decomposition is a composition pair with the second item x. The sections are lent, since most have another second item: none is copied
+// for them.
+fn second_is(words: &[u32], ix: &Sections, head: u32, items: &[u32], x: u32) -> bool
+    requires { Laid words.now ix.now }
     ensures { result ≡ second_is (the_table words.now) x head items.now }
 {
     if items.len() < 2 {
@@ -29,7 +30,7 @@ fn second_is(words: &[u32], ix: Sections, head: u32, items: &[u32], x: u32) -> b
     if items[1] != x {
         return false;
     }
-    is_pair(words, ix, head, items)
+    is_pair(words, *ix, head, items)
 }
 
 // Whether x is the second item of a composition pair, Hangul included. Where the set holds every second item of the table, as `held` may say,
@@ -50,21 +51,30 @@ pub fn is_second(words: &[u32], ix: Sections, held: bool, x: u32) -> bool
             return false;
         }
     }
-    Heads::of(ix.decompositions.of(words)).any(|(head, items)| second_is(words, ix, head, items, x))
+    let part = ix.decompositions.of(words);
+    Heads::of(part).any(|(head, items)| second_is(words, &ix, head, items, x))
 }
 
-// Whether a decomposition is no composition pair, or its second item is in the set.
-pub fn second_held(words: &[u32], ix: Sections, head: u32, items: &[u32]) -> bool
-    requires { Laid words.now ix }
+// Whether a decomposition is no composition pair, or its second item is in the set. The sections are lent, since a walk asks it of every record.
+fn holds_second(words: &[u32], ix: &Sections, head: u32, items: &[u32]) -> bool
+    requires { Laid words.now ix.now }
     ensures { result ≡ second_held (the_table words.now) head items.now }
 {
     if items.len() < 2 {
         return true;
     }
-    if in_quick_check(words, ix, items[1]) {
+    if in_quick_check(words, *ix, items[1]) {
         return true;
     }
-    !is_pair(words, ix, head, items)
+    !is_pair(words, *ix, head, items)
+}
+
+// The same of one record.
+pub fn second_held(words: &[u32], ix: Sections, head: u32, items: &[u32]) -> bool
+    requires { Laid words.now ix }
+    ensures { result ≡ second_held (the_table words.now) head items.now }
+{
+    holds_second(words, &ix, head, items)
 }
 
 // Whether the second item of each composition pair of the records of a part is in the set.
@@ -74,5 +84,5 @@ pub fn seconds_held_of(words: &[u32], ix: Sections, s: Span) -> bool
     requires holds { Holds as_headed (within s words.now) }
     ensures { result ≡ all (second_held_in (the_table words.now)) (records_in as_headed (within s words.now)) }
 {
-    Heads::of(s.of(words)).all(|(head, items)| second_held(words, ix, head, items))
+    Heads::of(s.of(words)).all(|(head, items)| holds_second(words, &ix, head, items))
 }

@@ -3,26 +3,23 @@ use Prim.Native.Nat.{ℕ, zero, suc, ◌+◌, ◌-◌, ◌*◌, ◌<◌, ◌≤�
 use native.Mathlib.Numerals.{add-one}
 use native.Mathlib.Omega.{arith}
 use mathlib.Core.Path.{◌≡◌, refl, sym, ◌∙◌, ap}
+use mathlib.Core.Logic.{◌⊎◌}
 use mathlib.Core.Bool.{Bool, true, false, not, ◌&&◌, ◌||◌}
 use mathlib.Core.List.{List, [], ◌∷◌}
-use lib.ListN.{length, get_or, take}
+use lib.ListN.{length, take}
 use lib.Seq.{take-suc}
 use lib.Dec.{leb, ltb, eqb}
 use borrow.Author.Tests.{ne_eqb, eqb-true, le-leb, lt-leb, lt-ltb, le-ltb, leb-true, ltb-true, ltb-false}
 use Rattle.lists.specs.Lists.{all, mem}
 use Rattle.lists.specs.Laws.{both_left, both_right}
 use Rattle.lists.specs.Tests.{not_so, never, mem_both}
-use Rattle.table.specs.declared.Span.{Span}
 use Rattle.table.specs.Table.{Headed}
-use Rattle.table.specs.Part.{counted_at}
 use Rattle.text.specs.Hangul.{is_syllable}
-use Rattle.table.specs.Part.{records_in}
-use Rattle.sound_parts.specs.Parts.{Holds, as_headed}
 use Rattle.bit_sets.specs.Sets.{has, Put, SetOf, window_words}
 use Rattle.bit_sets.proofs.PutLaws.{Putting, putting_start, putting_on, putting_done, put_same, put_none, run-next, run_none, point_place}
 use Rattle.sound_choices.specs.Rounds.{heads_of, head_at, replaces, Holding, row_words, row_places}
 use Rattle.sound_choices.specs.Choices.{is_point, in_window, new_head, Seen, row_of, first_in, FirstsIn, FirstSet, FirstFound, chooses_in}
-use Rattle.sound_choices.proofs.WalkLaws.{Numbered, numbered_start, numbered_in, numbered_head, numbered_on, numbered_end}
+use Rattle.sound_choices.proofs.WalkLaws.{Numbered, numbered_in, numbered_head, numbered_on, numbered_end}
 
 and_false : (a : Bool) → a && false ≡ false
 and_false true = refl
@@ -49,35 +46,33 @@ row_next row i n e test h =
         rw r (same (test i) (leb (row + (i + 1)) e && ltb e (row + n)))
     go false f = refl
 
--- A walk chooses the records that pass a test: it has come to the record i.
-pub record ChoiceWalk (part : List ℕ) (row : ℕ) (test : ℕ → Bool) (old cur : List ℕ) (at i : ℕ) : Type 0 where
-  pub walk : Numbered part at i
-  pub put : Putting (row_of row (records_in as_headed part) test) (λ e. leb (row + i) e && ltb e (row + length (records_in as_headed part))
-      && test (e - row)) old cur
+-- A walk chooses the records that pass a test: it has come to the record i, and these are left.
+pub record ChoiceWalk (rs : List Headed) (row : ℕ) (test : ℕ → Bool) (old cur : List ℕ) (left : List Headed) (i : ℕ) : Type 0 where
+  pub walk : Numbered rs left i
+  pub put : Putting (row_of row rs test) (λ e. leb (row + i) e && ltb e (row + length rs) && test (e - row)) old cur
 
-module _ (part : List ℕ) (row : ℕ) (test : ℕ → Bool) (old : List ℕ) where
-  pub choice_start : Holds as_headed part → ChoiceWalk part row test old old 0 0
+module _ (rs : List Headed) (row : ℕ) (test : ℕ → Bool) (old : List ℕ) where
+  pub choice_start : (left : List Headed) → left ≡ rs → ChoiceWalk rs row test old old left 0
   unfolding row_of
-  choice_start h =
+  choice_start left e =
       let z : row + 0 ≡ row = omega arith in
-      record { walk = numbered_start part h; put = rw z (putting_start (row_of row (records_in as_headed part) test) old) }
+      record { walk = sym e; put = rw z (putting_start (row_of row rs test) old) }
 
-  module _ (cur : List ℕ) (at i : ℕ) (w : ChoiceWalk part row test old cur at i) where
-    pub choice_on : at < length part → (s : Span) → s ≡ counted_at part (at + 1) → (new : List ℕ)
-        → Put cur new (λ e. eqb e (row + i) && test i)
-        → ChoiceWalk part row test old new s.to (i + 1)
-    choice_on h s e new p =
+  module _ (cur : List ℕ) (left : List Headed) (i : ℕ) (w : ChoiceWalk rs row test old cur left i) where
+    pub choice_on : (x : Headed) (later : List Headed) → left ≡ x ∷ later → (new : List ℕ) → Put cur new (λ e. eqb e (row + i) && test i)
+        → ChoiceWalk rs row test old new later (i + 1)
+    choice_on x later f new p =
         record {
-          walk = numbered_on part at i w.walk h s e;
+          walk = numbered_on rs left i w.walk x later f;
           put = putting_on _ old _ cur w.put (λ e. eqb e (row + i) && test i)
-              (λ e. leb (row + (i + 1)) e && ltb e (row + length (records_in as_headed part)) && test (e - row)) new
-              (λ e k. row_next row i (length (records_in as_headed part)) e test (numbered_in part at i w.walk h)) p;
+              (λ e. leb (row + (i + 1)) e && ltb e (row + length rs) && test (e - row)) new
+              (λ e k. row_next row i (length rs) e test (numbered_in rs left i w.walk x later f)) p;
         }
 
-    pub choice_done : length part ≤ at → Put old cur (row_of row (records_in as_headed part) test)
-    choice_done h =
+    pub choice_done : length rs ≤ row_places → (row_places ≤ i) ⊎ (left ≡ []) → Put old cur (row_of row rs test)
+    choice_done few h =
         putting_done _ old _ cur w.put
-        (λ e k. rw (run_none (row + i) (row + length (records_in as_headed part)) e (omega (arith, numbered_end part at i w.walk h))))
+        (λ e k. rw (run_none (row + i) (row + length rs) e (omega (arith, numbered_end rs left i w.walk few h))))
 
 -- the places of a window
 module _ (base h : ℕ) where
@@ -175,79 +170,65 @@ length-map [] = refl
 length-map (r ∷ rs) = ap suc (length-map rs)
 
 -- A walk finds the records that replace their heads, of those whose heads are in the window.
-pub record FirstWalk (part : List ℕ) (base : ℕ) (seen old cur : List ℕ) (at i : ℕ) : Type 0 where
-  pub choice : ChoiceWalk part 0 (first_in base (records_in as_headed part)) old cur at i
-  pub held : Holding base seen (take i (heads_of (records_in as_headed part)))
+pub record FirstWalk (rs : List Headed) (base : ℕ) (seen old cur : List ℕ) (left : List Headed) (i : ℕ) : Type 0 where
+  pub choice : ChoiceWalk rs 0 (first_in base rs) old cur left i
+  pub held : Holding base seen (take i (heads_of rs))
 
-module _ (part : List ℕ) (base : ℕ) (old : List ℕ) where
-  pub first_start : (seen : List ℕ) → Holds as_headed part → length seen ≡ window_words → ((d : ℕ) → has seen d ≡ false)
-      → FirstWalk part base seen old old 0 0
-  first_start seen h l e =
+module _ (rs : List Headed) (base : ℕ) (old : List ℕ) where
+  pub first_start : (seen : List ℕ) (left : List Headed) → left ≡ rs → length seen ≡ window_words → ((d : ℕ) → has seen d ≡ false)
+      → FirstWalk rs base seen old old left 0
+  first_start seen left q l e =
       record {
-        choice = choice_start part 0 (first_in base (records_in as_headed part)) old h;
+        choice = choice_start rs 0 (first_in base rs) old left q;
         held = record { room = l; each = λ d k. e d };
       }
 
-  module _ (seen cur : List ℕ) (at i : ℕ) (w : FirstWalk part base seen old cur at i) (h : at < length part) where
-    head : ℕ
-    head = get_or part at 0
+  module _ (seen cur : List ℕ) (left : List Headed) (i : ℕ) (w : FirstWalk rs base seen old cur left i) where
+    module _ (x : Headed) (later : List Headed) (f : left ≡ x ∷ later) where
+      -- the head was not seen exactly where the record is the first with it
+      new_first : new_head base x.head seen ≡ first_in base rs i
+      unfolding new_head first_in replaces
+      new_first = rw (numbered_head rs left i w.choice.walk x later f) (go (in_window base x.head) refl)
+        where
+          go : (b : Bool) → in_window base x.head ≡ b
+              → b && not (is_syllable x.head) && not (has seen (x.head - base)) ≡ b && (not (is_syllable x.head) && not (mem x.head (take i (heads_of rs))))
+          go true e =
+              let z : base + (x.head - base) ≡ x.head = omega (arith, window_low base x.head e) in
+              let q : has seen (x.head - base) ≡ mem x.head (take i (heads_of rs)) = w.held.each (x.head - base) (window_high base x.head e) ∙ rw z in
+              rw q
+          go false e = refl
 
-    head_is : head_at (records_in as_headed part) i ≡ head
-    unfolding head
-    head_is = numbered_head part at i w.choice.walk h
+      pub first_on : (seen' new : List ℕ) → Seen base x.head i seen seen' cur new → FirstWalk rs base seen' old new later (i + 1)
+      first_on seen' new p =
+          let n : i < length rs = numbered_in rs left i w.choice.walk x later f in
+          let z : 0 + i ≡ i = omega arith in
+          record {
+            choice = choice_on rs 0 (first_in base rs) old cur left i w.choice x later f new (put_same cur new _ _ (λ j k. rw (new_first, z)) p.firsts);
+            held = record {
+              room = p.heads.room ∙ w.held.room;
+              each = λ d k. p.heads.each d (rw w.held.room (omega arith))
+                  ∙ rw (
+                    w.held.each d k,
+                    add-one,
+                    take-suc (heads_of rs) i 0 (longer n),
+                    numbered_head rs left i w.choice.walk x later f,
+                    mem_both (base + d) (take i (heads_of rs)) (x.head ∷ []),
+                  )
+                  (turn (eqb (base + d) x.head) (mem (base + d) (take i (heads_of rs))));
+            };
+          }
+        where
+          turn : (a b : Bool) → a || b ≡ b || (a || false)
+          turn true true = refl
+          turn true false = refl
+          turn false true = refl
+          turn false false = refl
 
-    -- the head was not seen exactly where the record is the first with it
-    new_first : new_head base head seen ≡ first_in base (records_in as_headed part) i
-    unfolding new_head first_in replaces
-    new_first = rw head_is (go (in_window base head) refl)
-      where
-        go : (b : Bool) → in_window base head ≡ b
-            → b && not (is_syllable head) && not (has seen (head - base)) ≡ b && (not (is_syllable head) && not
-            (mem head (take i (heads_of (records_in as_headed part)))))
-        go true e =
-            let z : base + (head - base) ≡ head = omega (arith, window_low base head e) in
-            let q : has seen (head - base) ≡ mem head (take i (heads_of (records_in as_headed part))) = w.held.each (head - base)
-            (window_high base head e) ∙ rw z in
-            rw q
-        go false e = refl
+          longer : i < length rs → i < length (heads_of rs)
+          longer n = rw (length-map rs) n
 
-    pub first_on : (s : Span) → s ≡ counted_at part (at + 1) → (seen' new : List ℕ) → Seen base (get_or part at 0) i seen seen' cur new
-        → FirstWalk part base seen' old new s.to (i + 1)
-    unfolding head
-    first_on s e seen' new p =
-        let n : i < length (records_in as_headed part) = numbered_in part at i w.choice.walk h in
-        let z : 0 + i ≡ i = omega arith in
-        record {
-          choice = choice_on part 0 (first_in base (records_in as_headed part)) old cur at i w.choice h s e new
-              (put_same cur new _ _ (λ j k. rw (new_first, z)) p.firsts);
-          held = record {
-            room = p.heads.room ∙ w.held.room;
-            each = λ d k. p.heads.each d (rw w.held.room (omega arith))
-                ∙ rw (
-                  w.held.each d k,
-                  add-one,
-                  take-suc (heads_of (records_in as_headed part)) i 0 (longer n),
-                  head_is,
-                  mem_both
-                      (base + d) (take i (heads_of (records_in as_headed part))) (head ∷ []),
-                )
-                (turn (eqb (base + d) head) (mem (base + d) (take i (heads_of (records_in as_headed part)))));
-          };
-        }
-      where
-        turn : (a b : Bool) → a || b ≡ b || (a || false)
-        turn true true = refl
-        turn true false = refl
-        turn false true = refl
-        turn false false = refl
-
-        longer : i < length (records_in as_headed part) → i < length (heads_of (records_in as_headed part))
-        longer n = rw (length-map (records_in as_headed part)) n
-
-  pub first_done : (seen cur : List ℕ) (at i : ℕ) → FirstWalk part base seen old cur at i → length part ≤ at
-      → FirstsIn base (records_in as_headed part) old cur seen
-  first_done seen cur at i w h =
-      record { put = choice_done part 0 (first_in base (records_in as_headed part)) old cur at i w.choice h; room = w.held.room }
+    pub first_done : length rs ≤ row_places → (row_places ≤ i) ⊎ (left ≡ []) → FirstsIn base rs old cur seen
+    first_done few h = record { put = choice_done rs 0 (first_in base rs) old cur left i w.choice few h; room = w.held.room }
 
 -- A row holds the records that pass a test and whose heads are below a bound.
 pub record RowBelow (rs : List Headed) (rows : List ℕ) (row bound : ℕ) (test : ℕ → Bool) : Type 0 where

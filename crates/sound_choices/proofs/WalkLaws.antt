@@ -1,30 +1,30 @@
 -- Walks over decomposition records that count them.
-use Prim.Native.Nat.{ℕ, zero, suc, ◌+◌, ◌*◌, ◌<◌, ◌≤◌}
+use Prim.Native.Nat.{ℕ, zero, suc, ◌+◌, ◌<◌, ◌≤◌}
 use native.Mathlib.Numerals.{add-one}
 use native.Mathlib.Omega.{arith}
 use mathlib.Core.Path.{◌≡◌, refl, sym, ◌∙◌, ap}
+use mathlib.Core.Logic.{◌⊎◌, inl, inr}
 use mathlib.Core.Bool.{Bool, true, false, ◌&&◌, ◌||◌}
 use mathlib.Core.List.{List, [], ◌∷◌, map, tail-eq_of_cons-eq, head-eq_of_cons-eq}
-use lib.ListN.{length, get_or, drop}
+use lib.ListN.{length, get_or, drop, drop_of_length-le}
 use lib.Dec.{eqb}
 use borrow.Author.Tests.{eq-eqb, ne_eqb, eqb-true, eqb-false}
 use Rattle.lists.specs.Lists.{mem}
-use Rattle.table.specs.declared.Span.{Span}
 use Rattle.table.specs.Table.{Headed, Group}
-use Rattle.table.specs.Layout.{most_items, groups}
+use Rattle.table.specs.Layout.{groups}
 use Rattle.table.specs.Spans.{within}
 use Rattle.table.specs.declared.GroupRecord.{GroupRecord}
 use Rattle.table.specs.GroupPart.{group_at}
-use Rattle.table.specs.Part.{HeadedHere, counted_at, in_pairs}
+use Rattle.table.specs.Part.{in_pairs}
 use Rattle.table.proofs.Lookups.{pairs-ranges}
-use Rattle.table.proofs.Records.{headed_end, groups_end}
+use Rattle.table.proofs.Records.{groups_end}
 use Rattle.table.specs.Part.{records_in}
-use Rattle.sound_parts.specs.Parts.{Holds, as_headed}
-use Rattle.sound_parts.proofs.Walks.{Through, through_start, head_here, head_items, head_next, group_here_lem, group_is}
+use Rattle.sound_parts.specs.Parts.{Holds}
+use Rattle.sound_parts.proofs.Walks.{Through, through_start, group_here_lem, group_is}
 use Rattle.sound_parts.proofs.Walks.{group-behind}
 use Rattle.bit_sets.specs.Sets.{Put}
 use Rattle.bit_sets.proofs.PutLaws.{Putting, putting_start, putting_on, putting_done, put_same, put_none}
-use Rattle.sound_choices.specs.Rounds.{heads_of, in_groups, head_at, items_at, chosen_items}
+use Rattle.sound_choices.specs.Rounds.{heads_of, in_groups, head_at, chosen_items, row_places}
 use Rattle.sound_choices.proofs.RoundLaws.{chosen_step}
 
 -- the element where a list was dropped to
@@ -52,54 +52,25 @@ drop_all [] i e = omega arith
 drop_all (y ∷ xs) zero e = absurd (let z : ◌≡◌ {A = ℕ} 0 1 = cc in omega arith)
 drop_all (y ∷ xs) (suc i) e = omega (arith, drop_all xs i e)
 
--- The walk has come to the record number i, at the place `at`.
-pub record Numbered (part : List ℕ) (at i : ℕ) : Type 0 where
-  pub walk : Through {A = ℕ} (λ (rs : List Headed). 0) as_headed part at
-  pub is : walk.left ≡ drop i (records_in as_headed part)
-  pub low : 3 * i ≤ at
+-- A walk numbers the records: it has come to the record i, and these are left.
+abbrev pub Numbered : List Headed → List Headed → ℕ → Type 0
+Numbered rs left i = drop i rs ≡ left
 
-pub numbered_start : (part : List ℕ) → Holds as_headed part → Numbered part 0 0
-numbered_start part h =
-    let w = through_start (λ (rs : List Headed). rs) as_headed part h in
-    record { walk = record { left = w.left; walk = w.walk; same = refl }; is = sym w.same; low = omega arith }
+module _ (rs left : List Headed) (i : ℕ) (w : Numbered rs left i) where
+  module _ (x : Headed) (later : List Headed) (e : left ≡ x ∷ later) where
+    pub numbered_in : i < length rs
+    numbered_in = drop_inside x later rs i (w ∙ e)
 
-module _ (part : List ℕ) (at i : ℕ) (w : Numbered part at i) where
-  rs : List Headed
-  rs = records_in as_headed part
+    pub numbered_head : head_at rs i ≡ x.head
+    numbered_head = drop_at x later (λ (r : Headed). r.head) 0 rs i (w ∙ e)
 
-  module _ (h : at < length part) where
-    here : HeadedHere most_items part at w.walk.left
-    here = head_here _ part at w.walk h
+    pub numbered_on : Numbered rs later (i + 1)
+    numbered_on = rw add-one (drop_rest x later rs i (w ∙ e))
 
-    split : drop i rs ≡ here.first ∷ here.rest
-    unfolding rs
-    split = sym w.is ∙ here.split
-
-    pub numbered_in : i < length (records_in as_headed part)
-    unfolding rs
-    numbered_in = drop_inside here.first here.rest rs i split
-
-    pub numbered_head : head_at (records_in as_headed part) i ≡ get_or part at 0
-    unfolding rs
-    numbered_head = drop_at here.first here.rest (λ (r : Headed). r.head) 0 rs i split ∙ here.head
-
-    module _ (s : Span) (e : s ≡ counted_at part (at + 1)) where
-      pub numbered_items : items_at (records_in as_headed part) i ≡ within s part
-      unfolding rs here
-      numbered_items = drop_at here.first here.rest (λ (r : Headed). r.items) [] rs i split
-          ∙ sym (head_items _ part at w.walk h s e)
-
-      pub numbered_on : Numbered part s.to (i + 1)
-      unfolding rs here
-      numbered_on =
-          record {
-            walk = record { left = here.rest; walk = head_next _ part at w.walk h s e; same = refl };
-            is = rw add-one (sym (drop_rest here.first here.rest rs i split));
-            low = rw e (omega (arith, w.low, here.low));
-          }
-
-  pub numbered_end : length part ≤ at → length (records_in as_headed part) ≤ i
-  numbered_end h = drop_all (records_in as_headed part) i (sym w.is ∙ headed_end most_items part at w.walk.left w.walk.walk h)
+  -- it ends with the places of a row, or with the records
+  pub numbered_end : length rs ≤ row_places → (row_places ≤ i) ⊎ (left ≡ []) → length rs ≤ i
+  numbered_end few (inl h) = omega arith
+  numbered_end few (inr e) = drop_all rs i (w ∙ e)
 
 -- A walk puts the heads of the records into the set of a window; those of the records that are left are yet to be put.
 module _ (all : List Headed) (base : ℕ) (old : List ℕ) where
@@ -151,37 +122,28 @@ module _ (gs : List ℕ) (base : ℕ) (old : List ℕ) where
         putting_done _ old _ cur w.put (λ d k. ap (in_groups (base + d)) e)
 
 -- A walk puts the items of the chosen records into the set of a window.
-pub record ChosenPut (part : List ℕ) (m : ℕ → Bool) (base : ℕ) (old cur : List ℕ) (at i : ℕ) : Type 0 where
-  pub walk : Numbered part at i
-  pub put : Putting (λ d. mem (base + d) (chosen_items m 0 (records_in as_headed part)))
-      (λ d. mem (base + d) (chosen_items m i walk.walk.left)) old cur
+pub record ChosenPut (rs : List Headed) (m : ℕ → Bool) (base : ℕ) (old cur : List ℕ) (left : List Headed) (i : ℕ) : Type 0 where
+  pub walk : Numbered rs left i
+  pub put : Putting (λ d. mem (base + d) (chosen_items m 0 rs)) (λ d. mem (base + d) (chosen_items m i left)) old cur
 
-module _ (part : List ℕ) (m : ℕ → Bool) (base : ℕ) (old : List ℕ) where
-  pub chosen_put_start : Holds as_headed part → ChosenPut part m base old old 0 0
-  chosen_put_start h =
-      let w = numbered_start part h in
-      record { walk = w; put = rw w.is (putting_start (λ d. mem (base + d) (chosen_items m 0 (records_in as_headed part))) old) }
+module _ (rs : List Headed) (m : ℕ → Bool) (base : ℕ) (old : List ℕ) where
+  pub chosen_put_start : (left : List Headed) → left ≡ rs → ChosenPut rs m base old old left 0
+  chosen_put_start left e = rw e (record { walk = refl; put = putting_start (λ d. mem (base + d) (chosen_items m 0 rs)) old })
 
-  module _ (cur : List ℕ) (at i : ℕ) (w : ChosenPut part m base old cur at i) where
-    pub chosen_put_on : (h : at < length part) (s : Span) → s ≡ counted_at part (at + 1) → (new : List ℕ)
-        → Put cur new (λ d. m i && mem (base + d) (within s part))
-        → ChosenPut part m base old new s.to (i + 1)
-    unfolding numbered_on
-    chosen_put_on h s e new p =
-        let x = head_here _ part at w.walk.walk h in
-        let y : within s part ≡ x.first.items = head_items _ part at w.walk.walk h s e in
+  module _ (cur : List ℕ) (left : List Headed) (i : ℕ) (w : ChosenPut rs m base old cur left i) where
+    pub chosen_put_on : (x : Headed) (later : List Headed) → left ≡ x ∷ later → (new : List ℕ) → Put cur new (λ d. m i && mem (base + d) x.items)
+        → ChosenPut rs m base old new later (i + 1)
+    chosen_put_on x later e new p =
         record {
-          walk = numbered_on part at i w.walk h s e;
-          put = putting_on _ old _ cur w.put (λ d. m i && mem (base + d) (within s part))
-              (λ d. mem (base + d) (chosen_items m (i + 1) x.rest)) new
-              (λ d k. ap (λ (l : List Headed). mem (base + d) (chosen_items m i l)) x.split ∙ chosen_step m (base + d) i x.first
-              x.rest ∙ rw (y, add-one)) p;
+          walk = numbered_on rs left i w.walk x later e;
+          put = putting_on _ old _ cur w.put (λ d. m i && mem (base + d) x.items) (λ d. mem (base + d) (chosen_items m (i + 1) later)) new
+              (λ d k. ap (λ (l : List Headed). mem (base + d) (chosen_items m i l)) e ∙ chosen_step m (base + d) i x later ∙ rw add-one) p;
         }
 
-    pub chosen_put_done : length part ≤ at → Put old cur (λ d. mem (base + d) (chosen_items m 0 (records_in as_headed part)))
+    pub chosen_put_done : length rs ≤ row_places → (row_places ≤ i) ⊎ (left ≡ []) → Put old cur (λ d. mem (base + d) (chosen_items m 0 rs))
     unfolding chosen_items
-    chosen_put_done h =
-        let e = headed_end most_items part at w.walk.walk.left w.walk.walk.walk h in
+    chosen_put_done few h =
+        let e : left ≡ [] = sym w.walk ∙ drop_of_length-le rs (numbered_end rs left i w.walk few h) in
         putting_done _ old _ cur w.put (λ d k. ap (λ (l : List Headed). mem (base + d) (chosen_items m i l)) e)
 
 -- what is put where a test passes, or a list is another one

@@ -2,7 +2,6 @@
 ghost use Rattle.std.specs.Prelude.{◌≡◌, true, false, ◌&&◌, ◌+◌, ◌-◌, ◌*◌, ◌<◌, ◌≤◌, length, eqb};
 ghost use Rattle.lists.specs.Lists.{all, mem};
 ghost use Rattle.table.specs.Layout.{most_words};
-ghost use Rattle.table.specs.Spans.{Fits, within};
 ghost use Rattle.table.specs.Part.{records_in};
 ghost use Rattle.sound_parts.specs.Parts.{Holds, as_headed};
 ghost use Rattle.bit_sets.specs.Sets.{has, Put, SetOf, window_words};
@@ -11,8 +10,7 @@ ghost use Rattle.sound_choices.specs.Choices.{is_point, Seen, row_of, FirstsIn, 
 
 use bit_sets::{has, put, put_points};
 use buffers::clear;
-use table::Span;
-use table::lookup::counted;
+use records::Heads;
 use text::hangul::is_syllable;
 
 const WINDOW: u32 = 0x10000;
@@ -20,6 +18,7 @@ const WINDOW: u32 = 0x10000;
 // The windows of all codepoints.
 const WINDOWS: u32 = 17;
 
+// The places of a row; a part has no more records.
 const ROW: u32 = 43712;
 
 // Puts the head h of the record i to those seen, if it is in the window. Chooses the record, if the head was not there before and is no
@@ -55,14 +54,8 @@ fn first_in(part: &[u32], base: u32, seen: &mut [u32], first: &mut [u32])
     ensures { FirstsIn base (records_in as_headed part.now) first.old first.new seen.new }
 {
     clear(seen);
-    // by hand: a record's length is its own, and the place goes on by it
-    let mut at: usize = 0;
-    let mut i: u32 = 0;
-    while at < part.len() {
-        let s = counted(part, at + 1);
-        see(seen, first, base, part[at], i);
-        at = s.to;
-        i += 1;
+    for (i, (head, _)) in (0..ROW).zip(Heads::of(part)) {
+        see(seen, first, base, head, i);
     }
 }
 
@@ -117,27 +110,19 @@ pub fn choose_in(part: &[u32], first: &[u32], set: &[u32], base: u32, rows: &mut
     ensures { Put rows.old rows.new (row_of row (records_in as_headed part.now)
         (λ i. chooses_in base (head_at (records_in as_headed part.now) i) i first.now set.now)) }
 {
-    // by hand: a record's length is its own, and the place goes on by it
-    let mut at: usize = 0;
-    let mut i: u32 = 0;
-    while at < part.len() {
-        let s = counted(part, at + 1);
-        choose(first, set, base, part[at], rows, row, i);
-        at = s.to;
-        i += 1;
+    for (i, (head, _)) in (0..ROW).zip(Heads::of(part)) {
+        choose(first, set, base, head, rows, row, i);
     }
 }
 
-// Puts the items at s into the set that are in the window, if the place e of the rows is chosen.
-fn put_if_chosen(part: &[u32], s: Span, rows: &[u32], e: u32, base: u32, set: &mut [u32])
-    requires fits { Fits part.now s }
+// Puts the items into the set that are in the window, if the place e of the rows is chosen.
+fn put_if_chosen(items: &[u32], rows: &[u32], e: u32, base: u32, set: &mut [u32])
     requires e_in_bounds { e < length rows.now * 32 }
     requires set_len { length set.old ≡ window_words }
-    ensures { Put set.old set.new (λ d. has rows.now e && mem (base + d)
-        (within s part.now)) }
+    ensures { Put set.old set.new (λ d. has rows.now e && mem (base + d) items.now) }
 {
     if has(rows, e) {
-        put_points(set, base, s.of(part));
+        put_points(set, base, items);
     }
 }
 
@@ -151,13 +136,7 @@ pub fn put_chosen(part: &[u32], rows: &[u32], row: u32, base: u32, set: &mut [u3
     ensures { Put set.old set.new
         (λ d. mem (base + d) (chosen_items (λ i. has rows.now (row + i)) 0 (records_in as_headed part.now))) }
 {
-    // by hand: a record's length is its own, and the place goes on by it
-    let mut at: usize = 0;
-    let mut i: u32 = 0;
-    while at < part.len() {
-        let s = counted(part, at + 1);
-        put_if_chosen(part, s, rows, row + i, base, set);
-        at = s.to;
-        i += 1;
+    for (i, (_, items)) in (0..ROW).zip(Heads::of(part)) {
+        put_if_chosen(items, rows, row + i, base, set);
     }
 }

@@ -15,7 +15,7 @@ use Rattle.lists.specs.Lists.{all, is_some}
 use Rattle.table.specs.declared.Span.{Span}
 use Rattle.table.specs.declared.GroupRecord.{GroupRecord}
 use Rattle.table.specs.Table.{Range, ClassRange, Headed, Group}
-use Rattle.table.specs.Layout.{only_if, in_front, count_fits, ranges, class_ranges, sequences, has_list, group, groups, most_class, most_items}
+use Rattle.table.specs.Layout.{only_if, in_front, count_fits, headed, ranges, class_ranges, sequences, has_list, group, groups, most_class, most_items}
 use Rattle.table.specs.Spans.{within, Fits}
 use Rattle.table.specs.Part.{RecordsAt, HeadedAt, GroupsAt, HeadedHere, counted_at, records_in}
 use Rattle.table.specs.GroupPart.{group_at, ListHere, GroupHere}
@@ -135,13 +135,13 @@ module _ {A : Type 0} (f : List Headed → A) (part : List ℕ) (at : ℕ) (w : 
     head_less = rw e (omega arith, head_room)
 
 -- the list of a group, by its place
-listed_records : (part : List ℕ) (r : std.Option Span) (list : Option (List (List ℕ))) → ListHere part r list → Option.get_or list [] ≡ list_records part r
-listed_records part (Some s) list h = rw h.same
-listed_records part None list h = rw h
+listed_records : (part : List ℕ) (b : Bool) (r : std.Option Span) (list : Option (List (List ℕ))) → ListHere part b r list → Option.get_or list [] ≡ list_records part r
+listed_records part b (Some s) list h = rw h.1.same
+listed_records part b None list h = rw h.1
 
-listed_holds : (part : List ℕ) (r : std.Option Span) (list : Option (List (List ℕ))) → ListHere part r list → ListHolds part r
-listed_holds part (Some s) list h = (h.fits, h.holds)
-listed_holds part None list h = tt
+listed_holds : (part : List ℕ) (b : Bool) (r : std.Option Span) (list : Option (List (List ℕ))) → ListHere part b r list → ListHolds part r
+listed_holds part b (Some s) list h = (h.1.fits, h.1.holds)
+listed_holds part b None list h = tt
 
 module _ {A : Type 0} (f : List Group → A) (part : List ℕ) (at : ℕ) (w : Through f groups part at) (h : at < length part) where
   pub group_here_lem : GroupHere part at w.left
@@ -157,15 +157,15 @@ module _ {A : Type 0} (f : List Group → A) (part : List ℕ) (at : ℕ) (w : T
     pub group_is : ranges (within v.pairs part) ≡ some group_here_lem.pairs
     group_is = rw e (group_reads part at w.left group_here_lem)
 
-    pub group-listed : ListHere part v.list group_here_lem.list
+    pub group-listed : ListHere part v.listed v.list group_here_lem.list
     group-listed = rw e group_here_lem.listed
 
     -- the records of its list; without a list there are none
     pub group_items : Option.get_or group_here_lem.list [] ≡ list_records part v.list
-    group_items = listed_records part v.list group_here_lem.list group-listed
+    group_items = listed_records part v.listed v.list group_here_lem.list group-listed
 
     pub group-holds : ListHolds part v.list
-    group-holds = listed_holds part v.list group_here_lem.list group-listed
+    group-holds = listed_holds part v.listed v.list group_here_lem.list group-listed
 
     pub group-behind : GroupsAt part v.next group_here_lem.rest
     group-behind = rw e group_here_lem.next
@@ -225,10 +225,29 @@ sequences_enough (suc k) (suc m) (n ∷ ws) xs e h =
     let less : length (drop n ws) ≤ m = simp length-drop (omega arith) in
     rw (p.0, sequences_enough k m (drop n ws) q.0 q.1 less) (ap some (sym q.2))
 
+pub headed_enough : (k m most : ℕ) (ws : List ℕ) (xs : List Headed) → headed k most ws ≡ some xs → length ws ≤ m → headed m most ws ≡ some xs
+unfolding headed
+headed_enough zero zero most [] xs e h = e
+headed_enough zero (suc m) most [] xs e h = e
+headed_enough zero m most (w ∷ ws) xs e h = absurd (let z : ◌≡◌ {A = ℕ} 0 1 = cc in omega arith)
+headed_enough (suc k) zero most [] xs e h = e
+headed_enough (suc k) (suc m) most [] xs e h = e
+headed_enough (suc k) zero most (a ∷ ws) xs e h = absurd (omega arith)
+headed_enough (suc k) (suc m) most (a ∷ []) xs e h = e
+headed_enough (suc k) (suc m) most (a ∷ n ∷ ws) xs e h =
+    let r : Headed = record { head = a; items = take n ws } in
+    let p = only_if-some (count_fits most n ws) (in_front r (headed k most (drop n ws))) xs e in
+    let q = in_front-some r (headed k most (drop n ws)) xs p.1 in
+    let less : length (drop n ws) ≤ m = simp length-drop (omega arith) in
+    rw (p.0, headed_enough k m most (drop n ws) q.0 q.1 less) (ap some (sym q.2))
+
 -- what is left of a section from `at` on, as a part of its own
 module _ (part : List ℕ) (at : ℕ) where
   pub sequences-behind : (xs : List (List ℕ)) → RecordsAt sequences part at xs → sequences (length (drop at part)) (drop at part) ≡ some xs
   sequences-behind xs w = sequences_enough w.steps (length (drop at part)) (drop at part) xs w.parses (omega arith)
+
+  pub headed-behind : (xs : List Headed) → RecordsAt as_headed part at xs → as_headed (length (drop at part)) (drop at part) ≡ some xs
+  headed-behind xs w = headed_enough w.steps (length (drop at part)) most_items (drop at part) xs w.parses (omega arith)
 
 -- the part from a place to the end
 pub tail_is : (ws : List ℕ) (n : ℕ) → take (length ws - n) (drop n ws) ≡ drop n ws

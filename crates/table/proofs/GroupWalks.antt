@@ -63,7 +63,7 @@ module _ (part : List ℕ) (n at : ℕ) (Q : List Group → Type 0) (w : GroupWa
       pairs_hold c = rw e (group-holds part at w.left group_here_lem c)
 
       -- its list
-      pub list_here : ListHere part v.list group_here.sequences
+      pub list_here : ListHere part v.listed v.list group_here.sequences
       list_here = rw e group_here_lem.listed
 
       -- the walk goes on behind it

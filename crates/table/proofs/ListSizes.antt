@@ -166,7 +166,7 @@ module _ (ws : List ℕ) where
 -- the record of a group, by what was found of it
 pub group_is : (part : List ℕ) (at : ℕ) (pairs : Span) (list : std.Option Span) (next : ℕ) → pairs ≡ counted_at part (at + 1)
     → list ≡ list_at part pairs.to (has_list (get_or part at 0)) → MatchOption list (next ≡ pairs.to) (λ s. next ≡ s.to)
-    → record { restricted = is_restricted (get_or part at 0); whitelisted = is_whitelisted (get_or part at 0); pairs = pairs; list = list; next = next } ≡ group_at part at
+    → record { restricted = is_restricted (get_or part at 0); whitelisted = is_whitelisted (get_or part at 0); pairs = pairs; listed = has_list (get_or part at 0); list = list; next = next } ≡ group_at part at
 group_is part at pairs list next p l n =
     let m : MatchOption (list_at part pairs.to (has_list (get_or part at 0))) (next ≡ pairs.to) (λ s. next ≡ s.to) = rw l at n in
     let e = next_is part pairs.to (has_list (get_or part at 0)) next m in

@@ -238,7 +238,7 @@ list_read part at q e = go (leb (at + 1) (length part)) refl
 
 -- what follows the pairs of a group
 record EndHere (part : List ℕ) (at : ℕ) (b : Bool) (e : GroupEnd) : Type 0 where
-  listed : ListHere part (list_at part at b) e.sequences
+  listed : ListHere part b (list_at part at b) e.sequences
   inside : at + end_size b (drop at part) ≤ length part
   rest : drop (at + end_size b (drop at part)) part ≡ e.rest
 
@@ -247,14 +247,14 @@ unfolding group_end sequences records_in list_length list_size
 end_here part at false e i h =
     let same : e ≡ record { sequences = none; rest = drop at part } = cc in
     let a : at + 0 ≡ at = omega arith in
-    rw same (record { listed = refl; inside = omega arith; rest = rw a })
+    rw same (record { listed = (refl, refl); inside = omega arith; rest = rw a })
 end_here part at true e i h =
     let m = map-some with_list (list_part (drop at part)) e h in
     let r = list_read part at m.0 m.1 in
     let ws : List ℕ = drop at part in
     let n : list_size ws ≡ length ws - length m.0.rest = ap (λ (o : Option Sequences). size_in ws o) m.1 in
     let l : list_length ws ≡ Some (list_size ws) = ap (λ (o : Option Sequences). length_in ws o) m.1 ∙ ap Some (sym n) in
-    rw m.2 (record { listed = rw l (record { fits = r.fits; holds = rw r.reads; same = rw r.reads }); inside = r.fits.inside; rest = r.rest })
+    rw m.2 (record { listed = rw l (refl, record { fits = r.fits; holds = rw r.reads; same = rw r.reads }); inside = r.fits.inside; rest = r.rest })
 
 -- the words behind a group
 pub end_rest : (b : Bool) (ws : List ℕ) (e : GroupEnd) → group_end b ws ≡ some e → drop (end_size b ws) ws ≡ e.rest

@@ -57,7 +57,7 @@ group_at part at =
     let pairs = counted_at part (at + 1) in
     let list = list_at part pairs.to (has_list flags) in
     let next = pairs.to + end_size (has_list flags) (drop pairs.to part) in
-    record { restricted = is_restricted flags; whitelisted = is_whitelisted flags; pairs = pairs; list = list; next = next }
+    record { restricted = is_restricted flags; whitelisted = is_whitelisted flags; pairs = pairs; listed = has_list flags; list = list; next = next }
 
 -- where the list of a group stands: the words of its place are its records
 pub record ListAt (part : List ℕ) (s : Span) (list : Option (List (List ℕ))) : Type 0 where
@@ -65,9 +65,9 @@ pub record ListAt (part : List ℕ) (s : Span) (list : Option (List (List ℕ)))
   pub holds : is_some (sequences (length (within s part)) (within s part)) ≡ true
   pub same : list ≡ some (records_in sequences (within s part))
 
--- that, or a group has none
-abbrev pub ListHere : List ℕ → std.Option Span → Option (List (List ℕ)) → Type 0
-ListHere part r list = MatchOption r (list ≡ none) (λ s. ListAt part s list)
+-- that, of a group whose flags promise a list; one whose flags don't has none
+abbrev pub ListHere : List ℕ → Bool → std.Option Span → Option (List (List ℕ)) → Type 0
+ListHere part listed r list = MatchOption r ((listed ≡ false) × (list ≡ none)) (λ s. (listed ≡ true) × ListAt part s list)
 
 -- what stands at a place where groups are left: the first of them, and behind it the rest
 pub record GroupHere (part : List ℕ) (at : ℕ) (xs : List Group) : Type 0 where
@@ -78,6 +78,6 @@ pub record GroupHere (part : List ℕ) (at : ℕ) (xs : List Group) : Type 0 whe
   pub flags : flags_fit (get_or part at 0) ≡ true
   pub parses : ranges (take (get_or part (at + 1) 0) (drop (at + 2) part)) ≡ some pairs
   pub fits : at + 2 + get_or part (at + 1) 0 ≤ length part
-  pub listed : ListHere part (group_at part at).list list
+  pub listed : ListHere part (has_list (get_or part at 0)) (group_at part at).list list
   pub ends : (group_at part at).next ≤ length part
   pub next : GroupsAt part (group_at part at).next rest

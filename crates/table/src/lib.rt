@@ -30,13 +30,14 @@ pub struct WholeLists {
     pub confused: Span,
 }
 
-// The record of a group: its flags, where its pairs stand among the words and where the records of its list do, if it has one, and the place
-// behind the record.
+// The record of a group: its flags, where its pairs stand among the words, and the place behind the record. `listed` is whether its flags promise a
+// list; `list` is where the records of that list stand, and `None` also where one is promised and the words behind the pairs are none.
 #[derive(Clone, Copy)]
 pub struct GroupRecord {
     pub restricted: bool,
     pub whitelisted: bool,
     pub pairs: Span,
+    pub listed: bool,
     pub list: Option<Span>,
     pub next: usize,
 }

@@ -181,7 +181,8 @@ pub fn group_at(part: &[u32], at: usize) -> GroupRecord
 {
     let flags = part[at];
     let pairs = counted(part, at + 1);
-    let list = list_at(part, pairs.to, flags / 4 % 2 == 1);
+    let listed = flags / 4 % 2 == 1;
+    let list = list_at(part, pairs.to, listed);
     let next = match list {
         Some(s) => s.to,
         None => pairs.to,
@@ -190,6 +191,7 @@ pub fn group_at(part: &[u32], at: usize) -> GroupRecord
         restricted: flags % 2 == 1,
         whitelisted: flags / 2 % 2 == 1,
         pairs,
+        listed,
         list,
         next,
     }

@@ -10,13 +10,13 @@ pub group_at-group-requires : goal.group_at-group-requires
 group_at-group-requires c = group-room _ _ c.loop-at.at _ c.loop-at.invariant c.loop-at-test.true
 
 pub returns-in_err-list : goal.returns-in_err-list
-returns-in_err-list c = rw c.from_residual.ensures (rw c.in_err-list.was at (to_here _ _ c.loop-at.left c.loop-at.at c.loop-at.invariant c.loop-at-test.true _ c.group_at-group.ensures c.if-left-eq0.true))
+returns-in_err-list c = rw c.from_residual.ensures (rw c.in_err-list.was at (to_here _ _ c.loop-at.left c.loop-at.at c.loop-at.invariant c.loop-at-test.true _ c.group_at-group.ensures c.if-left-eq0.true)).1
 
 pub of-requires : goal.of-requires
-of-requires c = (rw c.in_ok-list.was at (to_here _ _ c.loop-at.left c.loop-at.at c.loop-at.invariant c.loop-at-test.true _ c.group_at-group.ensures c.if-left-eq0.true)).fits
+of-requires c = (rw c.in_ok-list.was at (to_here _ _ c.loop-at.left c.loop-at.at c.loop-at.invariant c.loop-at-test.true _ c.group_at-group.ensures c.if-left-eq0.true)).1.fits
 
 pub returns-then-left-eq0 : goal.returns-then-left-eq0
-returns-then-left-eq0 c = list-told _ _ _ c.of.result c.of.ensures (rw c.in_ok-list.was at (to_here _ _ c.loop-at.left c.loop-at.at c.loop-at.invariant c.loop-at-test.true _ c.group_at-group.ensures c.if-left-eq0.true))
+returns-then-left-eq0 c = list-told _ _ _ c.of.result c.of.ensures (rw c.in_ok-list.was at (to_here _ _ c.loop-at.left c.loop-at.at c.loop-at.invariant c.loop-at-test.true _ c.group_at-group.ensures c.if-left-eq0.true)).1
 
 pub loop-at-smaller : goal.loop-at-smaller
 loop-at-smaller c =

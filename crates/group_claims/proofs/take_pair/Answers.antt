@@ -4,6 +4,11 @@ use mathlib.Core.Path.{refl}
 use Rattle.group_claims.proofs.ClaimLaws.{between, take_past, take_over, take_hit}
 use Rattle.group_claims.proofs.take_pair.Goals as goal
 
+pub count_below-at-requires : goal.count_below-at-requires
+count_below-at-requires c =
+    let p = c.requires in
+    record { xs_value = p.xs_value; xs_len_bound = omega (arith, p.xs_len_bound.0) }
+
 pub returns-then-xs-at : goal.returns-then-xs-at
 returns-then-xs-at c =
     let p = c.requires in

@@ -1,6 +1,7 @@
 -- `lookalike::confusable` meets its contract: the first look shows that the text is not, or the flags that are left say whether some group can spell it
 -- otherwise.
 use mathlib.Core.Path.{refl, sym}
+use Rattle.std.proofs.Common.{rules}
 use Rattle.lookalike.proofs.RespellingLaws.{respelt_seen, respelt_unseen}
 use Rattle.lookalike.proofs.confusable.Goals as goal
 
@@ -16,7 +17,7 @@ returns-then-looks_plain c = record { value = sym (c.looks_plain.ensures c.if-lo
 pub respellings_by-seen-requires : goal.respellings_by-seen-requires
 respellings_by-seen-requires c =
     let p = c.requires in
-    record { laid = p.laid; filter = c.make_filter.ensures; memo = p.memo; flags_value = refl }
+    (search rules, (p.laid, (c.make_filter.ensures, (p.memo, refl))))
 
 pub returns-then-seen : goal.returns-then-seen
 returns-then-seen c =

@@ -10,7 +10,7 @@ use Rattle.lookalike.proofs.RespellingLaws.{holders_told, holding_length}
 use Rattle.lookalike.proofs.keep_holding.Goals as goal
 
 pub returns : goal.returns
-returns c =
+returns g c =
     let t = the_table c.args.words.now in
     let few = (laid_reads _ _ c.requires).few in
     let found = c.flag_holders.new.flags in

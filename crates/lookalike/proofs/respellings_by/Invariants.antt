@@ -5,4 +5,4 @@ use Rattle.lookalike.proofs.RespellingLaws.{Spelt}
 use Rattle.lookalike.proofs.respellings_by.Given as goal
 
 abbrev pub invariant-loop-c : goal.invariant-loop-c
-invariant-loop-c l = Spelt (the_table l.words) l.text l.flags l.seen l.c-index × Memo l.words l.memo
+invariant-loop-c g l = Spelt g.F.Flag.of (the_table l.words) l.text l.flags l.seen l.c-index × Memo l.words l.memo

@@ -6,4 +6,4 @@ use Rattle.lookalike.proofs.rule_out.Goals as goal
 
 pub returns : goal.returns
 returns c =
-    ruled_kept (the_table c.args.words.now) _ (laid_reads _ _ c.requires.laid).few _ c.is_confused-confused.ensures _ _ c.keep_holding.ensures
+    ruled_kept (λ b. b) (the_table c.args.words.now) _ (laid_reads _ _ c.requires.laid).few _ c.is_confused-confused.ensures _ _ c.keep_holding.ensures

@@ -5,4 +5,4 @@ use Rattle.lookalike.proofs.RespellingLaws.{Passed}
 use Rattle.lookalike.proofs.ruled_out.Given as goal
 
 abbrev pub invariant-loop-c : goal.invariant-loop-c
-invariant-loop-c l = Passed (the_table l.words) l.text (may_respell (the_table l.words)) l.flags l.c-index
+invariant-loop-c l = Passed (λ b. b) (the_table l.words) l.text (may_respell (the_table l.words)) l.flags l.c-index

@@ -1,13 +1,13 @@
 -- `slot_change`: a free slot stays, and the name of a filed one is judged.
 use native.Mathlib.Omega.{arith}
 use mathlib.Core.Path.{refl, sym, ◌∙◌}
-use Rattle.moved.proofs.MovedLaws.{free_stays, form_short, filed_change, name_long}
+use Rattle.moved.proofs.MovedLaws.{free_stays, free_verdict, form_short, filed_change, filed_verdict, name_long}
 use Rattle.moved.proofs.slot_change.Goals as goal
 
 pub returns-then-n-eq0 : goal.returns-then-n-eq0
 returns-then-n-eq0 c =
     let p = c.requires in
-    record { result_value = free_stays _ _ c.args.slot.now c.if-n-eq0.true; lasting = record { same = refl; pairs = p.lent.pairs; remembered = p.lent.remembered } }
+    record { verdict = free_verdict _ _ c.args.slot.now c.if-n-eq0.true; result_value = free_stays _ _ c.args.slot.now c.if-n-eq0.true; lasting = record { same = refl; pairs = p.lent.pairs; remembered = p.lent.remembered } }
 
 pub overflow_add-end : goal.overflow_add-end
 overflow_add-end c = omega (arith, form_short c.args.slot.now c.requires.whole)
@@ -32,4 +32,4 @@ shape_of-memo c = c.refile.ensures.lasting.remembered.size ∙ sym c.requires.le
 pub returns : goal.returns
 returns c =
     let r = c.refile.ensures in
-    record { result_value = filed_change _ _ c.args.slot.now c.requires.whole c.if-n-eq0.false _ r.result_value; lasting = r.lasting }
+    record { verdict = filed_verdict _ _ c.args.slot.now c.requires.whole c.if-n-eq0.false _ r.verdict; result_value = filed_change _ _ c.args.slot.now c.requires.whole c.if-n-eq0.false _ r.result_value; lasting = r.lasting }

@@ -1,16 +1,13 @@
--- `rule8::records_pass` meets its contract, by the laws of a walk over records.
-use Prim.Native.Nat.{◌-◌}
-use lib.ListN.{length}
+-- `rule8::records_pass` meets its contract: what is left to be asked says whether all pass.
+use mathlib.Core.Path.{◌≡◌}
 use Rattle.lists.specs.Lists.{all}
 use Rattle.table.specs.Layout.{the_table}
-use Rattle.sound_parts.specs.Parts.{as_headed}
 use Rattle.unpaired.specs.Unpaired.{Unpaired}
+use Rattle.records.specs.Left.{heads_left}
 use Rattle.passing_records.specs.Records.{record_passes_in}
-use Rattle.sound_parts.proofs.Walks.{Through}
 use Rattle.passing_records.proofs.records_pass.Given as goal
 
-abbrev pub invariant-loop-i : goal.invariant-loop-i
-invariant-loop-i l = Through (all (record_passes_in (the_table l.words))) as_headed l.part l.i × Unpaired (the_table l.words) l.unpaired
-
-abbrev pub decreases-loop-i : goal.decreases-loop-i
-decreases-loop-i l = length l.part - l.i
+abbrev pub invariant-loop-head : goal.invariant-loop-head
+invariant-loop-head l =
+    (all (record_passes_in (the_table l.words)) (heads_left l.part) ≡ all (record_passes_in (the_table l.words)) (heads_left l.head-iterator.part.now))
+    × Unpaired (the_table l.words) l.unpaired

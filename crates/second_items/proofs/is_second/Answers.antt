@@ -1,4 +1,4 @@
--- `rule8::is_second` meets its contract.
+-- `second_items::is_second` meets its contract.
 use Rattle.std.proofs.Common.{rules, tests}
 use mathlib.Core.Path.{refl, sym, ◌∙◌}
 use Rattle.table.specs.Layout.{the_table}
@@ -20,12 +20,12 @@ pub returns-then-not-in_quick_check : goal.returns-then-not-in_quick_check
 returns-then-not-in_quick_check c =
     outside-second _ _ (sym c.is_vowel.ensures ∙ c.if-is_vowel.false) (sym c.is_trailing.ensures ∙ c.if-is_trailing.false) (c.requires.seconds_held c.if-held.true) (sym c.in_quick_check.ensures ∙ not-true _ c.if-not-in_quick_check.true-raw)
 
-pub of-requires : goal.of-requires
-of-requires c = (laid-fits _ _ c.requires.laid).decompositions
+pub of-part-requires : goal.of-part-requires
+of-part-requires c = (laid-fits _ _ c.requires.laid).decompositions
 
 pub returns : goal.returns
 returns c =
     let t = the_table c.args.words.now in
-    let left = (rw (c.of.ensures) at c.of-2.ensures.left) ∙ decompositions_left _ _ c.requires.laid in
+    let left = rw c.of-part.ensures at c.of.ensures.left ∙ decompositions_left _ _ c.requires.laid in
     walk_second _ _ (sym c.is_vowel.ensures ∙ c.if-is_vowel.false) (sym c.is_trailing.ensures ∙ c.if-is_trailing.false) _ t.decompositions refl
-    (any_head (second_is_in t c.args.x) c.of-2.result _ c.any.new.self _ left c.any.ensures.ran (λ x b q k. search (rules, tests)))
+    (any_head (second_is_in t c.args.x) c.of.result _ c.any.new.self _ left c.any.ensures.ran (λ x b q k. search (rules, tests)))

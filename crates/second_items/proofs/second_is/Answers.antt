@@ -1,4 +1,4 @@
--- `rule8::second_is` meets its contract.
+-- `second_items::second_is` meets its contract.
 use Rattle.second_items.proofs.ItemLaws.{second_short, second_other, second-same}
 use Rattle.second_items.proofs.second_is.Goals as goal
 

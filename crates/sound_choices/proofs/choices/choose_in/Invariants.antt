@@ -1,15 +1,15 @@
 -- `sound_choices::choices::choose_in` meets its contract, by the laws of a walk over records.
-use Prim.Native.Nat.{◌-◌}
-use lib.ListN.{length}
+use mathlib.Core.Path.{◌≡◌}
 use Rattle.table.specs.Part.{records_in}
 use Rattle.sound_parts.specs.Parts.{as_headed}
-use Rattle.sound_choices.specs.Rounds.{head_at}
+use Rattle.records.specs.Left.{heads_left}
+use Rattle.sound_choices.specs.Rounds.{head_at, row_places}
 use Rattle.sound_choices.specs.Choices.{chooses_in}
 use Rattle.sound_choices.proofs.ChoiceLaws.{ChoiceWalk}
 use Rattle.sound_choices.proofs.choices.choose_in.Given as goal
 
-abbrev pub invariant-loop-at : goal.invariant-loop-at
-invariant-loop-at l = ChoiceWalk l.part l.row (λ j. chooses_in l.base (head_at (records_in as_headed l.part) j) j l.first l.set) l.initial.rows l.rows l.at l.i
-
-abbrev pub decreases-loop-at : goal.decreases-loop-at
-decreases-loop-at l = length l.part - l.at
+abbrev pub invariant-loop-i : goal.invariant-loop-i
+invariant-loop-i l =
+    let rs = records_in as_headed l.part in
+    ChoiceWalk rs l.row (λ j. chooses_in l.base (head_at rs j) j l.first l.set) l.initial.rows l.rows (heads_left l.i-iterator.b.part.now) l.i-iterator.a.start
+    × (l.i-iterator.a.end ≡ row_places)

@@ -8,7 +8,7 @@ returns-then-has c =
     let has' = c.has in
     let if1' = c.if-has in
     let put-points' = c.put_points in
-    put_if _ _ _ _ (sym has'.ensures ∙ if1'.true) (rw c.of.ensures at put-points'.ensures)
+    put_if _ _ _ _ (sym has'.ensures ∙ if1'.true) put-points'.ensures
 
 pub returns-else-has : goal.returns-else-has
 returns-else-has c =

@@ -1,7 +1,7 @@
--- `rule8::second_held` meets its contract.
+-- `second_items::holds_second` meets its contract.
 use mathlib.Core.Path.{sym, ◌∙◌}
 use Rattle.second_items.proofs.ItemLaws.{held_short, held_in, held_out}
-use Rattle.second_items.proofs.second_held.Goals as goal
+use Rattle.second_items.proofs.holds_second.Goals as goal
 
 pub returns-then-items-lt2 : goal.returns-then-items-lt2
 returns-then-items-lt2 c = held_short _ _ _ c.if-items-lt2.true
